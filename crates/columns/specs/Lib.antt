@@ -1,0 +1,5 @@
+pub mod Sum
+pub mod Table
+pub mod Number
+pub mod Buffer
+pub mod Test

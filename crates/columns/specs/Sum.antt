@@ -1,0 +1,23 @@
+-- Sums, counts and maxima over positions: f 0, f 1, .., f (n - 1), taken from the front, as a loop does.
+-- Assumes nothing.
+use Prim.Native.Nat.{ℕ, zero, suc, _+_, max}
+use mathlib.Core.Bool.{Bool, true, false}
+
+-- a test as a number: 1 where it passes
+abbrev pub bit : Bool → ℕ
+bit true = 1
+bit false = 0
+
+-- the sum of f below n
+unfoldable pub sumTo : ℕ → (ℕ → ℕ) → ℕ
+sumTo zero f = 0
+sumTo (suc n) f = sumTo n f + f n
+
+-- how many positions below n pass the test
+unfoldable pub countTo : ℕ → (ℕ → Bool) → ℕ
+countTo n p = sumTo n (λ k. bit (p k))
+
+-- the largest value of f below n, and 0 if there is none
+unfoldable pub maxTo : ℕ → (ℕ → ℕ) → ℕ
+maxTo zero f = 0
+maxTo (suc n) f = max (maxTo n f) (f n)
