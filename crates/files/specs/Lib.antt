@@ -1,0 +1,4 @@
+pub mod Layout
+pub mod Range
+pub mod Fault
+pub mod Counting

@@ -1,0 +1,43 @@
+-- Which bytes count for a row, and the rows that count (01, The files).
+-- Assumes nothing.
+use Prim.Native.Nat.{ℕ}
+use mathlib.Core.Bool.{cond}
+use mathlib.Core.List.{List, []}
+use lib.Dec.{ltb, eqb}
+use lib.ListN.{take, drop}
+use Rattle.columns.specs.Table.{table}
+use Rattle.files.specs.Layout.{rowStart, correctionStart, rowAt, rowCount, correctionCount}
+use Rattle.files.specs.Fault.{findId, fileFault}
+use Rattle.files.specs.declared.Row.{Row}
+
+-- the 21 bytes of a row from position k on
+abbrev pub part : List ℕ → ℕ → List ℕ
+part s k = take 21 (drop k s)
+
+-- where the correction names an id, counted from 0; its count of rows where it does not
+abbrev pub inCorrection : List ℕ → ℕ → ℕ
+inCorrection k id = findId k (correctionStart 0) (correctionCount k) id
+
+abbrev pub inInterval : List ℕ → ℕ → ℕ
+inInterval s id = findId s (rowStart 0) (rowCount s) id
+
+-- the bytes of an id's row: out of the correction where it names the row, else out of the interval, else none
+unfoldable pub named : List ℕ → List ℕ → ℕ → List ℕ
+named s k id =
+    cond (ltb (inCorrection k id) (correctionCount k)) (part k (correctionStart (inCorrection k id)))
+    (cond (ltb (inInterval s id) (rowCount s)) (part s (rowStart (inInterval s id))) [])
+
+-- the bytes that count for an id; none where checks 1 to 10 refuse the pair of files
+unfoldable pub countingBytes : List ℕ → List ℕ → ℕ → List ℕ
+countingBytes s k id = cond (eqb (fileFault s k .number) 0) (named s k id) []
+
+-- row i of an accepted pair, with the correction's row in its place where there is one
+unfoldable pub countingRow : List ℕ → List ℕ → ℕ → Row
+countingRow s k i =
+    let own = rowAt s (rowStart i) in
+    let j = inCorrection k (own .id) in
+    cond (ltb j (correctionCount k)) (rowAt k (correctionStart j)) own
+
+-- all rows that count, in file order
+unfoldable pub rowsOf : List ℕ → List ℕ → List Row
+rowsOf s k = table (rowCount s) (countingRow s k)
