@@ -1,3 +1,5 @@
 pub mod Product
 pub mod Sum
 pub mod Table
+pub mod Number
+pub mod Buffer
