@@ -3,3 +3,4 @@ pub mod Sum
 pub mod Table
 pub mod Number
 pub mod Buffer
+pub mod Reading
