@@ -1,3 +1,6 @@
 pub mod Product
 pub mod Sum
 pub mod Table
+pub mod Number
+pub mod Buffer
+pub mod Reading

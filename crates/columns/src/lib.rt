@@ -1,1 +1,39 @@
 // What several crates need to say about lists and numbers: definitions in specs/, laws in proofs/.
+ghost use mathlib.Core.Path.{_≡_};
+ghost use Prim.Native.Nat.{_+_, _≤_, _<_, _^_};
+ghost use lib.ListN.{length};
+ghost use Rattle.columns.specs.Number.{numberAt};
+ghost use Rattle.columns.specs.Buffer.{put};
+
+// A byte as a number to reckon with.
+pub fn wide(x: u8) -> u64
+    ensures { λ r. ⌜ (r ≡ x) × (r < 256) ⌝ }
+{
+    x as u64
+}
+
+// The number in so many bytes from a position on, lowest byte first; taken from the top byte down.
+pub fn number_at(s: &[u8], at: usize, width: usize) -> u64
+    requires { ⌜ (at + width ≤ length (now s)) × (width ≤ 8) ⌝ }
+    ensures { λ r. ⌜ (r ≡ numberAt width (now (s .entry)) at) × (r < 256 ^ width) ⌝ }
+{
+    let mut v: u64 = 0;
+    let mut i = width;
+    while 0 < i {
+        i -= 1;
+        v = v * 256 + wide(s[at + i]);
+    }
+    v
+}
+
+// Copies src into out from position at on; nothing else of out changes.
+pub fn put_bytes(out: &mut [u8], at: usize, src: &[u8])
+    requires { ⌜ at + length (now src) ≤ length (now out) ⌝ }
+    ensures { λ r. ⌜ now (out .exit) ≡ put (now (out .entry)) at (now (src .entry)) ⌝ }
+{
+    let mut i = 0;
+    while i < src.len() {
+        out[at + i] = src[i];
+        i += 1;
+    }
+}
