@@ -2,7 +2,7 @@
 ghost use mathlib.Core.Path.{_≡_};
 ghost use Prim.Native.Nat.{_+_, _≤_, _<_, _^_};
 ghost use lib.ListN.{length};
-ghost use Rattle.columns.specs.Number.{numberAt};
+ghost use Rattle.columns.specs.Number.{numberAt, numberBytes};
 ghost use Rattle.columns.specs.Buffer.{put};
 
 // A byte as a number to reckon with.
@@ -36,4 +36,36 @@ pub fn put_bytes(out: &mut [u8], at: usize, src: &[u8])
         out[at + i] = src[i];
         i += 1;
     }
+}
+
+// A number in two, four or eight bytes, lowest byte first.
+pub fn two(x: u64) -> [u8; 2]
+    ensures { λ b. ⌜ b ≡ numberBytes 2 x ⌝ }
+{
+    [(x % 256) as u8, (x / 256 % 256) as u8]
+}
+
+pub fn four(x: u64) -> [u8; 4]
+    ensures { λ b. ⌜ b ≡ numberBytes 4 x ⌝ }
+{
+    let low = two(x);
+    let high = two(x / 256 / 256);
+    [low[0], low[1], high[0], high[1]]
+}
+
+pub fn eight(x: u64) -> [u8; 8]
+    ensures { λ b. ⌜ b ≡ numberBytes 8 x ⌝ }
+{
+    let low = four(x);
+    let high = four(x / 256 / 256 / 256 / 256);
+    [
+        low[0],
+        low[1],
+        low[2],
+        low[3],
+        high[0],
+        high[1],
+        high[2],
+        high[3],
+    ]
 }

@@ -26,7 +26,8 @@ use Rattle.pay.specs.Pay.{compensation}
 use Rattle.levy.specs.Weight.{payer, weight, cap}
 use Rattle.levy.specs.Rounds.{closes, closed, next, run, opening, final, openWeights, paid, payments, shortfall, cuts}
 use Rattle.settle.specs.Settlement.{figures}
-use Rattle.settle.specs.Statement.{statementHeadBytes, statementHeadAt, lineBytes, lineAt, statementHead, line, linesBytes, statementBytes}
+use Rattle.statement.specs.Statement.{statementHeadBytes, statementHeadAt, lineBytes, lineAt, linesBytes}
+use Rattle.settle.specs.Statement.{statementHead, line, statementBytes}
 use Rattle.settle.specs.Answer.{statementOf, settleFault, answerOf, bufferAfter}
 use Rattle.settle.specs.Table.{intervalX, settledX, Entry, entry, figuresTable, same, allRight}
 
