@@ -22,6 +22,18 @@ baseline r = half (r .capacity)
 abbrev pub firstTurn : ℕ
 firstTurn = 0
 
+-- what each row is paid, from the calls and the prices of both tiers
+unfoldable pub compensationsOf : ℕ → (ℕ → Row) → List ℕ → List ℕ → ℕ → ℕ → List ℕ
+compensationsOf n row called1 called2 price1 price2 =
+    table n (λ i. compensation (row i) (baseline (row i)) (at called1 i) (at called2 i) price1 price2)
+
+-- what each row weighs, and the most that it pays at a tariff
+unfoldable pub weightsOf : ℕ → (ℕ → Row) → List ℕ
+weightsOf n row = table n (λ i. weight (baseline (row i)) (row i))
+
+unfoldable pub capsOf : ℕ → ℕ → (ℕ → Row) → List ℕ
+capsOf tariff n row = table n (λ i. cap (baseline (row i)) tariff (row i))
+
 -- the figures of a statement: two prices, uncovered need, and a column for each field of a line
 pub record Figures : Type 0 where
   pub price1 : ℕ
@@ -42,9 +54,9 @@ figures h n row =
     let c2 = calls (h .need .0) b firstTurn two in
     let p1 = price (b .bids1) c1 in
     let p2 = price (b .bids2) c2 in
-    let pay = table n (λ i. compensation (row i) (baseline (row i)) (at c1 i) (at c2 i) p1 p2) in
-    let ws = table n (λ i. weight (baseline (row i)) (row i)) in
-    let cs = table n (λ i. cap (baseline (row i)) (h .tariff .0) (row i)) in
+    let pay = compensationsOf n row c1 c2 p1 p2 in
+    let ws = weightsOf n row in
+    let cs = capsOf (h .tariff .0) n row in
     record {
       price1 = p1;
       price2 = p2;
