@@ -4,3 +4,4 @@ pub mod Table
 pub mod Number
 pub mod Buffer
 pub mod Reading
+pub mod Choice
