@@ -5,3 +5,4 @@ pub mod Number
 pub mod Buffer
 pub mod Reading
 pub mod Choice
+pub mod First

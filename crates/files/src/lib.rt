@@ -3,13 +3,13 @@ use units::Hao;
 use units::Kwh;
 use units::Li;
 
-//mod check;
+mod check;
 //mod counting;
 mod range;
 mod read;
 
 //pub use check::check;
-//pub use check::interval_verdict;
+pub use check::interval_verdict;
 //pub use counting::counting;
 //pub use counting::counting_row;
 //pub use counting::sources;
