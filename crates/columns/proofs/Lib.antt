@@ -4,3 +4,5 @@ pub mod Table
 pub mod Number
 pub mod Buffer
 pub mod Reading
+pub mod Choice
+pub mod First
