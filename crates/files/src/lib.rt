@@ -19,6 +19,7 @@ pub use range::row_checks;
 pub use range::row_ok;
 pub use read::correction_head_at;
 pub use read::head_at;
+pub use read::id_at;
 pub use read::row_at;
 
 // An interval's head, without its mark.

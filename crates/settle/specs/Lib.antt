@@ -1,4 +1,5 @@
 pub mod Settlement
 pub mod Statement
 pub mod Answer
+pub mod Asked
 pub mod Table

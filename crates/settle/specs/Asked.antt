@@ -1,0 +1,50 @@
+-- What the engine's parts ask of their callers. Assumes nothing.
+use Prim.Native.Nat.{ℕ, _≤_, _<_}
+use mathlib.Core.Path.{_≡_}
+use mathlib.Core.List.{List}
+use lib.ListN.{length}
+use Rattle.files.specs.Layout.{rowAt, rowStart}
+use Rattle.statement.specs.Statement.{lineStart}
+use Rattle.settle.specs.Settlement.{Columns}
+
+-- the columns that eight slices hold
+abbrev pub columns : List ℕ → List ℕ → List ℕ → List ℕ → List ℕ → List ℕ → List ℕ → List ℕ → Columns
+columns called1 called2 compensations cuts weights caps paid closing =
+    record {
+      called1 = called1;
+      called2 = called2;
+      compensations = compensations;
+      cuts = cuts;
+      weights = weights;
+      caps = caps;
+      paid = paid;
+      closing = closing;
+    }
+
+-- the id that stands at a position of the interval file
+abbrev pub idAt : List ℕ → ℕ → ℕ
+idAt s i = rowAt s (rowStart i) .id
+
+-- asked by the maker of a line: the position is within each column
+pub record Within (i : ℕ) (c : Columns) : Type 0 where
+  pub called1 : i < length (c .called1)
+  pub called2 : i < length (c .called2)
+  pub compensations : i < length (c .compensations)
+  pub cuts : i < length (c .cuts)
+  pub weights : i < length (c .weights)
+  pub caps : i < length (c .caps)
+  pub paid : i < length (c .paid)
+  pub closing : i < length (c .closing)
+
+-- asked by the writer of lines: columns of one length of at most 256, a row in the interval for each position, room for a line each
+pub record Lines (bytes : ℕ) (c : Columns) (room : ℕ) : Type 0 where
+  pub few : length (c .called1) ≤ 256
+  pub called2 : length (c .called2) ≡ length (c .called1)
+  pub compensations : length (c .compensations) ≡ length (c .called1)
+  pub cuts : length (c .cuts) ≡ length (c .called1)
+  pub weights : length (c .weights) ≡ length (c .called1)
+  pub caps : length (c .caps) ≡ length (c .called1)
+  pub paid : length (c .paid) ≡ length (c .called1)
+  pub closing : length (c .closing) ≡ length (c .called1)
+  pub covered : rowStart (length (c .called1)) ≤ bytes
+  pub roomy : lineStart (length (c .called1)) ≤ room
