@@ -2,3 +2,4 @@ pub mod Figures
 pub mod Order
 pub mod Rests
 pub mod Laws
+pub mod Process
