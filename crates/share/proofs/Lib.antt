@@ -3,3 +3,4 @@ pub mod Order
 pub mod Rests
 pub mod Laws
 pub mod Process
+pub mod Steps

@@ -1,2 +1,4 @@
 pub mod Share
 pub mod Process
+pub mod Split
+pub mod Steps
