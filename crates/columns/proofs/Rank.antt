@@ -46,17 +46,18 @@ count-one (suc n) p h = rw (← add-one n) (rw count-next (⊎-elim here (there 
     here e =
         omega
         (arith, ap bit e, count-none n p (λ k l. ⊎-elim (λ (f : p k ≡ true). absurd (omega (arith, h k n (omega arith) (omega arith) f e))) (λ f. f) (test-or (p k))))
+
     there : countTo n p ≤ 1 → p n ≡ false → countTo n p + bit (p n) ≤ 1
     there less e = omega (arith, ap bit e)
 
 pub some-or-none : (n : ℕ) (p : ℕ → Bool) → ((i : ℕ) × (i < n) × (p i ≡ true)) ⊎ Below n (λ i. p i ≡ false)
 some-or-none zero p = inr (λ i l. absurd (omega arith))
 some-or-none (suc n) p =
-    ⊎-elim (λ (e : p n ≡ true). inl (n , omega arith , e))
+    ⊎-elim (λ (e : p n ≡ true). inl (n, omega arith, e))
     (λ (e : p n ≡ false). ⊎-elim
-      (λ (w : (i : ℕ) × (i < n) × (p i ≡ true)). inl (w .0 , omega arith , w .2))
-      (λ (h : Below n (λ i. p i ≡ false)). inr (λ i l. ⊎-elim (λ (k : i < n). h i k) (λ (k : n ≤ i). let s : i ≡ n = omega arith in rw s e) (lt-or-le i n)))
-      (some-or-none n p))
+    (λ (w : (i : ℕ) × (i < n) × (p i ≡ true)). inl (w .0, omega arith, w .2))
+    (λ (h : Below n (λ i. p i ≡ false)). inr (λ i l. ⊎-elim (λ (k : i < n). h i k) (λ (k : n ≤ i). let s : i ≡ n = omega arith in rw s e) (lt-or-le i n)))
+    (some-or-none n p))
     (test-or (p n))
 
 find-none : (n : ℕ) (p : ℕ → Bool) → Below n (λ i. p i ≡ false) → findTo n p ≡ n
@@ -74,9 +75,9 @@ find-is (suc n) p i l e h =
     ⊎-elim
     (λ (k : i < n). let f : findTo n p ≡ i = find-is n p i k e h in rw (lt-ltb (findTo n p) n (omega arith)) f)
     (λ (k : n ≤ i). let s : i ≡ n = omega arith in
-      let f : findTo n p ≡ n = find-none n p (λ j m. h j (omega arith)) in
-      let t : p n ≡ true = rw (← s) e in
-      rw (le-ltb (findTo n p) n (omega arith), t) (sym s))
+    let f : findTo n p ≡ n = find-none n p (λ j m. h j (omega arith)) in
+    let t : p n ≡ true = rw (← s) e in
+    rw (le-ltb (findTo n p) n (omega arith), t) (sym s))
     (lt-or-le i n)
 
 -- how many keys below n are under t
@@ -100,9 +101,9 @@ module _ (n : ℕ) (key : ℕ → ℕ) (apart : Apart n key) where
       ⊎-elim
       (λ (l : k < t). rw (lt-ltb k (suc t) (omega arith), lt-ltb k t l, ne-eqb k t (omega arith)))
       (λ (m : t ≤ k). ⊎-elim
-        (λ (l : t < k). rw (le-ltb k (suc t) (omega arith), le-ltb k t m, ne-eqb k t (omega arith)))
-        (λ (o : k ≤ t). rw (lt-ltb k (suc t) (omega arith), le-ltb k t m, eq-eqb k t (omega arith)))
-        (lt-or-le t k))
+      (λ (l : t < k). rw (le-ltb k (suc t) (omega arith), le-ltb k t m, ne-eqb k t (omega arith)))
+      (λ (o : k ≤ t). rw (lt-ltb k (suc t) (omega arith), le-ltb k t m, eq-eqb k t (omega arith)))
+      (lt-or-le t k))
       (lt-or-le k t)
 
   under-next : (t : ℕ) → under n key (suc t) ≡ under n key t + same t
@@ -130,9 +131,9 @@ module _ (n : ℕ) (key : ℕ → ℕ) (apart : Apart n key) where
   under-all = count-all n (λ j. ltb (key j) (suc (sumTo n key))) (λ j l. lt-ltb (key j) (suc (sumTo n key)) (omega (arith, term-le n key j l)))
 
   climb : (l b : ℕ) → l ≤ under n key b → (t : ℕ) × (under n key t ≡ l)
-  climb l zero h = (0 , omega (arith, under-zero))
+  climb l zero h = (0, omega (arith, under-zero))
   climb l (suc b) h =
-      ⊎-elim (λ (k : under n key b < l). (suc b , omega (arith, under-next b, same-le b)))
+      ⊎-elim (λ (k : under n key b < l). (suc b, omega (arith, under-next b, same-le b)))
       (λ (k : l ≤ under n key b). climb l b k) (lt-or-le (under n key b) l)
 
   pub under-some : (l : ℕ) → l ≤ n → (t : ℕ) × (under n key t ≡ l)
@@ -145,7 +146,7 @@ module _ (n : ℕ) (key : ℕ → ℕ) (apart : Apart n key) where
   under-order i t k =
       ltb-same (under n key (key i)) (under n key t) (key i) t
       (λ (l : under n key (key i) < under n key t).
-        ⊎-elim (λ (m : key i < t). m) (λ (m : t ≤ key i). absurd (omega (arith, under-le t (key i) m))) (lt-or-le (key i) t))
+      ⊎-elim (λ (m : key i < t). m) (λ (m : t ≤ key i). absurd (omega (arith, under-le t (key i) m))) (lt-or-le (key i) t))
       (under-lt i t k)
 
   pub rank-order : (i j : ℕ) → i < n → ltb (under n key (key i)) (under n key (key j)) ≡ ltb (key i) (key j)
@@ -155,7 +156,7 @@ module _ (n : ℕ) (key : ℕ → ℕ) (apart : Apart n key) where
   rank-apart i j k l e =
       ⊎-elim (λ (m : key i < key j). absurd (omega (arith, under-lt i (key j) k m)))
       (λ (m : key j ≤ key i). ⊎-elim (λ (o : key j < key i). absurd (omega (arith, under-lt j (key i) l o)))
-        (λ (o : key i ≤ key j). apart i j k l (omega arith)) (lt-or-le (key j) (key i)))
+      (λ (o : key i ≤ key j). apart i j k l (omega arith)) (lt-or-le (key j) (key i)))
       (lt-or-le (key i) (key j))
 
   pub rank-count : (l : ℕ) → l ≤ n → countTo n (λ i. ltb (under n key (key i)) l) ≡ l
@@ -169,11 +170,15 @@ module _ (n : ℕ) (key : ℕ → ℕ) (apart : Apart n key) where
   pub rank-some : (l : ℕ) → l < n → (i : ℕ) × (i < n) × (under n key (key i) ≡ l)
   rank-some l h =
       ⊎-elim
-      (λ (w : (i : ℕ) × (i < n) × (eqb (under n key (key i)) l ≡ true)). (w .0 , w .1 , eqb-true (under n key (key (w .0))) l (w .2)))
+      (λ (w : (i : ℕ) × (i < n) × (eqb (under n key (key i)) l ≡ true)). (w .0, w .1, eqb-true (under n key (key (w .0))) l (w .2)))
       (λ (none : Below n (λ i. eqb (under n key (key i)) l ≡ false)).
-        absurd (omega (arith, rank-count l (omega arith), rank-count (suc l) (omega arith),
-          count-same n (λ i. ltb (under n key (key i)) (suc l)) (λ i. ltb (under n key (key i)) l)
-          (λ i k. ltb-same (under n key (key i)) (suc l) (under n key (key i)) l
+      absurd (omega (
+        arith,
+        rank-count l (omega arith),
+        rank-count (suc l) (omega arith),
+        count-same n (λ i. ltb (under n key (key i)) (suc l)) (λ i. ltb (under n key (key i)) l)
+            (λ i k. ltb-same (under n key (key i)) (suc l) (under n key (key i)) l
             (λ (m : under n key (key i) < suc l). omega (arith, eqb-false (under n key (key i)) l (none i k)))
-            (λ (m : under n key (key i) < l). omega arith)))))
+            (λ (m : under n key (key i) < l). omega arith)),
+      )))
       (some-or-none n (λ i. eqb (under n key (key i)) l))

@@ -49,7 +49,7 @@ module _ (a : ℕ) (ws : List ℕ) (first : ℕ) where
   share-at-most i c h =
       ⊎-elim (λ (e : whole ws ≡ 0). omega (arith, share-none e i))
       (λ (some : 0 < whole ws).
-        let l : share a ws first i < c + 1 = lt-of-mul-lt-mul-right (whole ws) (omega (arith, over a ws some first i)) in omega arith)
+      let l : share a ws first i < c + 1 = lt-of-mul-lt-mul-right (whole ws) (omega (arith, over a ws some first i)) in omega arith)
       (eq-zero-or-pos (whole ws))
 
   pub share-under : (i c : ℕ) → a * at ws i < c * whole ws → share a ws first i ≤ c
@@ -69,9 +69,9 @@ module _ (a : ℕ) (ws : List ℕ) (first : ℕ) where
   share-is-weight i e =
       ⊎-elim (λ (z : whole ws ≡ 0). omega (arith, share-none z i, weight-le ws i))
       (λ (some : 0 < whole ws).
-        let l : at ws i < share a ws first i + 1 =
-              lt-of-mul-lt-mul-right (whole ws) (omega (arith, short a ws some first i, ap (λ (x : ℕ). x * at ws i) e)) in
-        omega (arith, share-le-weight i (omega arith)))
+      let l : at ws i < share a ws first i + 1 =
+      lt-of-mul-lt-mul-right (whole ws) (omega (arith, short a ws some first i, ap (λ (x : ℕ). x * at ws i) e)) in
+      omega (arith, share-le-weight i (omega arith)))
       (eq-zero-or-pos (whole ws))
 
   pub shares-length : length (shares a ws first) ≡ length ws
@@ -83,7 +83,7 @@ module _ (a : ℕ) (ws : List ℕ) (first : ℕ) where
   shares-at i =
       ⊎-elim (λ (l : i < length ws). table-at 0 (length ws) (share a ws first) i l)
       (λ (l : length ws ≤ i).
-        table-past 0 (length ws) (share a ws first) i l ∙ sym (share-zero i (List·getD-eq-default ws 0 l)))
+      table-past 0 (length ws) (share a ws first) i l ∙ sym (share-zero i (List·getD-eq-default ws 0 l)))
       (lt-or-le i (length ws))
 
   pub shares-none : whole ws ≡ 0 → (i : ℕ) → at (shares a ws first) i ≡ 0

@@ -4,3 +4,4 @@ pub mod Rests
 pub mod Laws
 pub mod Process
 pub mod Steps
+pub mod Handing

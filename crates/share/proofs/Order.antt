@@ -39,9 +39,9 @@ pub turn-apart : (n first : ℕ) → first < n → (i j : ℕ) → i < n → j <
 turn-apart n first h i j k l e =
     ⊎-elim
     (λ (p : i < first). ⊎-elim (λ (q : j < first). omega (arith, turn-early n first i p h, turn-early n first j q h))
-      (λ (q : first ≤ j). omega (arith, turn-early n first i p h, turn-late n first j q l)) (lt-or-le j first))
+    (λ (q : first ≤ j). omega (arith, turn-early n first i p h, turn-late n first j q l)) (lt-or-le j first))
     (λ (p : first ≤ i). ⊎-elim (λ (q : j < first). omega (arith, turn-late n first i p k, turn-early n first j q h))
-      (λ (q : first ≤ j). omega (arith, turn-late n first i p k, turn-late n first j q l)) (lt-or-le j first))
+    (λ (q : first ≤ j). omega (arith, turn-late n first i p k, turn-late n first j q l)) (lt-or-le j first))
     (lt-or-le i first)
 
 -- a larger remainder r has a smaller key, and of equal ones the smaller turn t; W is above every remainder, n above every turn
@@ -60,11 +60,11 @@ standing-test W n r t s u h k l m =
     ⊎-elim
     (λ (p : s < r). rw (lt-ltb s r p, lt-ltb (standing W n r t) (standing W n s u) (standing-lt W n r t s u h l p)))
     (λ (p : r ≤ s). ⊎-elim
-      (λ (q : r < s). let o : standing W n s u < standing W n r t = standing-lt W n s u r t k m q in
-        rw (le-ltb s r p, ne-eqb r s (omega arith), le-ltb (standing W n r t) (standing W n s u) (omega arith)))
-      (λ (q : s ≤ r). let e : r ≡ s = omega arith in rw (le-ltb s r p, eq-eqb r s e, e)
-        (ltb-same t u (standing W n s t) (standing W n s u) (λ (o : t < u). unfold standing in omega arith) (λ (o : standing W n s t < standing W n s u). unfold standing in omega arith)))
-      (lt-or-le r s))
+    (λ (q : r < s). let o : standing W n s u < standing W n r t = standing-lt W n s u r t k m q in
+    rw (le-ltb s r p, ne-eqb r s (omega arith), le-ltb (standing W n r t) (standing W n s u) (omega arith)))
+    (λ (q : s ≤ r). let e : r ≡ s = omega arith in rw (le-ltb s r p, eq-eqb r s e, e)
+    (ltb-same t u (standing W n s t) (standing W n s u) (λ (o : t < u). unfold standing in omega arith) (λ (o : standing W n s t < standing W n s u). unfold standing in omega arith)))
+    (lt-or-le r s))
     (lt-or-le s r)
 
 standing-turn : (W n r t s u : ℕ) → t < n → u < n → standing W n r t ≡ standing W n s u → t ≡ u
@@ -93,7 +93,7 @@ module _ (a : ℕ) (ws : List ℕ) (first : ℕ) (some : 0 < whole ws) (inside :
   key-apart i j k l e =
       turn-apart (length ws) first inside i j k l
       (standing-turn (whole ws) (length ws) (rest a ws i) (turn (length ws) first i) (rest a ws j) (turn (length ws) first j)
-        (turn-lt (length ws) first i (omega arith)) (turn-lt (length ws) first j (omega arith)) e)
+      (turn-lt (length ws) first i (omega arith)) (turn-lt (length ws) first j (omega arith)) e)
 
   pub rank-under : (i : ℕ) → rank a ws first i ≡ under (length ws) (key a ws first) (key a ws first i)
   unfolding rank under

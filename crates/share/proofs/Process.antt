@@ -59,17 +59,18 @@ module _ (a : ℕ) (ws : List ℕ) (first : ℕ) (some : 0 < whole ws) (inside :
       here =
           count-none (length ws) (λ j. not (among served j) && before a ws first j p)
           (λ j m. rw (h j m, before-rank j p m, e) (not-and (ltb (rank a ws first j) k)))
+
       there : Below p (λ j. not (among served j) && eqb (countTo (length ws) (λ i. not (among served i) && before a ws first i j)) 0 ≡ false)
       there j m =
           ⊎-elim (λ (o : rank a ws first j < k). rw (h j (omega arith), lt-ltb (rank a ws first j) k o) refl)
           (λ (o : k ≤ rank a ws first j). ⊎-elim
-            (λ (q : k < rank a ws first j).
-              let w : 0 < countTo (length ws) (λ i. not (among served i) && before a ws first i j) =
-                    count-some (length ws) (λ i. not (among served i) && before a ws first i j) p l
-                    (rw (h p l, le-ltb (rank a ws first p) k (omega arith), before-rank p j l, lt-ltb (rank a ws first p) (rank a ws first j) (omega arith)) refl) in
-              rw (ne-eqb (countTo (length ws) (λ i. not (among served i) && before a ws first i j)) 0 (omega arith)) (and-false (not (among served j))))
-            (λ (q : rank a ws first j ≤ k). absurd (omega (arith, apart j p (omega arith) l (omega arith))))
-            (lt-or-le k (rank a ws first j)))
+          (λ (q : k < rank a ws first j).
+          let w : 0 < countTo (length ws) (λ i. not (among served i) && before a ws first i j) =
+          count-some (length ws) (λ i. not (among served i) && before a ws first i j) p l
+          (rw (h p l, le-ltb (rank a ws first p) k (omega arith), before-rank p j l, lt-ltb (rank a ws first p) (rank a ws first j) (omega arith)) refl) in
+          rw (ne-eqb (countTo (length ws) (λ i. not (among served i) && before a ws first i j)) 0 (omega arith)) (and-false (not (among served j))))
+          (λ (q : rank a ws first j ≤ k). absurd (omega (arith, apart j p (omega arith) l (omega arith))))
+          (lt-or-le k (rank a ws first j)))
           (lt-or-le (rank a ws first j) k)
 
   pub next-inside : (k : ℕ) (served : List ℕ) → Served k served → k < length ws
@@ -77,7 +78,7 @@ module _ (a : ℕ) (ws : List ℕ) (first : ℕ) (some : 0 < whole ws) (inside :
   next-inside k served h l =
       let w = rank-some (length ws) (key a ws first) (key-apart a ws first some inside) k l in
       let e : rank a ws first (w .0) ≡ k = rank-under a ws first some inside (w .0) ∙ w .2 in
-      (w .0 , w .1 , e , next-is k served (w .0) h (w .1) e)
+      (w .0, w .1, e, next-is k served (w .0) h (w .1) e)
 
   -- what everybody has when those of a rank below k were served
   had : ℕ → ℕ → ℕ
@@ -89,8 +90,8 @@ module _ (a : ℕ) (ws : List ℕ) (first : ℕ) (some : 0 < whole ws) (inside :
     other i m ne =
         ltb-same (rank a ws first i) k (rank a ws first i) (suc k) (λ (o : rank a ws first i < k). omega arith)
         (λ (o : rank a ws first i < suc k).
-          ⊎-elim (λ (q : rank a ws first i < k). q) (λ (q : k ≤ rank a ws first i). absurd (ne (apart i p m l (omega arith))))
-          (lt-or-le (rank a ws first i) k))
+        ⊎-elim (λ (q : rank a ws first i < k). q) (λ (q : k ≤ rank a ws first i). absurd (ne (apart i p m l (omega arith))))
+        (lt-or-le (rank a ws first i) k))
 
     served-next : Served (suc k) (p ∷ served)
     unfolding among
@@ -103,15 +104,16 @@ module _ (a : ℕ) (ws : List ℕ) (first : ℕ) (some : 0 < whole ws) (inside :
     had-next xs is =
         table-is 0 (set xs p (at xs p + 1)) (length ws) (had (suc k)) (length-set xs p (at xs p + 1) ∙ long)
         (λ i m. ⊎-elim
-          (λ (t : eqb p i ≡ true). let s : p ≡ i = eqb-true p i t in
-            rw (← s) (getD-set-same xs p (at xs p + 1) 0 (omega (arith, long)) ∙ (omega (arith, stood p l, ap bit (le-ltb (rank a ws first p) k (omega arith)), ap bit (lt-ltb (rank a ws first p) (suc k) (omega arith))))))
-          (λ (t : eqb p i ≡ false).
-            getD-set-other xs p i (at xs p + 1) 0 (λ s. eqb-false p i t (sym s)) ∙ stood i m
-            ∙ ap (λ (b : Bool). quota a ws i + bit b) (other i m (λ s. eqb-false p i t (sym s))))
-          (test-or (eqb p i)))
+        (λ (t : eqb p i ≡ true). let s : p ≡ i = eqb-true p i t in
+        rw (← s) (getD-set-same xs p (at xs p + 1) 0 (omega (arith, long)) ∙ (omega (arith, stood p l, ap bit (le-ltb (rank a ws first p) k (omega arith)), ap bit (lt-ltb (rank a ws first p) (suc k) (omega arith))))))
+        (λ (t : eqb p i ≡ false).
+        getD-set-other xs p i (at xs p + 1) 0 (λ s. eqb-false p i t (sym s)) ∙ stood i m
+        ∙ ap (λ (b : Bool). quota a ws i + bit b) (other i m (λ s. eqb-false p i t (sym s))))
+        (test-or (eqb p i)))
       where
         long : length xs ≡ length ws
         long = rw is (table-length (length ws) (had k))
+
         stood : (i : ℕ) → i < length ws → at xs i ≡ quota a ws i + bit (ltb (rank a ws first i) k)
         stood i m = rw is (table-at 0 (length ws) (had k) i m)
 
@@ -124,7 +126,7 @@ module _ (a : ℕ) (ws : List ℕ) (first : ℕ) (some : 0 < whole ws) (inside :
       let e : m + suc k ≡ suc m + k = omega arith in
       rw (w .3, e)
       (handed k (suc m) (w .0 ∷ served) (set xs (w .0) (at xs (w .0) + 1)) (served-next m served (w .0) h (w .1) (w .2))
-        (had-next m served (w .0) h (w .1) (w .2) xs is) (omega arith))
+      (had-next m served (w .0) h (w .1) (w .2) xs is) (omega arith))
 
   all-handed : handOut a ws first (left a ws) [] (table (length ws) (quota a ws)) ≡ shares a ws first
   unfolding shares had among

@@ -55,12 +55,13 @@ module _ (a : ℕ) (ws : List ℕ) (some : 0 < whole ws) where
   rows : whole ws * sumTo (length ws) (quota a ws) + sumTo (length ws) (rest a ws) ≡ a * whole ws
   unfolding whole
   rows =
-      omega
-      (arith,
+      omega (
+        arith,
         sum-mul (length ws) (whole ws) (quota a ws),
         sum-add (length ws) (λ i. whole ws * quota a ws i) (rest a ws),
         sum-same (length ws) (λ i. whole ws * quota a ws i + rest a ws i) (λ i. a * at ws i) (λ i l. row i),
-        sum-mul (length ws) a (at ws))
+        sum-mul (length ws) a (at ws),
+      )
 
   -- the quotas do not pass the amount
   pub quotas-le : sumTo (length ws) (quota a ws) ≤ a
@@ -83,9 +84,12 @@ module _ (a : ℕ) (ws : List ℕ) (some : 0 < whole ws) where
   unfolding countTo
   left-some =
       le-of-mul-le-mul-left {k = whole ws}
-      (omega
-        (arith, left-rests, sum-mul (length ws) (whole ws) (λ i. bit (ltb 0 (rest a ws i))),
-          sum-le (length ws) (rest a ws) (λ i. whole ws * bit (ltb 0 (rest a ws i))) (λ i l. each i)))
+      (omega (
+        arith,
+        left-rests,
+        sum-mul (length ws) (whole ws) (λ i. bit (ltb 0 (rest a ws i))),
+        sum-le (length ws) (rest a ws) (λ i. whole ws * bit (ltb 0 (rest a ws i))) (λ i l. each i),
+      ))
       some
     where
       each : (i : ℕ) → rest a ws i ≤ whole ws * bit (ltb 0 (rest a ws i))
@@ -96,9 +100,11 @@ module _ (a : ℕ) (ws : List ℕ) (some : 0 < whole ws) where
   pub rest-none : (first i : ℕ) → rest a ws i ≡ 0 → left a ws ≤ rank a ws first i
   unfolding rank before
   rest-none first i e =
-      omega
-      (arith, left-some,
-        count-sub (length ws) (λ j. ltb 0 (rest a ws j)) (λ j. before a ws first j i) (λ j l f. rw (e, f)))
+      omega (
+        arith,
+        left-some,
+        count-sub (length ws) (λ j. ltb 0 (rest a ws j)) (λ j. before a ws first j i) (λ j l f. rw (e, f)),
+      )
 
   pub share-is : (first i : ℕ) → share a ws first i ≡ quota a ws i + bit (ltb (rank a ws first i) (left a ws))
   unfolding share
@@ -114,24 +120,26 @@ module _ (a : ℕ) (ws : List ℕ) (some : 0 < whole ws) where
   over first i =
       rw (share-is first i)
       (⊎-elim (λ (e : ltb (rank a ws first i) (left a ws) ≡ true). rw e (omega (arith, row i, more-rest first i, ap bit e)))
-        (λ (e : ltb (rank a ws first i) (left a ws) ≡ false). rw e (omega (arith, row i)))
-        (test-or (ltb (rank a ws first i) (left a ws))))
+      (λ (e : ltb (rank a ws first i) (left a ws) ≡ false). rw e (omega (arith, row i)))
+      (test-or (ltb (rank a ws first i) (left a ws))))
 
   pub short : (first i : ℕ) → a * at ws i < share a ws first i * whole ws + whole ws
   short first i =
       rw (share-is first i)
       (⊎-elim (λ (e : ltb (rank a ws first i) (left a ws) ≡ true). rw e (omega (arith, row i, rest-lt i)))
-        (λ (e : ltb (rank a ws first i) (left a ws) ≡ false). rw e (omega (arith, row i, rest-lt i)))
-        (test-or (ltb (rank a ws first i) (left a ws))))
+      (λ (e : ltb (rank a ws first i) (left a ws) ≡ false). rw e (omega (arith, row i, rest-lt i)))
+      (test-or (ltb (rank a ws first i) (left a ws))))
 
   pub share-sum : (first : ℕ) → first < length ws → sumTo (length ws) (share a ws first) ≡ a
   unfolding countTo
   share-sum first inside =
-      omega
-      (arith, left-is,
+      omega (
+        arith,
+        left-is,
         sum-same (length ws) (share a ws first) (λ i. quota a ws i + bit (ltb (rank a ws first i) (left a ws))) (λ i l. share-is first i),
         sum-add (length ws) (quota a ws) (λ i. bit (ltb (rank a ws first i) (left a ws))),
         count-same (length ws) (λ i. ltb (rank a ws first i) (left a ws))
-          (λ i. ltb (under (length ws) (key a ws first) (key a ws first i)) (left a ws))
-          (λ i l. ap (λ (x : ℕ). ltb x (left a ws)) (rank-under a ws first some inside i)),
-        rank-count (length ws) (key a ws first) (key-apart a ws first some inside) (left a ws) left-le)
+            (λ i. ltb (under (length ws) (key a ws first) (key a ws first i)) (left a ws))
+            (λ i l. ap (λ (x : ℕ). ltb x (left a ws)) (rank-under a ws first some inside i)),
+        rank-count (length ws) (key a ws first) (key-apart a ws first some inside) (left a ws) left-le,
+      )

@@ -7,15 +7,17 @@ use mathlib.Core.List.{List}
 use native.Mathlib.Nat.{lt-of-mul-lt-mul-left, mul-le-mul, mul-le-mul-left, mul-lt-mul-of-pos-right, div-le-self, div-eq-of-lt, div-div-eq-div-mul, div-one, pow-suc, div-mul-le-self, div-add-mod, mod-lt, mul-add-div, mul-add-mod-self-left, mod-eq-of-lt, le-refl}
 use native.Mathlib.Omega.{arith}
 use lib.Dec.{ltb, eqb}
+use borrow.Author.Tests.{le-ltb}
 use lib.ListN.{length, set, length-set}
 use mir.Val.{boolByte}
 use Rattle.columns.specs.Sum.{bit, sumTo, countTo}
 use Rattle.columns.specs.Table.{at, table, Below}
 use Rattle.columns.proofs.Sum.{sum-next, sum-shorter, count-next}
 use Rattle.columns.proofs.Table.{table-is, fill-next}
+use Rattle.columns.proofs.Fill.{Reached, reached-now, reached-next, reached-all}
 use Rattle.share.specs.Share.{whole, quota, rest, turn}
 use Rattle.share.specs.declared.Division.{Division}
-use Rattle.share.specs.Steps.{Divided, Carries, Digits, Divisible, Quotable, Quoted, goesBefore, ahead, place}
+use Rattle.share.specs.Steps.{Divided, Carries, Digits, Divisible, Quotable, Quoted, Rankable, Sparing, Handable, goesBefore, ahead, place, extra, raised}
 use Rattle.share.proofs.Order.{turn-early, turn-late}
 use Rattle.share.proofs.Rests.{weight-le}
 
@@ -74,14 +76,14 @@ long-holds a w W f c = record { is = rw (div-eq-of-lt f) (omega arith); less = c
 pub long-ready : (a w W k : ℕ) (d : Division) → a < 2 ^ 64 → Divisible w W → 0 < k → Divided (a / 2 ^ k * w) W d
     → Digits (d .quota) (d .rest) (a / 2 ^ (k - 1) % 2) w W
 long-ready a w W k d f c l h =
-    record
-      { less = h .less
-      ; most = c .most
-      ; two = omega arith
-      ; fits =
+    record {
+      less = h .less;
+      most = c .most;
+      two = omega arith;
+      fits =
           within (2 ^ 64) (h .is) (digits a k w l) (mul-le-mul (div-le-self a (2 ^ (k - 1))) (c .most))
-          (mul-lt-mul-of-pos-right f (c .some))
-      }
+          (mul-lt-mul-of-pos-right f (c .some));
+    }
   where
     within : (m : ℕ) → W * d .quota + d .rest ≡ a / 2 ^ k * w → 2 * (a / 2 ^ k * w) + a / 2 ^ (k - 1) % 2 * w ≡ a / 2 ^ (k - 1) * w
         → a / 2 ^ (k - 1) * w ≤ a * W → a * W < m * W → 2 * (W * d .quota + d .rest) + a / 2 ^ (k - 1) % 2 * w < W * m
@@ -133,13 +135,13 @@ filled-none a ws qs rs W c =
 filled-next : (a : ℕ) (ws qs rs : List ℕ) (i q r : ℕ) → Filled a ws qs rs i → i < length ws → q ≡ quota a ws i → r ≡ rest a ws i
     → Filled a ws (set qs i q) (set rs i r) (i + 1)
 filled-next a ws qs rs i q r f l e g =
-    record
-      { within = omega arith
-      ; quotas-room = length-set qs i q ∙ f .quotas-room
-      ; rests-room = length-set rs i r ∙ f .rests-room
-      ; quotas = fill-next 0 qs i q (quota a ws) (omega (arith, f .quotas-room)) e (f .quotas)
-      ; rests = fill-next 0 rs i r (rest a ws) (omega (arith, f .rests-room)) g (f .rests)
-      }
+    record {
+      within = omega arith;
+      quotas-room = length-set qs i q ∙ f .quotas-room;
+      rests-room = length-set rs i r ∙ f .rests-room;
+      quotas = fill-next 0 qs i q (quota a ws) (omega (arith, f .quotas-room)) e (f .quotas);
+      rests = fill-next 0 rs i r (rest a ws) (omega (arith, f .rests-room)) g (f .rests);
+    }
 
 pub filled-plain : (a : ℕ) (ws qs rs qs₀ rs₀ : List ℕ) (i W : ℕ) → Quotable ws qs₀ rs₀ W → Filled a ws qs rs i → i < length ws
     → Filled a ws (set qs i (a * at ws i / W)) (set rs i (a * at ws i % W)) (i + 1)
@@ -154,10 +156,10 @@ filled-wide a ws qs rs qs₀ rs₀ i W d c f l h =
 
 pub filled-all : (a : ℕ) (ws qs rs : List ℕ) (i : ℕ) → Filled a ws qs rs i → length ws ≤ i → Quoted a ws qs rs
 filled-all a ws qs rs i f l =
-    record
-      { quotas = table-is 0 qs (length ws) (quota a ws) (f .quotas-room) (λ k m. f .quotas k (omega arith))
-      ; rests = table-is 0 rs (length ws) (rest a ws) (f .rests-room) (λ k m. f .rests k (omega arith))
-      }
+    record {
+      quotas = table-is 0 qs (length ws) (quota a ws) (f .quotas-room) (λ k m. f .quotas k (omega arith));
+      rests = table-is 0 rs (length ws) (rest a ws) (f .rests-room) (λ k m. f .rests k (omega arith));
+    }
 
 pub plain-fits : (a : ℕ) (ws qs rs : List ℕ) (i W : ℕ) → Quotable ws qs rs W → a * W < 2 ^ 64 → a * at ws i < 2 ^ 64
 plain-fits a ws qs rs i W c f = omega (arith, mul-le-mul-left a (weight-le ws i), ap (λ (x : ℕ). a * x) (c .is))
@@ -201,3 +203,36 @@ pub rank-end : (rs : List ℕ) (first i j t rank : ℕ) → j ≤ length rs → 
     → rank ≡ ahead rs first (at rs i) t j → rank ≡ place rs first i
 unfolding place
 rank-end rs first i j t rank l m e f = let n : j ≡ length rs = omega arith in rw (← e, ← n) f
+
+-- ---- what is left goes out
+
+pub extra-none : (rs : List ℕ) (first left i : ℕ) → Sparing rs first left → at rs i ≡ 0 → 0 ≡ extra rs first left i
+unfolding extra
+extra-none rs first left i h e = sym (ap bit (le-ltb (place rs first i) left (h i e)))
+
+pub extra-byte : (rs : List ℕ) (first left i rank : ℕ) → rank ≡ place rs first i → boolByte (ltb rank left) ≡ extra rs first left i
+unfolding extra
+extra-byte rs first left i rank e = rw e (byte-bit (ltb (place rs first i) left))
+
+module _ (qs rs : List ℕ) (first left : ℕ) (xs : List ℕ) (i : ℕ) where
+  pub raised-ready : Handable qs rs first left → Reached 0 (raised qs rs first left) qs xs i → i < length xs
+      → Rankable rs first i
+  raised-ready h r l =
+      let m : i < length rs = omega (arith, h .room, r .room) in record { short = h .short; inside = h .inside (omega arith); within = m }
+
+  raised-now : (x : ℕ) → Reached 0 (raised qs rs first left) qs xs i → x ≡ extra rs first left i → at xs i + x ≡ raised qs rs first left i
+  unfolding raised
+  raised-now x r e = rw (e, reached-now 0 (raised qs rs first left) qs xs i r)
+
+  pub raised-fits : (x : ℕ) → Handable qs rs first left → Reached 0 (raised qs rs first left) qs xs i → x ≡ extra rs first left i
+      → at xs i + x < 2 ^ 64
+  raised-fits x h r e = omega (arith, raised-now x r e, h .fits i)
+
+  pub raised-next : (x : ℕ) → Reached 0 (raised qs rs first left) qs xs i → i < length xs → x ≡ extra rs first left i
+      → Reached 0 (raised qs rs first left) qs (set xs i (at xs i + x)) (i + 1)
+  raised-next x r l e = reached-next 0 (raised qs rs first left) qs xs i (at xs i + x) r l (raised-now x r e)
+
+  pub raised-all : Handable qs rs first left → Reached 0 (raised qs rs first left) qs xs i → length xs ≤ i
+      → xs ≡ table (length rs) (raised qs rs first left)
+  raised-all h r l =
+      reached-all 0 (raised qs rs first left) qs xs i r l ∙ ap (λ (n : ℕ). table n (raised qs rs first left)) (h .room)

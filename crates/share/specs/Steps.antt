@@ -66,9 +66,24 @@ extra rs first left i = bit (ltb (place rs first i) left)
 unfoldable pub raised : List ℕ → List ℕ → ℕ → ℕ → ℕ → ℕ
 raised qs rs first left i = at qs i + extra rs first left i
 
--- what is left goes out only to remainders above 0, and what anybody has then fits
+-- a position of a column of up to 256, and the position that goes first
+pub record Rankable (rs : List ℕ) (first i : ℕ) : Type 0 where
+  pub short : length rs ≤ 256
+  pub inside : first < length rs
+  pub within : i < length rs
+
+-- what is left goes out to remainders above 0 alone
+abbrev pub Sparing : List ℕ → ℕ → ℕ → Type 0
+Sparing rs first left = (i : ℕ) → at rs i ≡ 0 → left ≤ place rs first i
+
+-- quotas and remainders of one length, over which what is left can go out
 pub record Handable (qs rs : List ℕ) (first left : ℕ) : Type 0 where
+  pub short : length rs ≤ 256
   pub room : length qs ≡ length rs
   pub inside : 0 < length rs → first < length rs
-  pub none : (i : ℕ) → at rs i ≡ 0 → left ≤ place rs first i
+  pub sparing : Sparing rs first left
   pub fits : (i : ℕ) → raised qs rs first left i < 2 ^ 64
+
+-- 0 for every position
+unfoldable pub nothing : ℕ → ℕ
+nothing i = 0

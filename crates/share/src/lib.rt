@@ -7,7 +7,7 @@ ghost use Rattle.columns.specs.Sum.{bit};
 ghost use Rattle.columns.specs.Table.{at, table};
 ghost use Rattle.share.specs.Share.{whole, turn, left, shares};
 ghost use Rattle.share.specs.Split.{Splittable};
-ghost use Rattle.share.specs.Steps.{Divided, Carries, Digits, Divisible, Quotable, Quoted, Handable, goesBefore, place, extra, raised};
+ghost use Rattle.share.specs.Steps.{Divided, Carries, Digits, Divisible, Quotable, Quoted, Rankable, Sparing, Handable, goesBefore, place, extra, raised, nothing};
 
 // A product divided by the sum of the weights: the quota, and the remainder.
 pub struct Division {
@@ -140,7 +140,7 @@ fn goes_before(r: u64, t: usize, s: u64, u: usize) -> bool
 
 // How many positions are served before position i.
 fn rank_of(rests: &[u64], first: usize, i: usize) -> u64
-    requires { ⌜ (length (now rests) ≤ 256) × (first < length (now rests)) × (i < length (now rests)) ⌝ }
+    requires { ⌜ Rankable (now rests) first i ⌝ }
     ensures { λ r. ⌜ r ≡ place (now (rests .entry)) first i ⌝ }
 {
     let n = rests.len();
@@ -153,4 +153,85 @@ fn rank_of(rests: &[u64], first: usize, i: usize) -> u64
         j += 1;
     }
     rank
+}
+
+// What position i gets of the `left` ones: 1 or 0. A position without a remainder is not ranked: all goes to others.
+fn one_more(rests: &[u64], first: usize, left: u64, i: usize) -> u64
+    requires { ⌜ Rankable (now rests) first i × Sparing (now rests) first left ⌝ }
+    ensures { λ r. ⌜ r ≡ extra (now (rests .entry)) first left i ⌝ }
+{
+    if rests[i] == 0 {
+        return 0;
+    }
+    (rank_of(rests, first, i) < left) as u64
+}
+
+// The `left` ones go out, one each, to the first `left` in the order of service.
+fn hand_out(rests: &[u64], first: usize, left: u64, out: &mut [u64])
+    requires { ⌜ Handable (now out) (now rests) first left ⌝ }
+    ensures { λ _. ⌜ now (out .exit) ≡ table (length (now (rests .entry))) (raised (now (out .entry)) (now (rests .entry)) first left) ⌝ }
+{
+    let mut i = 0;
+    while i < out.len() {
+        out[i] += one_more(rests, first, left, i);
+        i += 1;
+    }
+}
+
+// Nobody has a weight: everybody gets 0.
+fn clear(out: &mut [u64])
+    ensures { λ _. ⌜ now (out .exit) ≡ table (length (now (out .entry))) nothing ⌝ }
+{
+    let mut i = 0;
+    while i < out.len() {
+        out[i] = 0;
+        i += 1;
+    }
+}
+
+// Quotas and remainders of every position: by plain products where all of them fit.
+fn quotas_of(amount: u64, weights: &[u64], sum: u64, quotas: &mut [u64], rests: &mut [u64])
+    requires { ⌜ Quotable (now weights) (now quotas) (now rests) sum ⌝ }
+    ensures { λ _. ⌜ Quoted amount (now (weights .entry)) (now (quotas .exit)) (now (rests .exit)) ⌝ }
+{
+    if amount <= 0xffff_ffff_ffff_ffff / sum {
+        quotas_plain(amount, weights, sum, quotas, rests);
+        return;
+    }
+    quotas_wide(amount, weights, sum, quotas, rests);
+}
+
+// The shares where a weight is above 0; `rests` is room for the remainders.
+fn share_out(
+    amount: u64,
+    weights: &[u64],
+    sum: u64,
+    first: usize,
+    out: &mut [u64],
+    rests: &mut [u64],
+)
+    requires { ⌜ Splittable (now weights) (now out) first × Quotable (now weights) (now out) (now rests) sum ⌝ }
+    ensures { λ _. ⌜ now (out .exit) ≡ shares amount (now (weights .entry)) first ⌝ }
+{
+    quotas_of(amount, weights, sum, out, rests);
+    let left = amount - whole_of(out);
+    if left == 0 {
+        return;
+    }
+    hand_out(rests, first, left, out);
+}
+
+// The amount divided over the column of weights, into `out`.
+pub fn split(amount: u64, weights: &[u64], first: usize, out: &mut [u64])
+    requires { ⌜ Splittable (now weights) (now out) first ⌝ }
+    ensures { λ _. ⌜ now (out .exit) ≡ shares amount (now (weights .entry)) first ⌝ }
+{
+    let sum = whole_of(weights);
+    if sum == 0 {
+        clear(out);
+        return;
+    }
+    let n = weights.len();
+    let mut rests = [0u64; 256];
+    share_out(amount, weights, sum, first, out, &mut rests[..n]);
 }

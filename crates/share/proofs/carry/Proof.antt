@@ -3,8 +3,6 @@ use Rattle.share.proofs.Steps.{carry-sum, carry-more, carry-over}
 use borrow.Author.Needs.{needs}
 use Rattle.share.proofs.carry.Statement.{statement}
 use Rattle.share.proofs.carry.Tie as tie
-use Rattle.share.proofs.carry.Reads as reads
-use Rattle.share.proofs.carry.Lts as lts
 
 sub-lacking : tie.Need-sub-lacking
 sub-lacking c = search needs

@@ -3,9 +3,6 @@ use Rattle.share.proofs.Steps.{divided-none, divided-fits, divided-plai
 use borrow.Author.Needs.{needs}
 use Rattle.share.proofs.divide.Statement.{statement}
 use Rattle.share.proofs.divide.Tie as tie
-use Rattle.share.proofs.divide.Reads as reads
-use Rattle.share.proofs.divide.Lts as lts
-use Rattle.share.proofs.divide_long.Reads as divide-long-reads
 
 returns : tie.Need-returns
 returns c = search divided-none

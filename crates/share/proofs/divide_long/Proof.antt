@@ -7,9 +7,6 @@ use Rattle.share.proofs.Steps.{long-holds, long-ready, long-again, long
 use borrow.Author.Needs.{needs}
 use Rattle.share.proofs.divide_long.Statement.{statement}
 use Rattle.share.proofs.divide_long.Tie as tie
-use Rattle.share.proofs.divide_long.Reads as reads
-use Rattle.share.proofs.divide_long.Lts as lts
-use Rattle.share.proofs.next_digit.Reads as next-digit-reads
 
 abbrev Inv-loop : tie.InvT-loop
 Inv-loop amount weight sum d₀ k₀ d k = (k ≤ 64) × Divided (amount / 2 ^ k * weight) sum d

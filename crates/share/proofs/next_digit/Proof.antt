@@ -3,9 +3,6 @@ use Rattle.share.proofs.Steps.{twice-fits, digit-0, digit-1-ready, digi
 use borrow.Author.Needs.{needs}
 use Rattle.share.proofs.next_digit.Statement.{statement}
 use Rattle.share.proofs.next_digit.Tie as tie
-use Rattle.share.proofs.next_digit.Reads as reads
-use Rattle.share.proofs.next_digit.Lts as lts
-use Rattle.share.proofs.carry.Reads as carry-reads
 
 mul-carry : tie.Need-mul-carry
 mul-carry c = record { fits = search twice-fits }

@@ -5,8 +5,6 @@ use Rattle.share.proofs.Steps.{Filled, filled-none, filled-plain, fille
 use borrow.Author.Needs.{needs}
 use Rattle.share.proofs.quotas_plain.Statement.{statement}
 use Rattle.share.proofs.quotas_plain.Tie as tie
-use Rattle.share.proofs.quotas_plain.Reads as reads
-use Rattle.share.proofs.quotas_plain.Lts as lts
 
 abbrev Inv-loop : tie.InvT-loop
 Inv-loop amount weights sum quotas₀ rests₀ i₀ quotas rests i = Filled amount weights quotas rests i

@@ -5,9 +5,6 @@ use Rattle.share.proofs.Steps.{Filled, filled-none, filled-wide, filled
 use borrow.Author.Needs.{needs}
 use Rattle.share.proofs.quotas_wide.Statement.{statement}
 use Rattle.share.proofs.quotas_wide.Tie as tie
-use Rattle.share.proofs.quotas_wide.Reads as reads
-use Rattle.share.proofs.quotas_wide.Lts as lts
-use Rattle.share.proofs.divide.Reads as divide-reads
 
 abbrev Inv-loop : tie.InvT-loop
 Inv-loop amount weights sum quotas₀ rests₀ i₀ quotas rests i = Filled amount weights quotas rests i

@@ -3,16 +3,12 @@ use Prim.Native.Nat.{_≤_, _-_}
 use mathlib.Core.Path.{_≡_}
 use native.Mathlib.Omega.{arith}
 use lib.ListN.{length}
-use Rattle.columns.specs.Table.{at}
+use Rattle.columns.specs.Sum.{sumTo, countTo}
 use Rattle.share.specs.Steps.{ahead}
 use Rattle.share.proofs.Steps.{rank-next, rank-end, byte-le}
 use borrow.Author.Needs.{needs}
 use Rattle.share.proofs.rank_of.Statement.{statement}
 use Rattle.share.proofs.rank_of.Tie as tie
-use Rattle.share.proofs.rank_of.Reads as reads
-use Rattle.share.proofs.rank_of.Lts as lts
-use Rattle.share.proofs.goes_before.Reads as goes-before-reads
-use Rattle.share.proofs.turn_of.Reads as turn-of-reads
 
 abbrev Inv-loop : tie.InvT-loop
 Inv-loop rests first i n mine my-turn rank₀ j₀ rank j = (j ≤ n) × (rank ≡ ahead rests first mine my-turn j) × (rank ≤ j)
@@ -30,7 +26,8 @@ turn-of-requires : tie.Need-turn-of-requires Inv-loop μ-loop
 turn-of-requires c κs = search needs
 
 loop-holds : tie.Need-loop-holds Inv-loop μ-loop
-loop-holds c = ?
+unfolding ahead countTo sumTo
+loop-holds c = search needs
 
 mul-goes-before : tie.Need-mul-goes-before Inv-loop μ-loop
 mul-goes-before c = search needs

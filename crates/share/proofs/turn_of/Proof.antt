@@ -3,8 +3,6 @@ use Rattle.share.proofs.Steps.{turned-early, turned-late}
 use borrow.Author.Needs.{needs}
 use Rattle.share.proofs.turn_of.Statement.{statement}
 use Rattle.share.proofs.turn_of.Tie as tie
-use Rattle.share.proofs.turn_of.Reads as reads
-use Rattle.share.proofs.turn_of.Lts as lts
 
 add-result : tie.Need-add-result
 add-result c = search needs

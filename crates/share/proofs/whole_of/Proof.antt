@@ -11,8 +11,6 @@ use Rattle.share.proofs.Steps.{sum-fits, sum-end}
 use borrow.Author.Needs.{needs}
 use Rattle.share.proofs.whole_of.Statement.{statement}
 use Rattle.share.proofs.whole_of.Tie as tie
-use Rattle.share.proofs.whole_of.Reads as reads
-use Rattle.share.proofs.whole_of.Lts as lts
 
 abbrev Inv-loop : tie.InvT-loop
 Inv-loop column sum₀ i₀ sum i = (i ≤ length column) × (sum ≡ sumTo i (at column))
