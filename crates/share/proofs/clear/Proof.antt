@@ -1,6 +1,5 @@
 -- `share::clear` meets its contract. Assumes nothing.
 use Prim.Native.Nat.{_-_}
-use mathlib.Core.Path.{refl}
 use lib.ListN.{length}
 use Rattle.columns.proofs.Fill.{Reached, reached-none, reached-next, reached-all}
 use Rattle.share.specs.Steps.{nothing}
@@ -31,7 +30,7 @@ loop-less c = search needs
 
 loop-again : tie.Need-loop-again Inv-loop μ-loop
 unfolding nothing
-loop-again c = search (reached-next, refl)
+loop-again c = search reached-next
 
 same-length : tie.Need-same-length Inv-loop μ-loop
 same-length c = search needs

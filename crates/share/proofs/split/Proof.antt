@@ -1,5 +1,4 @@
 -- `share::split` meets its contract. Assumes nothing.
-use mathlib.Core.Path.{refl}
 use Rattle.share.proofs.Handing.{cleared, front, quotable}
 use borrow.Author.Needs.{needs}
 use Rattle.share.proofs.split.Statement.{statement}
@@ -21,10 +20,10 @@ array-borrow-prefix-rests : tie.Need-array-borrow-prefix-rests
 array-borrow-prefix-rests c = search needs
 
 slice-aggregate-share-out : tie.Need-slice-aggregate-share-out
-slice-aggregate-share-out c = search (front, refl)
+slice-aggregate-share-out c = search front
 
 share-out-requires : tie.Need-share-out-requires
-share-out-requires c κs = (search needs, search (quotable, refl))
+share-out-requires c κs = (search needs, search quotable)
 
 same-length-2 : tie.Need-same-length-2
 same-length-2 c = search needs
