@@ -6,3 +6,5 @@ pub mod Buffer
 pub mod Reading
 pub mod Choice
 pub mod First
+pub mod Rank
+pub mod Fill

@@ -1,1 +1,7 @@
 pub mod Figures
+pub mod Order
+pub mod Rests
+pub mod Laws
+pub mod Process
+pub mod Steps
+pub mod Handing

@@ -1,1 +1,4 @@
 pub mod Share
+pub mod Process
+pub mod Split
+pub mod Steps

@@ -1,0 +1,76 @@
+-- `share::quotas_wide` meets its contract: both columns are filled up to i. Assumes nothing.
+use Prim.Native.Nat.{_-_}
+use lib.ListN.{length}
+use Rattle.share.proofs.Steps.{Filled, filled-none, filled-wide, filled-all, divisible}
+use borrow.Author.Needs.{needs}
+use Rattle.share.proofs.quotas_wide.Statement.{statement}
+use Rattle.share.proofs.quotas_wide.Tie as tie
+
+abbrev Inv-loop : tie.InvT-loop
+Inv-loop amount weights sum quotas₀ rests₀ i₀ quotas rests i = Filled amount weights quotas rests i
+
+abbrev μ-loop : tie.MeasureT-loop
+μ-loop amount weights sum quotas₀ rests₀ i₀ quotas rests i = length weights - i
+
+loop-holds : tie.Need-loop-holds Inv-loop μ-loop
+loop-holds c = search filled-none
+
+mul-divide : tie.Need-mul-divide Inv-loop μ-loop
+mul-divide c = search needs
+
+shared-slice-read-divide : tie.Need-shared-slice-read-divide Inv-loop μ-loop
+shared-slice-read-divide c = search needs
+
+divide-requires : tie.Need-divide-requires Inv-loop μ-loop
+divide-requires c κs = search divisible
+
+mul-quotas : tie.Need-mul-quotas Inv-loop μ-loop
+mul-quotas c = search needs
+
+slice-write-quotas : tie.Need-slice-write-quotas Inv-loop μ-loop
+slice-write-quotas c = search needs
+
+mul-rests : tie.Need-mul-rests Inv-loop μ-loop
+mul-rests c = search needs
+
+slice-write-rests : tie.Need-slice-write-rests Inv-loop μ-loop
+slice-write-rests c = search needs
+
+add-i : tie.Need-add-i Inv-loop μ-loop
+add-i c = search needs
+
+loop-less : tie.Need-loop-less Inv-loop μ-loop
+loop-less c = search needs
+
+loop-again : tie.Need-loop-again Inv-loop μ-loop
+loop-again c = search filled-wide
+
+same-length : tie.Need-same-length Inv-loop μ-loop
+same-length c = search needs
+
+same-length-2 : tie.Need-same-length-2 Inv-loop μ-loop
+same-length-2 c = search needs
+
+returns : tie.Need-returns Inv-loop μ-loop
+returns c = search filled-all
+
+pub quotas-wide-spec : {M : Type 1} → statement M
+quotas-wide-spec =
+    tie.close
+    (tie.spec
+    Inv-loop
+    μ-loop
+    loop-holds
+    mul-divide
+    shared-slice-read-divide
+    divide-requires
+    mul-quotas
+    slice-write-quotas
+    mul-rests
+    slice-write-rests
+    add-i
+    loop-less
+    loop-again
+    same-length
+    same-length-2
+    returns)
