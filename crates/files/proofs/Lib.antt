@@ -1,2 +1,4 @@
 pub mod Answer
 pub mod Walked
+pub mod Sound
+pub mod Found
