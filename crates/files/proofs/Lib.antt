@@ -2,3 +2,4 @@ pub mod Answer
 pub mod Walked
 pub mod Sound
 pub mod Found
+pub mod Named
