@@ -4,12 +4,12 @@
 --   bad-start, bad-row, bad-time, good-pair      8 by head and length, 8 by a row, 9, then 10
 --   own-refused, alone, paired      1 to 7 first; then nothing more without a correction, else 8 to 10
 -- Assumes nothing.
-use mathlib.Core.Path.{_≡_, refl, sym, ap, _∙_}
+use mathlib.Core.Path.{_≡_, refl, sym, ap, _∙_, subst}
 use Prim.Native.Nat.{ℕ, zero, suc, _+_, _-_, _*_, _≤_, _<_}
 use mathlib.Core.Bool.{Bool, true, false, not, cond, _&&_}
 use mathlib.Core.List.{List}
 use native.Mathlib.Omega.{arith}
-use lib.Dec.{eqb, leb}
+use lib.Dec.{T, eqb, leb}
 use lib.ListN.{length}
 use borrow.Author.Tests.{not-true, not-false, eq-eqb, ne-eqb, leb-true, eqb-true, lt-ltb, le-ltb, le-leb, lt-leb}
 use Rattle.files.specs.Layout.{marked, letterK, rowAt, rowStart, correctionStart, headAt, correctionHeadAt, rowCount, correctionCount}
@@ -91,3 +91,92 @@ no-match s n i r l = rw (le-ltb i n l)
 
 pub match-told : (s : List ℕ) (n i : ℕ) (r q : Row) (t : Bool) → i < n → q ≡ rowAt s (rowStart i) → t ≡ sameTerms q r → t ≡ matches s n i r
 match-told s n i r q t l e h = rw (lt-ltb i n l, ← e) h
+
+pub starts-long : (k : List ℕ) → correctionStarts k ≡ true → length k ≡ correctionStart (correctionCount k)
+unfolding correctionStarts
+starts-long k e = eqb-true _ _ (last (leb 9 (length k) && marked k 0 letterK && correctionHeadOk (correctionHeadAt k)) _ e) where
+  last : (a b : Bool) → a && b ≡ true → b ≡ true
+  last true b e = e
+  last false b e = absurd (subst T (sym e) tt)
+
+pub correction-there : (k : List ℕ) (b : Bool) → b ≡ correctionStarts k → not b ≡ false → 9 ≤ length k
+correction-there k b e n = omega (arith, starts-long k (sym e ∙ not-false b n))
+
+pub theirs-there : (k : List ℕ) (b : Bool) (m : ℕ) → b ≡ correctionStarts k → not b ≡ false → m ≡ correctionCount k → 9 + m * 21 ≤ length k
+theirs-there k b m e n h = omega (arith, starts-long k (sym e ∙ not-false b n))
+
+pub theirs-sound : (k : List ℕ) (b : Bool) (m a : ℕ) (v : Verdict) → b ≡ correctionStarts k → not b ≡ false → m ≡ correctionCount k
+    → v ≡ verdict m (rowsFault k 9 m 1 0) → v ≡ Accepted a → Rows k 9 m
+theirs-sound k b m a v e n h p q = rows-sound k 9 m (theirs-there k b m e n h) (accepted-of m a _ (sym p ∙ q) .0)
+
+pub bad-time : (s k : List ℕ) (n m : ℕ) (b : Bool) → b ≡ sameTime s k → not b ≡ true
+    → Refused 9 0 ≡ verdict n (orElse (timeFault s k) (namesFault s k 9 m 1))
+unfolding timeFault orElse
+bad-time s k n m b e h = let f : sameTime s k ≡ false = sym e ∙ not-true b h in rw f
+
+pub good-time : (s k : List ℕ) (n m : ℕ) (b : Bool) (v : Verdict) → b ≡ sameTime s k → not b ≡ false
+    → v ≡ verdict n (namesFault s k 9 m 1) → v ≡ verdict n (orElse (timeFault s k) (namesFault s k 9 m 1))
+unfolding timeFault orElse
+good-time s k n m b v e h p = let f : sameTime s k ≡ true = sym e ∙ not-false b h in rw f p
+
+pub bad-start : (s k : List ℕ) (n : ℕ) (b : Bool) → b ≡ correctionStarts k → not b ≡ true → Refused 8 0 ≡ verdict n (presentFault s k)
+unfolding presentFault correctionFault orElse
+bad-start s k n b e h = let f : correctionStarts k ≡ false = sym e ∙ not-true b h in rw f
+
+pub bad-row : (s k : List ℕ) (n m a p : ℕ) (b : Bool) (v : Verdict) → b ≡ correctionStarts k → not b ≡ false → m ≡ correctionCount k
+    → v ≡ verdict m (rowsFault k 9 m 1 0) → v ≡ Refused a p → Refused 8 p ≡ verdict n (presentFault s k)
+unfolding presentFault correctionFault orElse asEight
+bad-row s k n m a p b v e h i q r =
+    let f : correctionStarts k ≡ true = sym e ∙ not-false b h in
+    let g = refused-of m a p (rowsFault k 9 m 1 0) (sym q ∙ r) in
+    rw (f, ← i, g .0, ne-eqb a 0 (g .1))
+
+pub good-rows : (s k : List ℕ) (n m a : ℕ) (b : Bool) (v w : Verdict) → b ≡ correctionStarts k → not b ≡ false → m ≡ correctionCount k
+    → v ≡ verdict m (rowsFault k 9 m 1 0) → v ≡ Accepted a
+    → w ≡ verdict n (orElse (timeFault s k) (namesFault s k 9 m 1)) → w ≡ verdict n (presentFault s k)
+unfolding presentFault correctionFault asEight
+good-rows s k n m a b v w e h i q r p =
+    let f : correctionStarts k ≡ true = sym e ∙ not-false b h in
+    let g : rowsFault k 9 m 1 0 .number ≡ 0 = accepted-of m a (rowsFault k 9 m 1 0) (sym q ∙ r) .0 in
+    rw (f, ← i, eq-eqb (rowsFault k 9 m 1 0 .number) 0 g, or-next none (orElse (timeFault s k) (namesFault s k 9 m 1)) refl) p
+
+module _ (s : List ℕ) where
+  own-head : intervalFault s .number ≡ 0 → headFault s ≡ 0
+  unfolding intervalFault
+  own-head e = or-none (fault (headFault s) 0) (rowsFault s 15 (rowCount s) 1 0) e .0
+
+  pub own-long : intervalFault s .number ≡ 0 → length s ≡ rowStart (rowCount s)
+  own-long e = head-long s (own-head e)
+
+  pub own-sound : intervalFault s .number ≡ 0 → Rows s 15 (rowCount s)
+  unfolding intervalFault
+  own-sound e =
+      rows-sound s 15 (rowCount s) (omega (arith, own-long e)) (or-none (fault (headFault s) 0) (rowsFault s 15 (rowCount s) 1 0) e .1)
+
+pub own-there : (s : List ℕ) (n : ℕ) (v : Verdict) → v ≡ verdict (rowCount s) (intervalFault s) → v ≡ Accepted n → 15 ≤ length s
+own-there s n v e h = omega (arith, own-long s (accepted-of (rowCount s) n (intervalFault s) (sym e ∙ h) .0))
+
+pub own-count : (s : List ℕ) (n : ℕ) (v : Verdict) → v ≡ verdict (rowCount s) (intervalFault s) → v ≡ Accepted n → n ≡ rowCount s
+own-count s n v e h = sym (accepted-of (rowCount s) n (intervalFault s) (sym e ∙ h) .1)
+
+pub own-rows : (s : List ℕ) (n : ℕ) (v : Verdict) → v ≡ verdict (rowCount s) (intervalFault s) → v ≡ Accepted n → Rows s 15 n
+own-rows s n v e h = rw (own-count s n v e h) (own-sound s (accepted-of (rowCount s) n (intervalFault s) (sym e ∙ h) .0))
+
+pub own-refused : (s k : List ℕ) (a p : ℕ) (v : Verdict) → v ≡ verdict (rowCount s) (intervalFault s) → v ≡ Refused a p → Refused a p ≡ verdictOf s k
+unfolding verdictOf fileFault
+own-refused s k a p v e h =
+    let g = refused-of (rowCount s) a p (intervalFault s) (sym e ∙ h) in
+    rw (or-first (intervalFault s) (pairFault s k) (λ z. g .1 (ap (λ (f : Fault). f .number) (sym (g .0)) ∙ z))) (sym h ∙ e)
+
+pub alone : (s k : List ℕ) (n : ℕ) (v : Verdict) → v ≡ verdict (rowCount s) (intervalFault s) → v ≡ Accepted n → length k ≡ 0 → Accepted n ≡ verdictOf s k
+unfolding verdictOf fileFault pairFault
+alone s k n v e h l =
+    let g = accepted-of (rowCount s) n (intervalFault s) (sym e ∙ h) in
+    rw (or-next (intervalFault s) (cond (eqb (length k) 0) none (presentFault s k)) (g .0), eq-eqb (length k) 0 l, g .1)
+
+pub paired : (s k : List ℕ) (n : ℕ) (v w : Verdict) → v ≡ verdict (rowCount s) (intervalFault s) → v ≡ Accepted n → (length k ≡ 0 → ⊥)
+    → w ≡ verdict n (presentFault s k) → w ≡ verdictOf s k
+unfolding verdictOf fileFault pairFault
+paired s k n v w e h l p =
+    let g = accepted-of (rowCount s) n (intervalFault s) (sym e ∙ h) in
+    rw (or-next (intervalFault s) (cond (eqb (length k) 0) none (presentFault s k)) (g .0), ne-eqb (length k) 0 l, g .1) p
