@@ -1,2 +1,5 @@
 pub mod Answer
 pub mod Walked
+pub mod Sound
+pub mod Found
+pub mod Named

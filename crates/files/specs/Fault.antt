@@ -76,13 +76,14 @@ correctionFault k =
     let rows = asEight (rowsFault k (correctionStart 0) (correctionCount k) 1 0) in
     cond (correctionStarts k) rows (fault 8 0)
 
--- 9: day and quarter are the interval's
+-- a correction's day and quarter are the interval's
+abbrev pub sameTime : List ℕ → List ℕ → Bool
+sameTime s k =
+    eqb (correctionHeadAt k .day) (headAt s .day) && eqb (correctionHeadAt k .quarter) (headAt s .quarter)
+
+-- 9: the times differ
 unfoldable pub timeFault : List ℕ → List ℕ → Fault
-timeFault s k =
-    cond
-    (eqb (correctionHeadAt k .day) (headAt s .day) && eqb (correctionHeadAt k .quarter) (headAt s .quarter))
-    none
-    (fault 9 0)
+timeFault s k = cond (sameTime s k) none (fault 9 0)
 
 -- the position of the first of n rows from byte k on that has this id, and n if none has
 unfoldable pub findId : List ℕ → ℕ → ℕ → ℕ → ℕ
@@ -110,12 +111,15 @@ namesFault s c k (suc left) place =
     let next = namesFault s c (k + 21) left (place + 1) in
     cond (corrects s (rowAt c k)) next (fault 10 place)
 
--- 8, 9, 10: a correction that is present; one of length 0 means that there is none
-unfoldable pub pairFault : List ℕ → List ℕ → Fault
-pairFault s k =
+-- 8, 9, 10: a correction that is present
+unfoldable pub presentFault : List ℕ → List ℕ → Fault
+presentFault s k =
     let names = namesFault s k (correctionStart 0) (correctionCount k) 1 in
-    let all = orElse (correctionFault k) (orElse (timeFault s k) names) in
-    cond (eqb (length k) 0) none all
+    orElse (correctionFault k) (orElse (timeFault s k) names)
+
+-- a correction of length 0 means that there is none
+unfoldable pub pairFault : List ℕ → List ℕ → Fault
+pairFault s k = let all = presentFault s k in cond (eqb (length k) 0) none all
 
 -- 1 to 10: the pair of files
 unfoldable pub fileFault : List ℕ → List ℕ → Fault

@@ -3,16 +3,14 @@ use units::Hao;
 use units::Kwh;
 use units::Li;
 
-mod check;
-//mod counting;
+//mod counts;
 mod range;
 mod read;
+mod refusal;
 
-//pub use check::check;
-pub use check::interval_verdict;
-//pub use counting::counting;
-//pub use counting::counting_row;
-//pub use counting::sources;
+//pub use counts::counting;
+//pub use counts::counting_row;
+//pub use counts::sources;
 pub use range::correction_head_ok;
 pub use range::head_ok;
 pub use range::row_checks;
@@ -21,6 +19,8 @@ pub use read::correction_head_at;
 pub use read::head_at;
 pub use read::id_at;
 pub use read::row_at;
+pub use refusal::check;
+pub use refusal::interval_verdict;
 
 // An interval's head, without its mark.
 pub struct Head {

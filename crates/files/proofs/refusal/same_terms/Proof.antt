@@ -1,0 +1,14 @@
+use mathlib.Core.Path.{refl}
+use Rattle.files.specs.Fault.{sameTerms}
+use Rattle.files.proofs.refusal.same_terms.Statement.{statement}
+use Rattle.files.proofs.refusal.same_terms.Tie as tie
+use Rattle.files.proofs.refusal.same_terms.Reads as reads
+use Rattle.files.proofs.refusal.same_terms.Lts as lts
+
+-- src/refusal.rt:126:1
+returns : tie.Need-returns
+unfolding sameTerms
+returns c = refl
+
+pub same-terms-spec : {M : Type 1} → statement M
+same-terms-spec = tie.close (tie.spec returns)

@@ -1,0 +1,233 @@
+// The refusals 1 to 10 in their order (01, Numbers of refusal).
+use columns::number_at;
+use crate::range::correction_head_ok;
+use crate::range::head_ok;
+use crate::range::row_checks;
+use crate::read::correction_head_at;
+use crate::read::head_at;
+use crate::read::id_at;
+use crate::read::marked;
+use crate::read::row_at;
+use crate::Row;
+use crate::Verdict;
+
+ghost use mathlib.Core.Path.{_≡_};
+ghost use mathlib.Core.Bool.{_&&_};
+ghost use Prim.Native.Nat.{_+_, _*_, _≤_, _<_};
+ghost use lib.Dec.{ltb, eqb};
+ghost use lib.ListN.{length};
+ghost use Rattle.files.specs.Layout.{rowStart, correctionStart, rowAt, headAt, correctionHeadAt, rowCount, correctionCount};
+ghost use Rattle.files.specs.Fault.{headFault, rowFault, rowsFault, intervalFault, correctionStarts, sameTime, timeFault, sameTerms, namesFault, presentFault, orElse, verdict, verdictOf};
+ghost use Rattle.files.specs.Walk.{Rows, Under, Sought};
+
+const HEAD: usize = 15;
+const CORRECTION_HEAD: usize = 9;
+const ROW: usize = 21;
+
+// How many rows an interval file announces.
+pub fn row_count(s: &[u8]) -> usize
+    requires { ⌜ 15 ≤ length (now s) ⌝ }
+    ensures { λ r. ⌜ (r ≡ rowCount (now (s .entry))) × (r < 65536) ⌝ }
+{
+    number_at(s, 13, 2) as usize
+}
+
+// How many rows a correction announces.
+pub fn correction_count(k: &[u8]) -> usize
+    requires { ⌜ 9 ≤ length (now k) ⌝ }
+    ensures { λ r. ⌜ (r ≡ correctionCount (now (k .entry))) × (r < 65536) ⌝ }
+{
+    number_at(k, 7, 2) as usize
+}
+
+// 1 to 4.
+fn head_fault(s: &[u8]) -> usize
+    ensures { λ f. ⌜ f ≡ headFault (now (s .entry)) ⌝ }
+{
+    if s.len() < HEAD {
+        return 1;
+    }
+    if !marked(s, 0, b'H') {
+        return 2;
+    }
+    if !head_ok(head_at(s)) {
+        return 3;
+    }
+    if s.len() != HEAD + row_count(s) * ROW {
+        return 4;
+    }
+    0
+}
+
+// 5, 6, 7 of one row, after a row of id `last`.
+fn row_fault(s: &[u8], at: usize, last: u16) -> usize
+    requires { ⌜ at + 21 ≤ length (now s) ⌝ }
+    ensures { λ f. ⌜ f ≡ rowFault (now (s .entry)) at last ⌝ }
+{
+    if !marked(s, at, b'R') {
+        return 5;
+    }
+    row_checks(row_at(s, at), last)
+}
+
+// 5, 6, 7 row by row, of an interval's rows or of a correction's.
+fn rows_verdict(s: &[u8], start: usize, count: usize) -> Verdict
+    requires { ⌜ start + count * 21 ≤ length (now s) ⌝ }
+    ensures { λ v. ⌜ v ≡ verdict count (rowsFault (now (s .entry)) start count 1 0) ⌝ }
+{
+    let mut last: u16 = 0;
+    let mut i = 0;
+    while i < count {
+        let at = start + i * ROW;
+        let f = row_fault(s, at, last);
+        i += 1;
+        if f != 0 {
+            return Verdict::Refused(f, i);
+        }
+        last = id_at(s, at);
+    }
+    Verdict::Accepted(count)
+}
+
+// 1 to 7: an interval file by itself.
+pub fn interval_verdict(s: &[u8]) -> Verdict
+    ensures { λ v. ⌜ v ≡ verdict (rowCount (now (s .entry))) (intervalFault (now (s .entry))) ⌝ }
+{
+    let f = head_fault(s);
+    if f != 0 {
+        return Verdict::Refused(f, 0);
+    }
+    rows_verdict(s, HEAD, row_count(s))
+}
+
+// A correction's length, mark and ranges.
+fn correction_starts(k: &[u8]) -> bool
+    ensures { λ b. ⌜ b ≡ correctionStarts (now (k .entry)) ⌝ }
+{
+    if k.len() < CORRECTION_HEAD {
+        return false;
+    }
+    marked(k, 0, b'K')
+        & correction_head_ok(correction_head_at(k))
+        & (k.len() == CORRECTION_HEAD + correction_count(k) * ROW)
+}
+
+fn same_time(interval: &[u8], correction: &[u8]) -> bool
+    requires { ⌜ 15 ≤ length (now interval) ⌝ }
+    requires { ⌜ 9 ≤ length (now correction) ⌝ }
+    ensures { λ b. ⌜ b ≡ sameTime (now (interval .entry)) (now (correction .entry)) ⌝ }
+{
+    let h = head_at(interval);
+    let k = correction_head_at(correction);
+    (k.day == h.day) & (k.quarter == h.quarter)
+}
+
+// Two rows differ at most in metered and status.
+fn same_terms(a: Row, b: Row) -> bool
+    ensures { λ t. ⌜ t ≡ sameTerms a b ⌝ }
+{
+    (a.id == b.id)
+        & (a.kind == b.kind)
+        & (a.capacity == b.capacity)
+        & (a.offered == b.offered)
+        & (a.minimum.0 == b.minimum.0)
+        & (a.bid1.0 == b.bid1.0)
+        & (a.bid2.0 == b.bid2.0)
+}
+
+// The first row from row `from` on whose id is not below this one; n if there is none.
+pub fn seek(s: &[u8], start: usize, from: usize, n: usize, id: u16) -> usize
+    requires { ⌜ Rows (now s) start n ⌝ }
+    requires { ⌜ from ≤ n ⌝ }
+    requires { ⌜ Under (now s) start from id ⌝ }
+    ensures { λ r. ⌜ Sought (now (s .entry)) start n id r ⌝ }
+{
+    let mut i = from;
+    while i < n {
+        if id <= id_at(s, start + i * ROW) {
+            return i;
+        }
+        i += 1;
+    }
+    i
+}
+
+// Row i of the interval is there and has this row's terms.
+fn matches_row(s: &[u8], n: usize, i: usize, r: Row) -> bool
+    requires { ⌜ Rows (now s) 15 n ⌝ }
+    ensures { λ t. ⌜ t ≡ (ltb i n && sameTerms (rowAt (now (s .entry)) (rowStart i)) r) ⌝ }
+{
+    if n <= i {
+        return false;
+    }
+    same_terms(row_at(s, HEAD + i * ROW), r)
+}
+
+// 10: both files side by side, since ids rise in both.
+fn names_verdict(interval: &[u8], correction: &[u8], n: usize, m: usize) -> Verdict
+    requires { ⌜ n ≡ rowCount (now interval) ⌝ }
+    requires { ⌜ Rows (now interval) 15 n ⌝ }
+    requires { ⌜ Rows (now correction) 9 m ⌝ }
+    ensures { λ v. ⌜ v ≡ verdict n (namesFault (now (interval .entry)) (now (correction .entry)) 9 m 1) ⌝ }
+{
+    let mut i = 0;
+    let mut j = 0;
+    while j < m {
+        let r = row_at(correction, CORRECTION_HEAD + j * ROW);
+        i = seek(interval, HEAD, i, n, r.id);
+        j += 1;
+        if !matches_row(interval, n, i, r) {
+            return Verdict::Refused(10, j);
+        }
+    }
+    Verdict::Accepted(n)
+}
+
+// 9, then 10.
+fn beside_verdict(interval: &[u8], correction: &[u8], n: usize, m: usize) -> Verdict
+    requires { ⌜ 15 ≤ length (now interval) ⌝ }
+    requires { ⌜ 9 ≤ length (now correction) ⌝ }
+    requires { ⌜ n ≡ rowCount (now interval) ⌝ }
+    requires { ⌜ Rows (now interval) 15 n ⌝ }
+    requires { ⌜ Rows (now correction) 9 m ⌝ }
+    ensures { λ v. ⌜ v ≡ verdict n (orElse (timeFault (now (interval .entry)) (now (correction .entry))) (namesFault (now (interval .entry)) (now (correction .entry)) 9 m 1)) ⌝ }
+{
+    if !same_time(interval, correction) {
+        return Verdict::Refused(9, 0);
+    }
+    names_verdict(interval, correction, n, m)
+}
+
+// 8, then 9 and 10: a correction that is present.
+fn present_verdict(interval: &[u8], correction: &[u8], n: usize) -> Verdict
+    requires { ⌜ 15 ≤ length (now interval) ⌝ }
+    requires { ⌜ n ≡ rowCount (now interval) ⌝ }
+    requires { ⌜ Rows (now interval) 15 n ⌝ }
+    ensures { λ v. ⌜ v ≡ verdict n (presentFault (now (interval .entry)) (now (correction .entry))) ⌝ }
+{
+    if !correction_starts(correction) {
+        return Verdict::Refused(8, 0);
+    }
+    let m = correction_count(correction);
+    let rows = rows_verdict(correction, CORRECTION_HEAD, m);
+    match rows {
+        Verdict::Refused(_, place) => Verdict::Refused(8, place),
+        Verdict::Accepted(_) => beside_verdict(interval, correction, n, m),
+    }
+}
+
+// 1 to 10: the pair of files. A correction of length 0 means that there is none.
+pub fn check(interval: &[u8], correction: &[u8]) -> Verdict
+    ensures { λ v. ⌜ v ≡ verdictOf (now (interval .entry)) (now (correction .entry)) ⌝ }
+{
+    let own = interval_verdict(interval);
+    match own {
+        Verdict::Refused(number, place) => Verdict::Refused(number, place),
+        Verdict::Accepted(n) => {
+            if correction.len() == 0 {
+                return Verdict::Accepted(n);
+            }
+            present_verdict(interval, correction, n)
+        }
+    }
+}
