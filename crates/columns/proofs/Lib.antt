@@ -6,3 +6,4 @@ pub mod Buffer
 pub mod Reading
 pub mod Choice
 pub mod First
+pub mod Passed
