@@ -4,6 +4,7 @@
 --   head-write, row-write     write after read, for bytes that begin with the right mark
 --   row-shift, mark-shift     a row or a mark further on in a list is one of the list's later part
 --   head-fits, row-fits       fields in their ranges fit their widths; an id's range is its width
+--   rows-few                  a head in its ranges has at most 256 rows
 -- Assumes nothing.
 use mathlib.Core.Path.{_≡_, refl, sym, ap, _∙_}
 use mathlib.Core.Logic.{⊎-elim}
@@ -21,7 +22,7 @@ use Rattle.columns.proofs.Number.{number-drop, number-is, number-write}
 use Rattle.columns.specs.Test.{within}
 use Rattle.columns.proofs.Passed.{both, either, within-ends, each}
 use Rattle.units.specs.Load.{half}
-use Rattle.files.specs.Range.{lowest1, highest1, lowest2, highest2, headOk, statusOk, notOffering, offering, rowTests, rowOk}
+use Rattle.files.specs.Range.{lowest1, highest1, lowest2, highest2, dayOk, quarterOk, headOk, statusOk, notOffering, offering, rowTests, rowOk}
 use Rattle.files.specs.Layout.{marked, letterH, letterR, headAt, headBytes, rowAt, rowBytes}
 use Rattle.files.specs.declared.Head.{Head}
 use Rattle.files.specs.declared.Row.{Row}
@@ -132,8 +133,8 @@ mark-first (x ∷ y ∷ s) n letter h m =
     let p = both (eqb x 80) (eqb y letter) m in
     rw (eqb-true x 80 (p .0), eqb-true y letter (p .1))
 
-pub mark-shift : (s : List ℕ) (k letter : ℕ) → marked (drop k s) 0 letter ≡ marked s k letter
-mark-shift s k letter = rw (getD-drop k s 0 0, getD-drop k s 1 0, add-zero k)
+pub mark-shift : (s : List ℕ) (n k letter : ℕ) → marked (drop n s) k letter ≡ marked s (n + k) letter
+mark-shift s n k letter = rw (getD-drop n s k 0, getD-drop n s (k + 1) 0, add-assoc n k 1)
 
 pub head-write : (s : List ℕ) → ((i : ℕ) → getD s i 0 < 256) → 15 ≤ length s → marked s 0 letterH ≡ true
     → headBytes (headAt s) ≡ take 15 s
@@ -181,14 +182,18 @@ pub row-write : (s : List ℕ) (k : ℕ) → ((i : ℕ) → getD s i 0 < 256) �
     → rowBytes (rowAt s k) ≡ take 21 (drop k s)
 row-write s k small h m =
     let row : rowAt (drop k s) 0 ≡ rowAt s k = row-shift s k 0 ∙ ap (rowAt s) (add-zero k) in
-    let mark : marked (drop k s) 0 letterR ≡ true = mark-shift s k letterR ∙ m in
+    let mark : marked (drop k s) 0 letterR ≡ true = mark-shift s k 0 letterR ∙ rw (add-zero k) m in
     rw (← row) (first-row (drop k s) (λ i. rw (getD-drop k s i 0) (small (k + i))) (rw length-drop (omega arith)) mark)
+
+-- the tests of a head, as its definition lists them
+abbrev headTests : Head → List Bool
+headTests h =
+    dayOk (h .day) ∷ quarterOk (h .quarter) ∷ within 1 10000 (h .tariff .0) ∷ leb (h .need .0) 64000000 ∷ leb (h .rows) 256 ∷ []
 
 pub head-fits : (h : Head) → headOk h ≡ true → HeadFits h
 unfolding headOk
 head-fits h e =
-    let tests = leb (h .day) 36524 ∷ leb (h .quarter) 95 ∷ within 1 10000 (h .tariff .0) ∷ leb (h .need .0) 64000000 ∷ leb (h .rows) 256 ∷ [] in
-    let p = each tests e in
+    let p = each (headTests h) e in
     let t : h .tariff .0 ≤ 10000 = within-ends 1 10000 (h .tariff .0) (p 2) .1 in
     record {
       day = omega (arith, leb-true (h .day) 36524 (p 0));
@@ -197,6 +202,10 @@ head-fits h e =
       need = omega (arith, leb-true (h .need .0) 64000000 (p 3));
       rows = omega (arith, leb-true (h .rows) 256 (p 4));
     }
+
+pub rows-few : (h : Head) → headOk h ≡ true → h .rows ≤ 256
+unfolding headOk
+rows-few h e = leb-true (h .rows) 256 (each (headTests h) e 4)
 
 pub row-fits : (r : Row) → rowOk r ≡ true → r .id < 256 ^ 2 → RowFits r
 unfolding rowOk rowTests
