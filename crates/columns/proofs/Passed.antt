@@ -3,14 +3,12 @@
 --   either        a disjunction that is true has one of its parts true
 --   within-ends   a number within a range is not below its low end, nor above its high end
 --   each          of a list of tests that all pass, the one at any position passes
---   none-applies  a first fault of 0 means that the check in front does not apply, and that the rest gives 0
 -- Assumes nothing.
 use mathlib.Core.Path.{_≡_, refl, sym, subst}
 use mathlib.Core.Logic.{_⊎_, inl, inr}
-use mathlib.Core.Bool.{Bool, true, false, cond, _&&_, _||_}
+use mathlib.Core.Bool.{Bool, true, false, _&&_, _||_}
 use mathlib.Core.List.{List, [], _∷_}
 use Prim.Native.Nat.{ℕ, zero, suc, _≤_}
-use native.Mathlib.Omega.{arith}
 use borrow.Author.Tests.{leb-true}
 use lib.Dec.{T, leb}
 use lib.ListN.{getD}
@@ -44,7 +42,3 @@ pub each : (ts : List Bool) → allOf ts ≡ true → (k : ℕ) → getD ts k tr
 each [] e k = refl
 each (t ∷ ts) e zero = each-from t ts e .0
 each (t ∷ ts) e (suc k) = each-from t ts e .1 k
-
-pub none-applies : (t : Bool) (n m : ℕ) → cond t (suc n) m ≡ 0 → (t ≡ false) × (m ≡ 0)
-none-applies true n m e = absurd (omega arith)
-none-applies false n m e = (refl, e)

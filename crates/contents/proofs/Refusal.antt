@@ -1,5 +1,4 @@
 -- The first fault of rows: what it says when there is none, and that a file's rows and a list's rows have the same one.
---   or-none       no fault of two in order means none of either
 --   rows-valid    a file's rows without fault have the right marks and pass their ranges
 --   list-valid    a list's rows without fault pass their ranges
 --   rows-agree    rows of a file with the right marks have the fault that the same rows have in a list
@@ -12,33 +11,27 @@ use Prim.Native.Nat.{ℕ, zero, suc, _+_, _*_, _≤_, _<_}
 use native.Mathlib.Nat.{add-zero}
 use native.Mathlib.Omega.{arith}
 use borrow.Author.Tests.{not-false, ltb-false, eqb-true, eqb-false}
-use lib.Dec.{ltb, leb, eqb}
+use lib.Dec.{ltb, leb, eqb, lit<}
 use lib.ListN.{length, getD}
 use Rattle.columns.specs.Table.{Below}
 use Rattle.columns.specs.Test.{firstOf}
-use Rattle.columns.proofs.Passed.{none-applies}
+use Rattle.columns.proofs.First.{none-applies}
 use Rattle.files.specs.Layout.{marked, letterH, letterR, rowStart, headAt, rowAt, rowCount}
 use Rattle.files.specs.Range.{headOk, rowOk}
-use Rattle.files.specs.Fault.{Fault, fault, none, orElse, headFault, rowChecks, rowFault, rowsFault}
+use Rattle.files.specs.Fault.{fault, check, headChecks, headFault, rowChecks, rowFault, rowsFault}
 use Rattle.files.specs.declared.Row.{Row}
+use Rattle.files.proofs.Answer.{or-none}
+use Rattle.files.proofs.Walked.{noCheck}
 use Rattle.contents.specs.Content.{zeroRow, listFault}
 
-pub or-none : (f g : Fault) → orElse f g .number ≡ 0 → (f .number ≡ 0) × (g .number ≡ 0)
-unfolding orElse
-or-none f g e = go (eqb (f .number) 0) refl e
-  where
-    go : (b : Bool) → eqb (f .number) 0 ≡ b → cond b g f .number ≡ 0 → (f .number ≡ 0) × (g .number ≡ 0)
-    go true t z = (eqb-true (f .number) 0 t, z)
-    go false t z = absurd (eqb-false (f .number) 0 t z)
-
-pub row-none : (r : Row) (last : ℕ) → firstOf (rowChecks r last) ≡ 0 → (rowOk r ≡ true)
-row-none r last e = not-false (rowOk r) (none-applies (not (rowOk r)) 5 (cond (leb (r .id) last) 7 0) e .0)
+pub row-none : (r : Row) (last : ℕ) → firstOf (rowChecks r last) ≡ 0 → rowOk r ≡ true
+row-none r last e = not-false (rowOk r) (none-applies noCheck (rowChecks r last) tt e 0 (lit< tt))
 
 mark-none : (s : List ℕ) (k last : ℕ) → rowFault s k last ≡ 0 → (marked s k letterR ≡ true) × (rowOk (rowAt s k) ≡ true)
 unfolding rowFault
 mark-none s k last e =
-    let p = none-applies (not (marked s k letterR)) 4 (firstOf (rowChecks (rowAt s k) last)) e in
-    (not-false (marked s k letterR) (p .0), row-none (rowAt s k) last (p .1))
+    let p = none-applies noCheck (check (not (marked s k letterR)) 5 ∷ rowChecks (rowAt s k) last) tt e in
+    (not-false (marked s k letterR) (p 0 (lit< tt)), not-false (rowOk (rowAt s k)) (p 1 (lit< tt)))
 
 -- a fact of the first position and of each later one
 front : (P : ℕ → Type 0) (n : ℕ) → P 0 → Below n (λ j. P (suc j)) → Below (suc n) P
@@ -101,14 +94,10 @@ pub record HeadNone (s : List ℕ) : Type 0 where
 pub head-none : (s : List ℕ) → headFault s ≡ 0 → HeadNone s
 unfolding headFault
 head-none s e =
-    let long = not (eqb (length s) (rowStart (rowCount s))) in
-    let p = none-applies (ltb (length s) 15) 0 (cond (not (marked s 0 letterH)) 2 (cond (not (headOk (headAt s))) 3 (cond long 4 0))) e in
-    let q = none-applies (not (marked s 0 letterH)) 1 (cond (not (headOk (headAt s))) 3 (cond long 4 0)) (p .1) in
-    let r = none-applies (not (headOk (headAt s))) 2 (cond long 4 0) (q .1) in
-    let t = none-applies long 3 0 (r .1) in
+    let p = none-applies noCheck (headChecks s) tt e in
     record {
-      long = ltb-false (length s) 15 (p .0);
-      mark = not-false (marked s 0 letterH) (q .0);
-      ok = not-false (headOk (headAt s)) (r .0);
-      fits = eqb-true (length s) (rowStart (rowCount s)) (not-false (eqb (length s) (rowStart (rowCount s))) (t .0));
+      long = ltb-false (length s) 15 (p 0 (lit< tt));
+      mark = not-false (marked s 0 letterH) (p 1 (lit< tt));
+      ok = not-false (headOk (headAt s)) (p 2 (lit< tt));
+      fits = eqb-true (length s) (rowStart (rowCount s)) (not-false (eqb (length s) (rowStart (rowCount s))) (p 3 (lit< tt)));
     }

@@ -27,6 +27,7 @@ use Rattle.files.specs.Range.{headOk, rowOk}
 use Rattle.files.specs.Fault.{Fault, fault, none, orElse, headFault, rowsFault, intervalFault}
 use Rattle.files.specs.declared.Head.{Head}
 use Rattle.files.specs.declared.Row.{Row}
+use Rattle.files.proofs.Answer.{or-none, or-next}
 use Rattle.contents.specs.Content.{zeroRow, zeroContents, contentsOf, readingOf, rowsBytes, contentsBytes, listFault, contentsFault, writerFault, writtenOf, writtenBuffer}
 use Rattle.contents.specs.declared.Contents.{Contents}
 use Rattle.contents.specs.declared.Reading.{Reading}
@@ -34,15 +35,11 @@ use Rattle.contents.specs.declared.Written.{Written}
 use Rattle.contents.specs.declared.Written.the-variants.{Bytes}
 use Rattle.contents.proofs.Record.{head-write, head-fits, row-fits, rows-few}
 use Rattle.contents.proofs.Rows.{contents-length, contents-head, contents-mark, contents-row, contents-row-mark, rows-write}
-use Rattle.contents.proofs.Refusal.{or-none, HeadNone, head-none, rows-valid, list-valid, SameRow, rows-agree}
+use Rattle.contents.proofs.Refusal.{HeadNone, head-none, rows-valid, list-valid, SameRow, rows-agree}
 
 -- row i of the contents of a file
 abbrev fileRow : List ℕ → ℕ → Row
 fileRow s i = cond (ltb i (rowCount s)) (rowAt s (rowStart i)) zeroRow
-
-or-second : (f g : Fault) → f .number ≡ 0 → orElse f g ≡ g
-unfolding orElse
-or-second f g e = rw (eq-eqb (f .number) 0 e)
 
 -- What acceptance of a file gives.
 module _ (s : List ℕ) (accepted : intervalFault s .number ≡ 0) where
@@ -89,7 +86,7 @@ module _ (s : List ℕ) (accepted : intervalFault s .number ≡ 0) where
       rw (
         head-of .ok,
         list-is,
-        or-second (rowsFault s 15 (rowCount s) 1 0) (cond (ltb room (rowStart (rowCount s))) (fault 11 0) none) (parts .1),
+        or-next (rowsFault s 15 (rowCount s) 1 0) (cond (ltb room (rowStart (rowCount s))) (fault 11 0) none) (parts .1),
         le-ltb room (rowStart (rowCount s)) (omega (arith, head-of .fits)),
       )
 
@@ -153,7 +150,7 @@ module _ (c : Contents) (c-in : InRange c) where
   pub contents-accepted : intervalFault (contentsBytes c) .number ≡ 0
   unfolding intervalFault
   contents-accepted =
-      rw (made-count, made-rows, or-second (fault (headFault (contentsBytes c)) 0) (listFault (c .rows) 0 (c .head .rows) 0) made-start) (sound .1)
+      rw (made-count, made-rows, or-next (fault (headFault (contentsBytes c)) 0) (listFault (c .rows) 0 (c .head .rows) 0) made-start) (sound .1)
 
   pub contents-again : contentsOf (contentsBytes c) ≡ c
   unfolding contentsOf
