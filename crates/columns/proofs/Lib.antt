@@ -8,3 +8,4 @@ pub mod Choice
 pub mod First
 pub mod Rank
 pub mod Fill
+pub mod Passed

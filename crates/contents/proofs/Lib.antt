@@ -1,0 +1,4 @@
+pub mod Record
+pub mod Rows
+pub mod Refusal
+pub mod RoundTrip

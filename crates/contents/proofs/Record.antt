@@ -1,0 +1,229 @@
+-- Heads and rows in bytes: lengths, and both round trips of one record.
+--   head-length, row-length   15 and 21 bytes
+--   head-read, row-read       read after write, for fields that fit their widths
+--   head-write, row-write     write after read, for bytes that begin with the right mark
+--   row-shift, mark-shift     a row or a mark further on in a list is one of the list's later part
+--   head-fits, row-fits       fields in their ranges fit their widths; an id's range is its width
+--   rows-few                  a head in its ranges has at most 256 rows
+-- Assumes nothing.
+use mathlib.Core.Path.{_≡_, refl, sym, ap, _∙_}
+use mathlib.Core.Logic.{⊎-elim}
+use mathlib.Core.Bool.{Bool, true, false, cond, _&&_, _||_}
+use mathlib.Core.List.{List, [], _∷_, _++_}
+use Prim.Native.Nat.{ℕ, zero, suc, _+_, _*_, _^_, _≤_, _<_}
+use native.Mathlib.Nat.{add-assoc, add-zero}
+use native.Mathlib.Omega.{arith}
+use borrow.Author.Tests.{leb-true, eqb-true}
+use lib.Dec.{leb, eqb, lit<}
+use lib.ListN.{length, getD, take, drop, length-drop}
+use lib.Seq.{drop-drop, take-add, getD-drop}
+use Rattle.columns.specs.Number.{numberAt, numberBytes}
+use Rattle.columns.proofs.Number.{number-drop, number-is, number-write}
+use Rattle.columns.specs.Test.{within}
+use Rattle.columns.proofs.Passed.{both, either, within-ends, each}
+use Rattle.units.specs.Load.{half}
+use Rattle.files.specs.Range.{lowest1, highest1, lowest2, highest2, dayOk, quarterOk, headOk, statusOk, notOffering, offering, rowTests, rowOk}
+use Rattle.files.specs.Layout.{marked, letterH, letterR, headAt, headBytes, rowAt, rowBytes}
+use Rattle.files.specs.declared.Head.{Head}
+use Rattle.files.specs.declared.Row.{Row}
+
+pub head-length : (h : Head) → length (headBytes h) ≡ 15
+unfolding headBytes numberBytes
+head-length h = refl
+
+pub row-length : (r : Row) → length (rowBytes r) ≡ 21
+unfolding rowBytes numberBytes
+row-length r = refl
+
+-- what the ranges of status and of an offer bound
+status-low : (r : Row) → statusOk r ≡ true → r .status ≤ 3
+unfolding statusOk
+status-low r e = leb-true (r .status) 3 (both (leb (r .status) 3) (eqb (r .kind) 1 || (eqb (r .status) 0 || eqb (r .status) 3)) e .0)
+
+record Offer (r : Row) : Type 0 where
+  offered : r .offered ≤ 1
+  minimum : r .minimum .0 ≤ r .capacity * 125
+  bid1 : r .bid1 .0 ≤ 320
+  bid2 : r .bid2 .0 ≤ 750
+
+silent : (r : Row) → notOffering r ≡ true → Offer r
+unfolding notOffering
+silent r e =
+    let p = each (eqb (r .offered) 0 ∷ eqb (r .minimum .0) 0 ∷ eqb (r .bid1 .0) 0 ∷ eqb (r .bid2 .0) 0 ∷ []) e in
+    record {
+      offered = omega (arith, eqb-true (r .offered) 0 (p 0));
+      minimum = omega (arith, eqb-true (r .minimum .0) 0 (p 1));
+      bid1 = omega (arith, eqb-true (r .bid1 .0) 0 (p 2));
+      bid2 = omega (arith, eqb-true (r .bid2 .0) 0 (p 3));
+    }
+
+offers : (r : Row) → offering r ≡ true → Offer r
+unfolding offering
+offers r e =
+    let p = each (eqb (r .offered) 1 ∷ eqb (r .kind) 1 ∷ leb (r .minimum .0) (half (r .capacity)) ∷ within lowest1 highest1 (r .bid1 .0) ∷ within lowest2 highest2 (r .bid2 .0) ∷ []) e in
+    record {
+      offered = omega (arith, eqb-true (r .offered) 1 (p 0));
+      minimum = leb-true (r .minimum .0) (half (r .capacity)) (p 2);
+      bid1 = within-ends lowest1 highest1 (r .bid1 .0) (p 3) .1;
+      bid2 = within-ends lowest2 highest2 (r .bid2 .0) (p 4) .1;
+    }
+
+offer-low : (r : Row) → notOffering r || offering r ≡ true → Offer r
+offer-low r e = ⊎-elim (silent r) (offers r) (either (notOffering r) (offering r) e)
+
+-- every field fits the width that it has in a file
+pub record HeadFits (h : Head) : Type 0 where
+  pub day : h .day < 256 ^ 4
+  pub quarter : h .quarter < 256 ^ 1
+  pub tariff : h .tariff .0 < 256 ^ 2
+  pub need : h .need .0 < 256 ^ 4
+  pub rows : h .rows < 256 ^ 2
+
+pub record RowFits (r : Row) : Type 0 where
+  pub id : r .id < 256 ^ 2
+  pub kind : r .kind < 256 ^ 1
+  pub capacity : r .capacity < 256 ^ 2
+  pub metered : r .metered .0 < 256 ^ 4
+  pub status : r .status < 256 ^ 1
+  pub offered : r .offered < 256 ^ 1
+  pub minimum : r .minimum .0 < 256 ^ 4
+  pub bid1 : r .bid1 .0 < 256 ^ 2
+  pub bid2 : r .bid2 .0 < 256 ^ 2
+
+pub head-read : (h : Head) (b : List ℕ) → HeadFits h → headAt (headBytes h ++ b) ≡ h
+unfolding headAt headBytes numberAt numberBytes
+head-read h b f =
+    rw (
+      number-is 4 (h .day) (f .day),
+      number-is 1 (h .quarter) (f .quarter),
+      number-is 2 (h .tariff .0) (f .tariff),
+      number-is 4 (h .need .0) (f .need),
+      number-is 2 (h .rows) (f .rows),
+    )
+
+pub row-read : (r : Row) (b : List ℕ) → RowFits r → rowAt (rowBytes r ++ b) 0 ≡ r
+unfolding rowAt rowBytes numberAt numberBytes
+row-read r b f =
+    rw (
+      number-is 2 (r .id) (f .id),
+      number-is 1 (r .kind) (f .kind),
+      number-is 2 (r .capacity) (f .capacity),
+      number-is 4 (r .metered .0) (f .metered),
+      number-is 1 (r .status) (f .status),
+      number-is 1 (r .offered) (f .offered),
+      number-is 4 (r .minimum .0) (f .minimum),
+      number-is 2 (r .bid1 .0) (f .bid1),
+      number-is 2 (r .bid2 .0) (f .bid2),
+    )
+
+pub row-shift : (s : List ℕ) (n k : ℕ) → rowAt (drop n s) k ≡ rowAt s (n + k)
+unfolding rowAt
+row-shift s n k = simp (number-drop, add-assoc)
+
+-- two adjoining runs of a list are one run
+adjoin : (s : List ℕ) (k n m : ℕ) → take n (drop k s) ++ take m (drop (k + n) s) ≡ take (n + m) (drop k s)
+adjoin s k n m = rw (← drop-drop n k s) (sym (take-add n m (drop k s)))
+
+-- a mark before a run that begins after it
+mark-first : (s : List ℕ) (n : ℕ) (letter : ℕ) → 2 + n ≤ length s → marked s 0 letter ≡ true
+    → 80 ∷ letter ∷ take n (drop 2 s) ≡ take (suc (suc n)) s
+mark-first [] n letter h m = absurd (omega arith)
+mark-first (x ∷ []) n letter h m = absurd (omega arith)
+mark-first (x ∷ y ∷ s) n letter h m =
+    let p = both (eqb x 80) (eqb y letter) m in
+    rw (eqb-true x 80 (p .0), eqb-true y letter (p .1))
+
+pub mark-shift : (s : List ℕ) (n k letter : ℕ) → marked (drop n s) k letter ≡ marked s (n + k) letter
+mark-shift s n k letter = rw (getD-drop n s k 0, getD-drop n s (k + 1) 0, add-assoc n k 1)
+
+pub head-write : (s : List ℕ) → ((i : ℕ) → getD s i 0 < 256) → 15 ≤ length s → marked s 0 letterH ≡ true
+    → headBytes (headAt s) ≡ take 15 s
+unfolding headBytes headAt
+head-write s small h m =
+    rw (
+      number-write 4 s 2 small (omega arith),
+      number-write 1 s 6 small (omega arith),
+      number-write 2 s 7 small (omega arith),
+      number-write 4 s 9 small (omega arith),
+      number-write 2 s 13 small (omega arith),
+      adjoin s 2 4 1,
+      adjoin s 2 5 2,
+      adjoin s 2 7 4,
+      adjoin s 2 11 2,
+    )
+    (mark-first s 13 letterH (omega arith) m)
+
+first-row : (s : List ℕ) → ((i : ℕ) → getD s i 0 < 256) → 21 ≤ length s → marked s 0 letterR ≡ true
+    → rowBytes (rowAt s 0) ≡ take 21 s
+unfolding rowBytes rowAt
+first-row s small h m =
+    rw (
+      number-write 2 s 2 small (omega arith),
+      number-write 1 s 4 small (omega arith),
+      number-write 2 s 5 small (omega arith),
+      number-write 4 s 7 small (omega arith),
+      number-write 1 s 11 small (omega arith),
+      number-write 1 s 12 small (omega arith),
+      number-write 4 s 13 small (omega arith),
+      number-write 2 s 17 small (omega arith),
+      number-write 2 s 19 small (omega arith),
+      adjoin s 2 2 1,
+      adjoin s 2 3 2,
+      adjoin s 2 5 4,
+      adjoin s 2 9 1,
+      adjoin s 2 10 1,
+      adjoin s 2 11 4,
+      adjoin s 2 15 2,
+      adjoin s 2 17 2,
+    )
+    (mark-first s 19 letterR (omega arith) m)
+
+pub row-write : (s : List ℕ) (k : ℕ) → ((i : ℕ) → getD s i 0 < 256) → k + 21 ≤ length s → marked s k letterR ≡ true
+    → rowBytes (rowAt s k) ≡ take 21 (drop k s)
+row-write s k small h m =
+    let row : rowAt (drop k s) 0 ≡ rowAt s k = row-shift s k 0 ∙ ap (rowAt s) (add-zero k) in
+    let mark : marked (drop k s) 0 letterR ≡ true = mark-shift s k 0 letterR ∙ rw (add-zero k) m in
+    rw (← row) (first-row (drop k s) (λ i. rw (getD-drop k s i 0) (small (k + i))) (rw length-drop (omega arith)) mark)
+
+-- the tests of a head, as its definition lists them
+abbrev headTests : Head → List Bool
+headTests h =
+    dayOk (h .day) ∷ quarterOk (h .quarter) ∷ within 1 10000 (h .tariff .0) ∷ leb (h .need .0) 64000000 ∷ leb (h .rows) 256 ∷ []
+
+pub head-fits : (h : Head) → headOk h ≡ true → HeadFits h
+unfolding headOk
+head-fits h e =
+    let p = each (headTests h) e in
+    let t : h .tariff .0 ≤ 10000 = within-ends 1 10000 (h .tariff .0) (p 2) .1 in
+    record {
+      day = omega (arith, leb-true (h .day) 36524 (p 0));
+      quarter = omega (arith, leb-true (h .quarter) 95 (p 1));
+      tariff = omega arith;
+      need = omega (arith, leb-true (h .need .0) 64000000 (p 3));
+      rows = omega (arith, leb-true (h .rows) 256 (p 4));
+    }
+
+pub rows-few : (h : Head) → headOk h ≡ true → h .rows ≤ 256
+unfolding headOk
+rows-few h e = leb-true (h .rows) 256 (each (headTests h) e 4)
+
+pub row-fits : (r : Row) → rowOk r ≡ true → r .id < 256 ^ 2 → RowFits r
+unfolding rowOk rowTests
+row-fits r e i =
+    let p = each (rowTests r) e in
+    let kind : r .kind ≤ 3 = within-ends 1 3 (r .kind) (p 1) .1 in
+    let capacity : r .capacity ≤ 2000 = within-ends 1 2000 (r .capacity) (p 2) .1 in
+    let metered : r .metered .0 ≤ r .capacity * 275 = leb-true (r .metered .0) (r .capacity * 275) (p 3) in
+    let status : r .status ≤ 3 = status-low r (p 4) in
+    let offer = offer-low r (p 5) in
+    record {
+      id = i;
+      kind = omega arith;
+      capacity = omega arith;
+      metered = omega arith;
+      status = omega arith;
+      offered = omega arith;
+      minimum = omega arith;
+      bid1 = omega arith;
+      bid2 = omega arith;
+    }
