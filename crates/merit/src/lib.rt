@@ -1,1 +1,1 @@
-// merit
+// Merit order (01, Calls and prices): bands, the walk, calls, clearing prices.

@@ -1,0 +1,4 @@
+pub mod Settlement
+pub mod Statement
+pub mod Answer
+pub mod Table

@@ -1,0 +1,76 @@
+-- Rounds (01, Rounds; Articles 31, 32): a total is shared over weights ws under caps cs; both are columns of one length.
+-- Nothing here knows of kinds, tariffs or regions. Assumes nothing.
+use Prim.Native.Nat.{ℕ, zero, suc, _+_, _-_, _*_}
+use mathlib.Core.Bool.{Bool, cond, _&&_}
+use mathlib.Core.List.{List}
+use lib.Dec.{leb, ltb, eqb}
+use lib.ListN.{length, replicate}
+use Rattle.columns.specs.Sum.{sumTo, countTo}
+use Rattle.columns.specs.Table.{at, table}
+use Rattle.share.specs.Share.{whole, share, shares}
+
+-- how things stand between two rounds: each payer's closing round (0 while it has not closed), the money and the weight
+-- that are left, and how many rounds somebody closed in
+pub record Standing : Type 0 where
+  pub marks : List ℕ
+  pub money : ℕ
+  pub weight : ℕ
+  pub rounds : ℕ
+
+-- position i is an open payer: it has weight and has not closed
+abbrev pub isOpen : List ℕ → List ℕ → ℕ → Bool
+isOpen ws marks i = eqb (at marks i) 0 && ltb 0 (at ws i)
+
+-- it closes in this round: money times its weight is at least its cap times the open weight
+unfoldable pub closes : List ℕ → List ℕ → Standing → ℕ → Bool
+closes ws cs st i = isOpen ws (st .marks) i && leb (at cs i * st .weight) (st .money * at ws i)
+
+-- the values of those that close, added up
+unfoldable pub closed : List ℕ → List ℕ → Standing → List ℕ → ℕ
+closed ws cs st xs = sumTo (length ws) (λ i. cond (closes ws cs st i) (at xs i) 0)
+
+-- after a round in which somebody closed: money falls by their caps, weight by their weights
+unfoldable pub next : List ℕ → List ℕ → Standing → Standing
+next ws cs st =
+    record {
+      marks = table (length ws) (λ i. cond (closes ws cs st i) (suc (st .rounds)) (at (st .marks) i));
+      money = st .money - closed ws cs st cs;
+      weight = st .weight - closed ws cs st ws;
+      rounds = suc (st .rounds);
+    }
+
+-- rounds until nobody closes; so many rounds at most
+unfoldable pub run : ℕ → List ℕ → List ℕ → Standing → Standing
+run zero ws cs st = st
+run (suc f) ws cs st =
+    let more = run f ws cs (next ws cs st) in
+    cond (eqb (countTo (length ws) (closes ws cs st)) 0) st more
+
+-- before the first round nobody has closed, and all the money and weight are there
+unfoldable pub opening : ℕ → List ℕ → Standing
+opening total ws =
+    record { marks = replicate (length ws) 0; money = total; weight = whole ws; rounds = 0 }
+
+-- how things stand after the last round; in each round but the last somebody closes, so one for each position is enough
+unfoldable pub final : ℕ → List ℕ → List ℕ → Standing
+final total ws cs = run (length ws) ws cs (opening total ws)
+
+-- the weights that are still open
+unfoldable pub openWeights : List ℕ → Standing → List ℕ
+openWeights ws st = table (length ws) (λ i. cond (eqb (at (st .marks) i) 0) (at ws i) 0)
+
+-- what position i pays: its cap if it closed, else its share of the money left over the open weights; fen are made here, once
+unfoldable pub paid : List ℕ → List ℕ → Standing → ℕ → ℕ → ℕ
+paid ws cs st first i =
+    cond (eqb (at (st .marks) i) 0) (share (st .money) (openWeights ws st) first i) (at cs i)
+
+unfoldable pub payments : List ℕ → List ℕ → Standing → ℕ → List ℕ
+payments ws cs st first = table (length ws) (paid ws cs st first)
+
+-- the money left if nobody is open (no open weight is left), and 0 otherwise
+unfoldable pub shortfall : Standing → ℕ
+shortfall st = cond (eqb (st .weight) 0) (st .money) 0
+
+-- Article 32: the shortfall is shared as cuts over the compensations
+unfoldable pub cuts : Standing → List ℕ → ℕ → List ℕ
+cuts st compensations first = shares (shortfall st) compensations first
