@@ -3,3 +3,4 @@ pub mod Sum
 pub mod Table
 pub mod Rank
 pub mod Fill
+pub mod Mask
