@@ -8,6 +8,7 @@
 --     closed-caps-le      the caps that close are at most the money
 --     closed-cross        their caps together, as one payer, owe at least their cap
 --     mark-next           everybody's mark after a round
+--     inside-weight       whoever has weight stands in the column
 --     opens-fall          the open payers fall by as many as close
 --     run-stop            where nobody closes, rounds stop, however many are allowed
 --     run-more            where somebody closes, the next round follows
@@ -25,7 +26,7 @@ use mathlib.Core.List.{List}
 use native.Mathlib.Nat.{eq-zero-or-pos, mul-le-mul-left, le-of-mul-le-mul-right}
 use native.Mathlib.Omega.{arith}
 use lib.Dec.{leb, ltb, eqb}
-use lib.ListN.{length, replicate, getD}
+use lib.ListN.{length, replicate, getD, List·getD-eq-default}
 use borrow.Author.Tests.{lt-ltb, ltb-true, leb-true, eq-eqb, ne-eqb, eqb-true, eqb-false}
 use Rattle.columns.specs.Sum.{bit, sumTo, countTo, sumWhere}
 use Rattle.columns.specs.Table.{at, table, Below}
@@ -59,6 +60,11 @@ pub and-right : (s t : Bool) → s && t ≡ true → t ≡ true
 and-right true t e = e
 and-right false true e = refl
 and-right false false e = e
+
+-- whoever has weight stands in the column
+pub inside-weight : (ws : List ℕ) (i : ℕ) → 0 < at ws i → i < length ws
+inside-weight ws i some =
+    ⊎-elim (λ (l : i < length ws). l) (λ (l : length ws ≤ i). absurd (omega (arith, List·getD-eq-default ws 0 l))) (lt-or-le i (length ws))
 
 module _ (ws cs : List ℕ) (st : Standing) where
   -- whoever closes was open, had weight, and owes its cap at least
@@ -240,7 +246,7 @@ module _ (total : ℕ) (ws cs : List ℕ) where
       weighty i true e q = closes-weight ws cs st i e
       weighty i false e q = s .payers i q
 
-  opening-mark : (i : ℕ) → at (opening total ws .marks) i ≡ 0
+  pub opening-mark : (i : ℕ) → at (opening total ws .marks) i ≡ 0
   unfolding opening
   opening-mark i = none (length ws) i
     where
