@@ -1,2 +1,4 @@
 pub mod Step
 pub mod Rate
+pub mod Count
+pub mod Payment

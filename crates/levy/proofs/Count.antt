@@ -1,0 +1,98 @@
+-- How many rounds there are, and who closed in which.
+--     Counted            rounds and open payers together are at most the payers; each round has somebody who closed in it
+--     opening-counted    it holds before the first round
+--     next-counted       a round in which somebody closes keeps it
+--     rounds-count       the rounds are at most the payers of weight above 0
+--     marks-rounds       no closing round is above the number of rounds
+--     round-somebody     somebody closed in each round
+--     rounds-max         the number of rounds is the largest closing round
+-- Assumes nothing.
+use Prim.Native.Nat.{ℕ, zero, suc, _+_, _-_, _*_, _≤_, _<_}
+use mathlib.Core.Path.{_≡_, refl, ap, sym, _∙_}
+use mathlib.Core.Logic.{_⊎_, ⊎-elim}
+use mathlib.Core.Bool.{Bool, true, false, cond, _&&_, not}
+use mathlib.Core.List.{List}
+use native.Mathlib.Nat.{eq-zero-or-pos, le-refl}
+use native.Mathlib.Omega.{arith}
+use lib.Dec.{leb, ltb, eqb}
+use lib.ListN.{length}
+use borrow.Author.Tests.{eq-eqb, eqb-true}
+use Rattle.columns.specs.Sum.{bit, sumTo, countTo, maxTo}
+use Rattle.columns.specs.Table.{at, table, Below}
+use Rattle.columns.proofs.Sum.{lt-or-le, count-none, count-sub, max-bound, max-term}
+use Rattle.columns.proofs.Rank.{test-or, some-or-none}
+use Rattle.levy.specs.Rounds.{Standing, isOpen, opens, closes, closed, next, run, opening, final}
+use Rattle.levy.proofs.Step.{Sound, unmarked, run-keeps, and-right, closes-unmarked, mark-next, next-rounds, opens-fall, opening-mark, final-sound}
+
+-- how many payers have weight above 0
+unfoldable pub payers : List ℕ → ℕ
+payers ws = countTo (length ws) (λ i. ltb 0 (at ws i))
+
+pub record Counted (ws : List ℕ) (st : Standing) : Type 0 where
+  pub early : st .rounds + opens ws (st .marks) ≤ payers ws
+  pub somebody : (r : ℕ) → 0 < r → r ≤ st .rounds → (i : ℕ) × (i < length ws) × (at (st .marks) i ≡ r)
+
+pub opens-payers : (ws marks : List ℕ) → opens ws marks ≤ payers ws
+unfolding opens payers
+opens-payers ws marks =
+    count-sub (length ws) (isOpen ws marks) (λ i. ltb 0 (at ws i)) (λ i l e. and-right (eqb (at marks i) 0) (ltb 0 (at ws i)) e)
+
+pub opening-counted : (total : ℕ) (ws : List ℕ) → Counted ws (opening total ws)
+unfolding opening
+opening-counted total ws =
+    record { early = omega (arith, opens-payers ws (opening total ws .marks)); somebody = λ r some le. absurd (omega arith) }
+
+module _ (ws cs : List ℕ) (st : Standing) where
+  -- the mark of whoever does not close stays
+  mark-stays : (i : ℕ) → i < length ws → 0 < at (st .marks) i → at (next ws cs st .marks) i ≡ at (st .marks) i
+  mark-stays i l some = mark-next ws cs st i l ∙ same (closes ws cs st i) refl
+    where
+      same : (t : Bool) → closes ws cs st i ≡ t → cond t (suc (st .rounds)) (at (st .marks) i) ≡ at (st .marks) i
+      same true e = absurd (omega (arith, eqb-true (at (st .marks) i) 0 (closes-unmarked ws cs st i e)))
+      same false e = refl
+
+  pub next-counted : 0 < countTo (length ws) (closes ws cs st) → Counted ws st → Counted ws (next ws cs st)
+  next-counted some h =
+      record {
+        early = omega (arith, next-rounds ws cs st, opens-fall ws cs st, h .early);
+        somebody = λ r up le. ⊎-elim
+          (λ (k : r < suc (st .rounds)).
+            let w = h .somebody r up (omega arith) in
+            let up′ : 0 < at (st .marks) (w .0) = omega (arith, w .2) in
+            (w .0 , w .1 , mark-stays (w .0) (w .1) up′ ∙ w .2))
+          (λ (k : suc (st .rounds) ≤ r). last r (omega (arith, next-rounds ws cs st)) (some-or-none (length ws) (closes ws cs st)))
+          (lt-or-le r (suc (st .rounds)));
+      }
+    where
+      last : (r : ℕ) → r ≡ suc (st .rounds) → ((i : ℕ) × (i < length ws) × (closes ws cs st i ≡ true)) ⊎ Below (length ws) (λ i. closes ws cs st i ≡ false)
+          → (i : ℕ) × (i < length ws) × (at (next ws cs st .marks) i ≡ r)
+      last r e found =
+          ⊎-elim
+          (λ (w : (i : ℕ) × (i < length ws) × (closes ws cs st i ≡ true)). (w .0 , w .1 , mark-next ws cs st (w .0) (w .1) ∙ rw (w .2) (sym e)))
+          (λ (none : Below (length ws) (λ i. closes ws cs st i ≡ false)). absurd (omega (arith, count-none (length ws) (closes ws cs st) none)))
+          found
+
+module _ (total : ℕ) (ws cs : List ℕ) where
+  pub final-counted : Counted ws (final total ws cs)
+  unfolding final
+  final-counted = run-keeps ws cs (Counted ws) (next-counted ws cs) (length ws) (opening total ws) (opening-counted total ws)
+
+  pub rounds-count : final total ws cs .rounds ≤ payers ws
+  rounds-count = omega (arith, final-counted .early)
+
+  pub marks-rounds : (i : ℕ) → at (final total ws cs .marks) i ≤ final total ws cs .rounds
+  marks-rounds i = final-sound total ws cs .marks-le i
+
+  pub round-somebody : (r : ℕ) → 0 < r → r ≤ final total ws cs .rounds → (i : ℕ) × (i < length ws) × (at (final total ws cs .marks) i ≡ r)
+  round-somebody r up le = final-counted .somebody r up le
+
+  pub rounds-max : final total ws cs .rounds ≡ maxTo (length ws) (at (final total ws cs .marks))
+  rounds-max =
+      ⊎-elim (λ (e : final total ws cs .rounds ≡ 0). omega (arith, bound))
+      (λ (up : 0 < final total ws cs .rounds).
+        let w = round-somebody (final total ws cs .rounds) up (le-refl (final total ws cs .rounds)) in
+        omega (arith, bound, w .2, max-term (length ws) (at (final total ws cs .marks)) (w .0) (w .1)))
+      (eq-zero-or-pos (final total ws cs .rounds))
+    where
+      bound : maxTo (length ws) (at (final total ws cs .marks)) ≤ final total ws cs .rounds
+      bound = max-bound (length ws) (final total ws cs .rounds) (at (final total ws cs .marks)) (λ i l. marks-rounds i)
