@@ -2,3 +2,5 @@ pub mod Step
 pub mod Rate
 pub mod Count
 pub mod Payment
+pub mod Cut
+pub mod Unique

@@ -9,6 +9,7 @@
 --     open-rate-over, open-rate-short     an open payer pays within a fen of the common rate
 --     closed-caps        the caps of the closed are at most the total
 --     shortfall-none     somebody of weight above 0 is open: the shortfall is 0
+--     shortfall-all      there is a shortfall: every payer of weight above 0 closed
 --     all-capped         every payer of weight above 0 closed: the shortfall is the total less their caps
 --     shortfall-le       the shortfall is at most the total
 -- Assumes nothing.
@@ -137,3 +138,65 @@ module _ (total : ℕ) (ws cs : List ℕ) (st : Standing) (s : Sound total ws cs
       each : (t : Bool) → cond t (st .money) 0 ≤ total
       each true = omega (arith, s .money-is)
       each false = omega arith
+
+module _ (total : ℕ) (ws cs : List ℕ) (first : ℕ) where
+  pub paid-total : (0 < length ws → first < length ws) → whole (payments ws cs (final total ws cs) first) + shortfall (final total ws cs) ≡ total
+  paid-total inside = sound-total total ws cs (final total ws cs) (final-sound total ws cs) first inside
+
+  pub paid-le-cap : (i : ℕ) → paid ws cs (final total ws cs) first i ≤ at cs i
+  paid-le-cap i =
+      let st : Standing = final total ws cs in
+      let s = final-sound total ws cs in
+      ⊎-elim
+      (λ (z : at (st .marks) i ≡ 0). ⊎-elim (λ (e : at ws i ≡ 0). omega (arith, paid-none total ws cs st s first i e))
+        (λ (some : 0 < at ws i).
+          rw (paid-open total ws cs st s first i z)
+          (share-under (st .money) (openWeights ws st) first i (at cs i)
+            (rw (open-whole total ws cs st s, open-at ws st i, eq-eqb (at (st .marks) i) 0 z) (open-owe total ws cs i z some))))
+        (eq-zero-or-pos (at ws i)))
+      (λ (up : 0 < at (st .marks) i). omega (arith, paid-closed total ws cs st s first i up)) (eq-zero-or-pos (at (st .marks) i))
+
+  -- the payment of an open payer is the money times its weight over the open weight, off by less than one
+  pub open-rate-over : (i : ℕ) → at (final total ws cs .marks) i ≡ 0 → 0 < at ws i
+      → paid ws cs (final total ws cs) first i * final total ws cs .weight < final total ws cs .money * at ws i + final total ws cs .weight
+  open-rate-over i z some =
+      let st : Standing = final total ws cs in
+      let s = final-sound total ws cs in
+      let near = share-near-over (st .money) (openWeights ws st) first i (omega (arith, open-whole total ws cs st s, open-weight total ws cs st s i z)) in
+      rw (paid-open total ws cs st s first i z) (rw (open-whole total ws cs st s, open-at ws st i, eq-eqb (at (st .marks) i) 0 z) at near)
+
+  pub open-rate-short : (i : ℕ) → at (final total ws cs .marks) i ≡ 0 → 0 < at ws i
+      → final total ws cs .money * at ws i < paid ws cs (final total ws cs) first i * final total ws cs .weight + final total ws cs .weight
+  open-rate-short i z some =
+      let st : Standing = final total ws cs in
+      let s = final-sound total ws cs in
+      let near = share-near-short (st .money) (openWeights ws st) first i (omega (arith, open-whole total ws cs st s, open-weight total ws cs st s i z)) in
+      rw (paid-open total ws cs st s first i z) (rw (open-whole total ws cs st s, open-at ws st i, eq-eqb (at (st .marks) i) 0 z) at near)
+
+module _ (total : ℕ) (ws cs : List ℕ) where
+  -- the caps of all that closed, added up
+  unfoldable pub capsClosed : ℕ
+  capsClosed = sumWhere (length ws) (marked (final total ws cs .marks)) (at cs)
+
+  pub closed-caps : capsClosed ≤ total
+  unfolding capsClosed
+  closed-caps = omega (arith, final-sound total ws cs .money-is)
+
+  pub all-capped : ((i : ℕ) → 0 < at ws i → 0 < at (final total ws cs .marks) i) → shortfall (final total ws cs) ≡ total - capsClosed
+  unfolding shortfall capsClosed
+  all-capped all =
+      rw (eq-eqb (final total ws cs .weight) 0 (closed-weight total ws cs (final total ws cs) (final-sound total ws cs) all))
+      (omega (arith, final-sound total ws cs .money-is))
+
+  pub shortfall-none : (i : ℕ) → 0 < at ws i → at (final total ws cs .marks) i ≡ 0 → shortfall (final total ws cs) ≡ 0
+  unfolding shortfall
+  shortfall-none i some z =
+      rw (ne-eqb (final total ws cs .weight) 0 (λ e. let up = weight-closed total ws cs (final total ws cs) (final-sound total ws cs) e i some in omega arith))
+
+  pub shortfall-all : 0 < shortfall (final total ws cs) → (i : ℕ) → 0 < at ws i → 0 < at (final total ws cs .marks) i
+  shortfall-all up i some =
+      ⊎-elim (λ (z : at (final total ws cs .marks) i ≡ 0). absurd (omega (arith, shortfall-none i some z))) (λ p. p)
+      (eq-zero-or-pos (at (final total ws cs .marks) i))
+
+  pub shortfall-le : shortfall (final total ws cs) ≤ total
+  shortfall-le = sound-shortfall total ws cs (final total ws cs) (final-sound total ws cs)
