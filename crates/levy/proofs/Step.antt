@@ -9,6 +9,8 @@
 --     closed-cross        their caps together, as one payer, owe at least their cap
 --     mark-next           everybody's mark after a round
 --     inside-weight       whoever has weight stands in the column
+--     closed-nobody       no weight closes: nobody does
+--     closed-somebody     some weight closes: somebody does
 --     opens-fall          the open payers fall by as many as close
 --     run-stop            where nobody closes, rounds stop, however many are allowed
 --     run-more            where somebody closes, the next round follows
@@ -30,8 +32,8 @@ use lib.ListN.{length, replicate, getD, List·getD-eq-default}
 use borrow.Author.Tests.{lt-ltb, ltb-true, leb-true, eq-eqb, ne-eqb, eqb-true, eqb-false}
 use Rattle.columns.specs.Sum.{bit, sumTo, countTo, sumWhere}
 use Rattle.columns.specs.Table.{at, table, Below}
-use Rattle.columns.proofs.Sum.{lt-or-le, count-le, count-none, count-some}
-use Rattle.columns.proofs.Mask.{where-same, where-parts, where-sub, where-none, where-all, where-zero, where-cross, where-term, count-parts}
+use Rattle.columns.proofs.Sum.{lt-or-le, count-le, count-none}
+use Rattle.columns.proofs.Mask.{where-parts, where-sub, where-none, where-all, where-cross, where-term, count-parts, count-zero}
 use Rattle.columns.proofs.Table.{table-length, table-at, table-past}
 use Rattle.columns.proofs.Rank.{test-or}
 use Rattle.share.specs.Share.{whole}
@@ -126,6 +128,21 @@ module _ (ws cs : List ℕ) (st : Standing) where
           → bit (eqb (at (st .marks) i) 0 && ltb 0 (at ws i)) ≡ bit (eqb (cond t (suc (st .rounds)) (at (st .marks) i)) 0 && ltb 0 (at ws i)) + bit t
       each i true e = rw (ne-eqb (suc (st .rounds)) 0 (omega arith)) (ap bit (closes-open i e))
       each i false e = omega arith
+
+  -- whoever closes has weight, so the weight that closes tells whether anybody does
+  pub closed-nobody : closed ws cs st ws ≡ 0 → countTo (length ws) (closes ws cs st) ≡ 0
+  closed-nobody e =
+      count-none (length ws) (closes ws cs st)
+      (λ i l. ⊎-elim
+        (λ (t : closes ws cs st i ≡ true).
+          absurd (omega (arith, closed-is ws, closes-weight i t, where-term (length ws) (closes ws cs st) (at ws) i l t)))
+        (λ t. t) (test-or (closes ws cs st i)))
+
+  pub closed-somebody : (closed ws cs st ws ≡ 0 → ⊥) → 0 < countTo (length ws) (closes ws cs st)
+  closed-somebody some =
+      ⊎-elim
+      (λ (e : countTo (length ws) (closes ws cs st) ≡ 0). absurd (some (closed-is ws ∙ where-none (length ws) (closes ws cs st) (at ws) (count-zero (length ws) (closes ws cs st) e))))
+      (λ up. up) (eq-zero-or-pos (countTo (length ws) (closes ws cs st)))
 
   -- nobody is open: nobody closes
   pub opens-none : opens ws (st .marks) ≡ 0 → countTo (length ws) (closes ws cs st) ≡ 0

@@ -224,7 +224,7 @@ module _ (total : ℕ) (ws cs : List ℕ) where
           twice true = refl
           twice false = refl
 
-  pub final-capped : Capped total ws cs closers
+  pub final-capped : Capped total ws cs (marked (final total ws cs .marks))
   final-capped =
       record {
         less = λ i e. rw (closers-left, closers-beside)
