@@ -4,7 +4,6 @@
 --     where-parts     the sum over u is that over p and that over q, where u is p and q together and no position is in both
 --     where-split     those that pass and those that do not make the whole
 --     where-sub       what passes p passes q: the sum over p is at most that over q
---     where-le        a pointwise smaller value has a smaller sum
 --     where-whole     a sum over some positions is at most the sum over all
 --     where-none      nobody passes: 0
 --     where-all       everybody passes: the sum of all
@@ -16,11 +15,10 @@
 --     count-zero      a count of 0: nobody passes
 -- Assumes nothing.
 use Prim.Native.Nat.{ℕ, zero, suc, _+_, _*_, _≤_, _<_, zero-le}
-use mathlib.Core.Path.{_≡_, refl, ap, sym, _∙_}
+use mathlib.Core.Path.{_≡_, refl, sym, _∙_}
 use mathlib.Core.Logic.{⊎-elim}
 use mathlib.Core.Bool.{Bool, true, false, cond, not}
 use native.Mathlib.Nat.{le-refl}
-use native.Mathlib.Numerals.{add-one}
 use native.Mathlib.Omega.{arith}
 use Rattle.columns.specs.Sum.{bit, sumTo, countTo, sumWhere}
 use Rattle.columns.specs.Table.{Below}
@@ -59,14 +57,6 @@ where-sub n p q f h = sum-le n (λ k. cond (p k) (f k) 0) (λ k. cond (q k) (f k
     each : (s t : Bool) (x : ℕ) → (s ≡ true → t ≡ true) → cond s x 0 ≤ cond t x 0
     each true t x h = rw (h refl) (le-refl x)
     each false t x h = zero-le
-
-pub where-le : (n : ℕ) (p : ℕ → Bool) (f g : ℕ → ℕ) → Below n (λ k. p k ≡ true → f k ≤ g k) → sumWhere n p f ≤ sumWhere n p g
-unfolding sumWhere
-where-le n p f g h = sum-le n (λ k. cond (p k) (f k) 0) (λ k. cond (p k) (g k) 0) (λ k l. each (p k) (f k) (g k) (h k l))
-  where
-    each : (t : Bool) (x y : ℕ) → (t ≡ true → x ≤ y) → cond t x 0 ≤ cond t y 0
-    each true x y h = h refl
-    each false x y h = zero-le
 
 pub where-whole : (n : ℕ) (p : ℕ → Bool) (f : ℕ → ℕ) → sumWhere n p f ≤ sumTo n f
 where-whole n p f = omega (arith, where-split n p f)

@@ -7,26 +7,22 @@
 --     round-somebody     somebody closed in each round
 --     rounds-max         the number of rounds is the largest closing round
 -- Assumes nothing.
-use Prim.Native.Nat.{ℕ, zero, suc, _+_, _-_, _*_, _≤_, _<_}
-use mathlib.Core.Path.{_≡_, refl, ap, sym, _∙_}
+use Prim.Native.Nat.{ℕ, suc, _+_, _≤_, _<_}
+use mathlib.Core.Path.{_≡_, refl, sym, _∙_}
 use mathlib.Core.Logic.{_⊎_, ⊎-elim}
-use mathlib.Core.Bool.{Bool, true, false, cond, _&&_, not}
+use mathlib.Core.Bool.{Bool, true, false, cond, not}
 use mathlib.Core.List.{List}
 use native.Mathlib.Nat.{eq-zero-or-pos, le-refl}
 use native.Mathlib.Omega.{arith}
-use lib.Dec.{leb, ltb, eqb}
+use lib.Dec.{ltb, eqb}
 use lib.ListN.{length}
-use borrow.Author.Tests.{eq-eqb, eqb-true}
-use Rattle.columns.specs.Sum.{bit, sumTo, countTo, maxTo}
-use Rattle.columns.specs.Table.{at, table, Below}
+use borrow.Author.Tests.{eqb-true}
+use Rattle.columns.specs.Sum.{countTo, maxTo}
+use Rattle.columns.specs.Table.{at, Below}
 use Rattle.columns.proofs.Sum.{lt-or-le, count-none, count-sub, max-bound, max-term}
-use Rattle.columns.proofs.Rank.{test-or, some-or-none}
-use Rattle.levy.specs.Rounds.{Standing, isOpen, opens, closes, closed, next, run, opening, final}
-use Rattle.levy.proofs.Step.{Sound, unmarked, run-keeps, and-right, closes-unmarked, mark-next, next-rounds, opens-fall, opening-mark, final-sound}
-
--- how many payers have weight above 0
-unfoldable pub payers : List ℕ → ℕ
-payers ws = countTo (length ws) (λ i. ltb 0 (at ws i))
+use Rattle.columns.proofs.Rank.{some-or-none}
+use Rattle.levy.specs.Rounds.{Standing, isOpen, payers, opens, closes, next, opening, final}
+use Rattle.levy.proofs.Step.{run-keeps, and-right, closes-unmarked, mark-next, next-rounds, opens-fall, final-sound}
 
 pub record Counted (ws : List ℕ) (st : Standing) : Type 0 where
   pub early : st .rounds + opens ws (st .marks) ≤ payers ws
@@ -56,19 +52,19 @@ module _ (ws cs : List ℕ) (st : Standing) where
       record {
         early = omega (arith, next-rounds ws cs st, opens-fall ws cs st, h .early);
         somebody = λ r up le. ⊎-elim
-          (λ (k : r < suc (st .rounds)).
+            (λ (k : r < suc (st .rounds)).
             let w = h .somebody r up (omega arith) in
             let up′ : 0 < at (st .marks) (w .0) = omega (arith, w .2) in
-            (w .0 , w .1 , mark-stays (w .0) (w .1) up′ ∙ w .2))
-          (λ (k : suc (st .rounds) ≤ r). last r (omega (arith, next-rounds ws cs st)) (some-or-none (length ws) (closes ws cs st)))
-          (lt-or-le r (suc (st .rounds)));
+            (w .0, w .1, mark-stays (w .0) (w .1) up′ ∙ w .2))
+            (λ (k : suc (st .rounds) ≤ r). last r (omega (arith, next-rounds ws cs st)) (some-or-none (length ws) (closes ws cs st)))
+            (lt-or-le r (suc (st .rounds)));
       }
     where
       last : (r : ℕ) → r ≡ suc (st .rounds) → ((i : ℕ) × (i < length ws) × (closes ws cs st i ≡ true)) ⊎ Below (length ws) (λ i. closes ws cs st i ≡ false)
           → (i : ℕ) × (i < length ws) × (at (next ws cs st .marks) i ≡ r)
       last r e found =
           ⊎-elim
-          (λ (w : (i : ℕ) × (i < length ws) × (closes ws cs st i ≡ true)). (w .0 , w .1 , mark-next ws cs st (w .0) (w .1) ∙ rw (w .2) (sym e)))
+          (λ (w : (i : ℕ) × (i < length ws) × (closes ws cs st i ≡ true)). (w .0, w .1, mark-next ws cs st (w .0) (w .1) ∙ rw (w .2) (sym e)))
           (λ (none : Below (length ws) (λ i. closes ws cs st i ≡ false)). absurd (omega (arith, count-none (length ws) (closes ws cs st) none)))
           found
 
@@ -90,8 +86,8 @@ module _ (total : ℕ) (ws cs : List ℕ) where
   rounds-max =
       ⊎-elim (λ (e : final total ws cs .rounds ≡ 0). omega (arith, bound))
       (λ (up : 0 < final total ws cs .rounds).
-        let w = round-somebody (final total ws cs .rounds) up (le-refl (final total ws cs .rounds)) in
-        omega (arith, bound, w .2, max-term (length ws) (at (final total ws cs .marks)) (w .0) (w .1)))
+      let w = round-somebody (final total ws cs .rounds) up (le-refl (final total ws cs .rounds)) in
+      omega (arith, bound, w .2, max-term (length ws) (at (final total ws cs .marks)) (w .0) (w .1)))
       (eq-zero-or-pos (final total ws cs .rounds))
     where
       bound : maxTo (length ws) (at (final total ws cs .marks)) ≤ final total ws cs .rounds

@@ -5,20 +5,19 @@
 --     cuts-length     as many cuts as compensations
 --     balance         what is paid is what receivers keep
 -- Assumes nothing.
-use Prim.Native.Nat.{ℕ, zero, suc, _+_, _-_, _*_, _≤_, _<_}
-use mathlib.Core.Path.{_≡_, refl, ap, sym, _∙_}
+use Prim.Native.Nat.{ℕ, _+_, _-_, _≤_, _<_}
+use mathlib.Core.Path.{_≡_, ap, sym, _∙_}
 use mathlib.Core.Logic.{⊎-elim}
-use mathlib.Core.Bool.{Bool, true, false, cond}
 use mathlib.Core.List.{List}
 use native.Mathlib.Nat.{eq-zero-or-pos}
 use native.Mathlib.Omega.{arith}
 use lib.ListN.{length}
 use Rattle.columns.specs.Sum.{sumTo}
-use Rattle.columns.specs.Table.{at, table, Below}
+use Rattle.columns.specs.Table.{at}
 use Rattle.columns.proofs.Sum.{sum-same, sum-add, sum-zero}
-use Rattle.share.specs.Share.{whole, share, shares}
+use Rattle.share.specs.Share.{whole, shares}
 use Rattle.share.proofs.Laws.{share-le-amount, share-le-weight, shares-sum, shares-length, shares-at}
-use Rattle.levy.specs.Rounds.{Standing, final, payments, shortfall, cuts}
+use Rattle.levy.specs.Rounds.{final, payments, shortfall, cuts}
 use Rattle.levy.proofs.Payment.{paid-total, shortfall-none, shortfall-le}
 
 module _ (total : ℕ) (ws cs compensations : List ℕ) (first : ℕ) where
@@ -29,9 +28,12 @@ module _ (total : ℕ) (ws cs compensations : List ℕ) (first : ℕ) where
   pub cuts-none : (i : ℕ) → 0 < at ws i → at (final total ws cs .marks) i ≡ 0 → (k : ℕ) → at (cuts (final total ws cs) compensations first) k ≡ 0
   unfolding cuts
   cuts-none i some z k =
-      omega
-      (arith, shares-at (shortfall (final total ws cs)) compensations first k,
-        share-le-amount (shortfall (final total ws cs)) compensations first k, shortfall-none total ws cs i some z)
+      omega (
+        arith,
+        shares-at (shortfall (final total ws cs)) compensations first k,
+        share-le-amount (shortfall (final total ws cs)) compensations first k,
+        shortfall-none total ws cs i some z,
+      )
 
   module _ (is : total ≡ whole compensations) where
     pub cut-le : (k : ℕ) → at (cuts (final total ws cs) compensations first) k ≤ at compensations k
@@ -57,7 +59,7 @@ module _ (total : ℕ) (ws cs compensations : List ℕ) (first : ℕ) where
 
     pub balance : (0 < length compensations → first < length compensations) → (0 < length ws → first < length ws)
         → whole (payments ws cs (final total ws cs) first)
-          ≡ sumTo (length compensations) (λ k. at compensations k - at (cuts (final total ws cs) compensations first) k)
+        ≡ sumTo (length compensations) (λ k. at compensations k - at (cuts (final total ws cs) compensations first) k)
     balance inside inside′ = omega (arith, kept, paid-total total ws cs first inside′, cuts-total inside)
       where
         kept : sumTo (length compensations) (λ k. at compensations k - at (cuts (final total ws cs) compensations first) k)
@@ -65,9 +67,9 @@ module _ (total : ℕ) (ws cs compensations : List ℕ) (first : ℕ) where
         kept =
             unfold whole in
             ap (λ (n : ℕ). sumTo (length compensations) (λ k. at compensations k - at (cuts (final total ws cs) compensations first) k)
-              + sumTo n (at (cuts (final total ws cs) compensations first))) cuts-length
+            + sumTo n (at (cuts (final total ws cs) compensations first))) cuts-length
             ∙ sym (sum-add (length compensations) (λ k. at compensations k - at (cuts (final total ws cs) compensations first) k)
-              (at (cuts (final total ws cs) compensations first)))
+            (at (cuts (final total ws cs) compensations first)))
             ∙ sum-same (length compensations)
-              (λ k. at compensations k - at (cuts (final total ws cs) compensations first) k + at (cuts (final total ws cs) compensations first) k)
-              (at compensations) (λ k l. omega (arith, cut-le k))
+            (λ k. at compensations k - at (cuts (final total ws cs) compensations first) k + at (cuts (final total ws cs) compensations first) k)
+            (at compensations) (λ k l. omega (arith, cut-le k))

@@ -6,6 +6,7 @@
 --     paid-none          weight 0 pays 0
 --     paid-total         payments and shortfall together are the total
 --     paid-le-cap        nobody pays above its cap, rounded fen included
+--     payment-le-cap     the same of the column
 --     open-rate-over, open-rate-short     an open payer pays within a fen of the common rate
 --     closed-caps        the caps of the closed are at most the total
 --     shortfall-none     somebody of weight above 0 is open: the shortfall is 0
@@ -13,25 +14,25 @@
 --     all-capped         every payer of weight above 0 closed: the shortfall is the total less their caps
 --     shortfall-le       the shortfall is at most the total
 -- Assumes nothing.
-use Prim.Native.Nat.{ℕ, zero, suc, _+_, _-_, _*_, _≤_, _<_}
+use Prim.Native.Nat.{ℕ, _+_, _-_, _*_, _≤_, _<_}
 use mathlib.Core.Path.{_≡_, refl, ap, sym, _∙_}
 use mathlib.Core.Logic.{⊎-elim}
-use mathlib.Core.Bool.{Bool, true, false, cond, _&&_, not}
+use mathlib.Core.Bool.{Bool, true, false, cond}
 use mathlib.Core.List.{List}
-use native.Mathlib.Nat.{eq-zero-or-pos, le-refl}
+use native.Mathlib.Nat.{eq-zero-or-pos}
 use native.Mathlib.Omega.{arith}
-use lib.Dec.{leb, ltb, eqb}
+use lib.Dec.{eqb}
 use lib.ListN.{length, List·getD-eq-default}
-use borrow.Author.Tests.{eq-eqb, ne-eqb, eqb-true, eqb-false}
-use Rattle.columns.specs.Sum.{bit, sumTo, countTo, sumWhere}
-use Rattle.columns.specs.Table.{at, table, Below}
+use borrow.Author.Tests.{eq-eqb, ne-eqb}
+use Rattle.columns.specs.Sum.{sumTo, sumWhere}
+use Rattle.columns.specs.Table.{at}
 use Rattle.columns.proofs.Sum.{lt-or-le, sum-same, sum-add, sum-zero}
 use Rattle.columns.proofs.Table.{table-length, table-at, table-past}
-use Rattle.columns.proofs.Rank.{test-or}
 use Rattle.share.specs.Share.{whole, share, shares}
 use Rattle.share.proofs.Laws.{share-none, share-zero, share-under, share-near-over, share-near-short, shares-sum, shares-length, shares-at}
 use Rattle.levy.specs.Rounds.{Standing, final, openWeights, paid, payments, shortfall}
-use Rattle.levy.proofs.Step.{Sound, unmarked, marked, inside-weight, final-sound}
+use Rattle.levy.specs.Capped.{marked, capsOf}
+use Rattle.levy.proofs.Step.{Sound, sound-caps, final-sound}
 use Rattle.levy.proofs.Rate.{open-owe, open-weight, weight-closed, closed-weight}
 
 -- the open weights by position
@@ -40,8 +41,8 @@ unfolding openWeights
 open-at ws st i =
     ⊎-elim (λ (l : i < length ws). table-at 0 (length ws) (λ k. cond (eqb (at (st .marks) k) 0) (at ws k) 0) i l)
     (λ (l : length ws ≤ i).
-      table-past 0 (length ws) (λ k. cond (eqb (at (st .marks) k) 0) (at ws k) 0) i l
-      ∙ (rw (List·getD-eq-default ws 0 l) (sym (same (eqb (at (st .marks) i) 0)))))
+    table-past 0 (length ws) (λ k. cond (eqb (at (st .marks) k) 0) (at ws k) 0) i l
+    ∙ (rw (List·getD-eq-default ws 0 l) (sym (same (eqb (at (st .marks) i) 0)))))
     (lt-or-le i (length ws))
   where
     same : (t : Bool) → _≡_ {A = ℕ} (cond t 0 0) 0
@@ -78,8 +79,8 @@ module _ (total : ℕ) (ws cs : List ℕ) (st : Standing) (s : Sound total ws cs
   paid-none first i e =
       ⊎-elim
       (λ (z : at (st .marks) i ≡ 0).
-        paid-open first i z
-        ∙ share-zero (st .money) (openWeights ws st) first i (open-at ws st i ∙ rw (eq-eqb (at (st .marks) i) 0 z) e))
+      paid-open first i z
+      ∙ share-zero (st .money) (openWeights ws st) first i (open-at ws st i ∙ rw (eq-eqb (at (st .marks) i) 0 z) e))
       (λ (up : 0 < at (st .marks) i). absurd (omega (arith, s .payers i up))) (eq-zero-or-pos (at (st .marks) i))
 
   pub payments-length : (first : ℕ) → length (payments ws cs st first) ≡ length ws
@@ -101,8 +102,8 @@ module _ (total : ℕ) (ws cs : List ℕ) (st : Standing) (s : Sound total ws cs
       ⊎-elim
       (λ (e : st .weight ≡ 0). rw (eq-eqb (st .weight) 0 e) (omega (arith, none e)))
       (λ (some : 0 < st .weight).
-        rw (ne-eqb (st .weight) 0 (omega arith))
-        (omega (arith, shares-sum (st .money) (openWeights ws st) first (omega (arith, open-whole)) (rw (open-length ws st) inside))))
+      rw (ne-eqb (st .weight) 0 (omega arith))
+      (omega (arith, shares-sum (st .money) (openWeights ws st) first (omega (arith, open-whole)) (rw (open-length ws st) inside))))
       (eq-zero-or-pos (st .weight))
     where
       none : st .weight ≡ 0 → whole (shares (st .money) (openWeights ws st) first) ≡ 0
@@ -118,18 +119,19 @@ module _ (total : ℕ) (ws cs : List ℕ) (st : Standing) (s : Sound total ws cs
       each i =
           ⊎-elim (λ (z : at (st .marks) i ≡ 0). rw (eq-eqb (at (st .marks) i) 0 z) (omega (arith, paid-open first i z)))
           (λ (up : 0 < at (st .marks) i).
-            rw (ne-eqb (at (st .marks) i) 0 (omega arith)) (omega (arith, paid-closed first i up, share-closed first i up)))
+          rw (ne-eqb (at (st .marks) i) 0 (omega arith)) (omega (arith, paid-closed first i up, share-closed first i up)))
           (eq-zero-or-pos (at (st .marks) i))
+
       parts : whole (payments ws cs st first) ≡ whole (shares (st .money) (openWeights ws st) first) + sumWhere (length ws) (marked (st .marks)) (at cs)
       parts =
           unfold whole sumWhere in
           ap (λ (n : ℕ). sumTo n (at (payments ws cs st first))) (payments-length first)
           ∙ sum-same (length ws) (at (payments ws cs st first))
-            (λ i. at (shares (st .money) (openWeights ws st) first) i + cond (marked (st .marks) i) (at cs i) 0)
-            (λ i l. payments-at first i ∙ each i ∙ ap (λ (x : ℕ). x + cond (marked (st .marks) i) (at cs i) 0) (sym (shares-at (st .money) (openWeights ws st) first i)))
+          (λ i. at (shares (st .money) (openWeights ws st) first) i + cond (marked (st .marks) i) (at cs i) 0)
+          (λ i l. payments-at first i ∙ each i ∙ ap (λ (x : ℕ). x + cond (marked (st .marks) i) (at cs i) 0) (sym (shares-at (st .money) (openWeights ws st) first i)))
           ∙ sum-add (length ws) (at (shares (st .money) (openWeights ws st) first)) (λ i. cond (marked (st .marks) i) (at cs i) 0)
           ∙ ap (λ (n : ℕ). sumTo n (at (shares (st .money) (openWeights ws st) first)) + sumTo (length ws) (λ i. cond (marked (st .marks) i) (at cs i) 0))
-            (sym (shares-length (st .money) (openWeights ws st) first ∙ open-length ws st))
+          (sym (shares-length (st .money) (openWeights ws st) first ∙ open-length ws st))
 
   pub sound-shortfall : shortfall st ≤ total
   unfolding shortfall
@@ -149,12 +151,15 @@ module _ (total : ℕ) (ws cs : List ℕ) (first : ℕ) where
       let s = final-sound total ws cs in
       ⊎-elim
       (λ (z : at (st .marks) i ≡ 0). ⊎-elim (λ (e : at ws i ≡ 0). omega (arith, paid-none total ws cs st s first i e))
-        (λ (some : 0 < at ws i).
-          rw (paid-open total ws cs st s first i z)
-          (share-under (st .money) (openWeights ws st) first i (at cs i)
-            (rw (open-whole total ws cs st s, open-at ws st i, eq-eqb (at (st .marks) i) 0 z) (open-owe total ws cs i z some))))
-        (eq-zero-or-pos (at ws i)))
+      (λ (some : 0 < at ws i).
+      rw (paid-open total ws cs st s first i z)
+      (share-under (st .money) (openWeights ws st) first i (at cs i)
+      (rw (open-whole total ws cs st s, open-at ws st i, eq-eqb (at (st .marks) i) 0 z) (open-owe total ws cs i z some))))
+      (eq-zero-or-pos (at ws i)))
       (λ (up : 0 < at (st .marks) i). omega (arith, paid-closed total ws cs st s first i up)) (eq-zero-or-pos (at (st .marks) i))
+
+  pub payment-le-cap : (i : ℕ) → at (payments ws cs (final total ws cs) first) i ≤ at cs i
+  payment-le-cap i = omega (arith, payments-at total ws cs (final total ws cs) (final-sound total ws cs) first i, paid-le-cap i)
 
   -- the payment of an open payer is the money times its weight over the open weight, off by less than one
   pub open-rate-over : (i : ℕ) → at (final total ws cs .marks) i ≡ 0 → 0 < at ws i
@@ -174,19 +179,15 @@ module _ (total : ℕ) (ws cs : List ℕ) (first : ℕ) where
       rw (paid-open total ws cs st s first i z) (rw (open-whole total ws cs st s, open-at ws st i, eq-eqb (at (st .marks) i) 0 z) at near)
 
 module _ (total : ℕ) (ws cs : List ℕ) where
-  -- the caps of all that closed, added up
-  unfoldable pub capsClosed : ℕ
-  capsClosed = sumWhere (length ws) (marked (final total ws cs .marks)) (at cs)
+  pub closed-caps : capsOf ws cs (marked (final total ws cs .marks)) ≤ total
+  closed-caps = omega (arith, sound-caps total ws cs (final total ws cs) (final-sound total ws cs))
 
-  pub closed-caps : capsClosed ≤ total
-  unfolding capsClosed
-  closed-caps = omega (arith, final-sound total ws cs .money-is)
-
-  pub all-capped : ((i : ℕ) → 0 < at ws i → 0 < at (final total ws cs .marks) i) → shortfall (final total ws cs) ≡ total - capsClosed
-  unfolding shortfall capsClosed
+  pub all-capped : ((i : ℕ) → 0 < at ws i → 0 < at (final total ws cs .marks) i)
+      → shortfall (final total ws cs) ≡ total - capsOf ws cs (marked (final total ws cs .marks))
+  unfolding shortfall
   all-capped all =
       rw (eq-eqb (final total ws cs .weight) 0 (closed-weight total ws cs (final total ws cs) (final-sound total ws cs) all))
-      (omega (arith, final-sound total ws cs .money-is))
+      (omega (arith, sound-caps total ws cs (final total ws cs) (final-sound total ws cs)))
 
   pub shortfall-none : (i : ℕ) → 0 < at ws i → at (final total ws cs .marks) i ≡ 0 → shortfall (final total ws cs) ≡ 0
   unfolding shortfall

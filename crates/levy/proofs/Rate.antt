@@ -10,24 +10,23 @@
 --     weight-closed    no weight is left: every payer of weight above 0 has closed
 --     closed-weight    every payer of weight above 0 has closed: no weight is left
 -- Assumes nothing.
-use Prim.Native.Nat.{ℕ, zero, suc, _+_, _-_, _*_, _≤_, _<_}
-use mathlib.Core.Path.{_≡_, refl, ap, sym, _∙_}
+use Prim.Native.Nat.{ℕ, suc, _+_, _*_, _≤_, _<_}
+use mathlib.Core.Path.{_≡_, refl, _∙_}
 use mathlib.Core.Logic.{⊎-elim}
-use mathlib.Core.Bool.{Bool, true, false, cond, _&&_, not}
+use mathlib.Core.Bool.{Bool, true, false, cond}
 use mathlib.Core.List.{List}
-use native.Mathlib.Nat.{eq-zero-or-pos, le-refl, mul-le-mul-left, mul-le-mul-right, le-of-mul-le-mul-right}
+use native.Mathlib.Nat.{eq-zero-or-pos, le-refl, mul-le-mul-right, le-of-mul-le-mul-right}
 use native.Mathlib.Omega.{arith}
-use lib.Dec.{leb, ltb, eqb}
+use lib.Dec.{leb}
 use lib.ListN.{length, List·getD-eq-default}
-use borrow.Author.Tests.{lt-ltb, le-leb, leb-false, eq-eqb, ne-eqb, eqb-true, eqb-false}
-use Rattle.columns.specs.Sum.{bit, sumTo, countTo, sumWhere}
-use Rattle.columns.specs.Table.{at, table, Below}
+use borrow.Author.Tests.{lt-ltb, leb-false, eq-eqb, eqb-true}
+use Rattle.columns.specs.Table.{at}
 use Rattle.columns.proofs.Sum.{lt-or-le, count-some}
 use Rattle.columns.proofs.Mask.{where-zero, where-term}
 use Rattle.columns.proofs.Rank.{test-or}
 use Rattle.share.specs.Share.{whole}
-use Rattle.levy.specs.Rounds.{Standing, isOpen, opens, closes, closed, next, run, opening, final}
-use Rattle.levy.proofs.Step.{Sound, unmarked, marked, run-keeps, closed-cross, closed-caps-le, closed-weights-le, closes-owe, mark-next, mark-past, next-money, next-weight, next-sound, opening-sound, opening-mark, final-ends, inside-weight}
+use Rattle.levy.specs.Rounds.{Standing, closes, closed, next, run, opening, final}
+use Rattle.levy.proofs.Step.{Sound, unmarked, run-keeps, closed-cross, closed-caps-le, closed-weights-le, closes-owe, mark-next, mark-past, next-money, next-weight, next-sound, opening-sound, opening-mark, final-ends, inside-weight}
 
 -- the step in plain numbers: caps a and weights b close, whose rate is at most the money's
 fall : (R W r w a b : ℕ) → R ≡ r + a → W ≡ w + b → a * W ≤ R * b → R * w ≤ r * W
@@ -63,7 +62,7 @@ module _ (total : ℕ) (ws cs : List ℕ) where
         sound = next-sound total ws cs st (h .sound);
         lighter = omega (arith, next-weight ws cs st);
         dearer = chain R W (st .money) (st .weight) (next ws cs st .money) (next ws cs st .weight) (omega (arith, next-weight ws cs st)) (h .dearer)
-          (rate-kept st (h .sound));
+            (rate-kept st (h .sound));
       }
 
   pub rate-run : (f : ℕ) (st : Standing) → Sound total ws cs st → st .money * run f ws cs st .weight ≤ run f ws cs st .money * st .weight
@@ -79,12 +78,12 @@ module _ (total : ℕ) (ws cs : List ℕ) where
   next-fair st s fair i q =
       ⊎-elim
       (λ (l : i < length ws).
-        let owe : at cs i * st .weight ≤ st .money * at ws i = owed (closes ws cs st i) refl (rw (mark-next ws cs st i l) at q) in
-        ⊎-elim (λ (e : st .weight ≡ 0). let z : next ws cs st .weight ≡ 0 = omega (arith, next-weight ws cs st) in rw z (omega arith))
-        (λ (some : 0 < st .weight).
-          le-of-mul-le-mul-right {k = st .weight}
-          (omega (arith, mul-le-mul-right (next ws cs st .weight) owe, mul-le-mul-right (at ws i) (rate-kept st s))) some)
-        (eq-zero-or-pos (st .weight)))
+      let owe : at cs i * st .weight ≤ st .money * at ws i = owed (closes ws cs st i) refl (rw (mark-next ws cs st i l) at q) in
+      ⊎-elim (λ (e : st .weight ≡ 0). let z : next ws cs st .weight ≡ 0 = omega (arith, next-weight ws cs st) in rw z (omega arith))
+      (λ (some : 0 < st .weight).
+      le-of-mul-le-mul-right {k = st .weight}
+      (omega (arith, mul-le-mul-right (next ws cs st .weight) owe, mul-le-mul-right (at ws i) (rate-kept st s))) some)
+      (eq-zero-or-pos (st .weight)))
       (λ (l : length ws ≤ i). absurd (omega (arith, mark-past ws cs st i l))) (lt-or-le i (length ws))
     where
       owed : (t : Bool) → closes ws cs st i ≡ t → 0 < cond t (suc (st .rounds)) (at (st .marks) i) → at cs i * st .weight ≤ st .money * at ws i
@@ -109,8 +108,11 @@ module _ (total : ℕ) (ws cs : List ℕ) where
   open-owe i e some =
       let st : Standing = final total ws cs in
       ⊎-elim (λ (o : leb (at cs i * st .weight) (st .money * at ws i) ≡ true).
-        absurd (omega (arith, final-ends total ws cs,
-          count-some (length ws) (closes ws cs st) i (inside-weight ws i some) (rw (eq-eqb (at (st .marks) i) 0 e, lt-ltb 0 (at ws i) some) o))))
+      absurd (omega (
+        arith,
+        final-ends total ws cs,
+        count-some (length ws) (closes ws cs st) i (inside-weight ws i some) (rw (eq-eqb (at (st .marks) i) 0 e, lt-ltb 0 (at ws i) some) o),
+      )))
       (λ (o : leb (at cs i * st .weight) (st .money * at ws i) ≡ false). leb-false (at cs i * st .weight) (st .money * at ws i) o)
       (test-or (leb (at cs i * st .weight) (st .money * at ws i)))
 
@@ -128,5 +130,5 @@ module _ (total : ℕ) (ws cs : List ℕ) where
   closed-weight st s all =
       s .weight-is
       ∙ where-zero (length ws) (unmarked (st .marks)) (at ws)
-        (λ i l t. ⊎-elim (λ (z : at ws i ≡ 0). z)
-          (λ (some : 0 < at ws i). absurd (omega (arith, all i some, eqb-true (at (st .marks) i) 0 t))) (eq-zero-or-pos (at ws i)))
+      (λ i l t. ⊎-elim (λ (z : at ws i ≡ 0). z)
+      (λ (some : 0 < at ws i). absurd (omega (arith, all i some, eqb-true (at (st .marks) i) 0 t))) (eq-zero-or-pos (at ws i)))

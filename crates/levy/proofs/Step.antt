@@ -1,5 +1,8 @@
 -- One round, and the run of rounds: what always holds between two rounds, and how `run` goes on and stops.
 --     Sound               how a standing hangs together with total, weights and caps
+--     marked-up, up-marked      who has closed has a mark above 0, and the other way round
+--     sound-caps          the money and the caps of those that closed are the total
+--     sound-weight        the open weight is at most the whole weight
 --     opening-sound       it holds before the first round
 --     next-sound          a round keeps it
 --     run-sound           so does any number of rounds
@@ -29,23 +32,20 @@ use native.Mathlib.Nat.{eq-zero-or-pos, mul-le-mul-left, le-of-mul-le-mul-right}
 use native.Mathlib.Omega.{arith}
 use lib.Dec.{leb, ltb, eqb}
 use lib.ListN.{length, replicate, getD, List·getD-eq-default}
-use borrow.Author.Tests.{lt-ltb, ltb-true, leb-true, eq-eqb, ne-eqb, eqb-true, eqb-false}
-use Rattle.columns.specs.Sum.{bit, sumTo, countTo, sumWhere}
-use Rattle.columns.specs.Table.{at, table, Below}
+use borrow.Author.Tests.{lt-ltb, ltb-true, leb-true, eq-eqb, ne-eqb, eqb-false, not-true}
+use Rattle.columns.specs.Sum.{bit, countTo, sumWhere}
+use Rattle.columns.specs.Table.{at}
 use Rattle.columns.proofs.Sum.{lt-or-le, count-le, count-none}
-use Rattle.columns.proofs.Mask.{where-parts, where-sub, where-none, where-all, where-cross, where-term, count-parts, count-zero}
+use Rattle.columns.proofs.Mask.{where-same, where-parts, where-sub, where-whole, where-none, where-all, where-cross, where-term, count-parts, count-zero}
 use Rattle.columns.proofs.Table.{table-length, table-at, table-past}
 use Rattle.columns.proofs.Rank.{test-or}
 use Rattle.share.specs.Share.{whole}
 use Rattle.levy.specs.Rounds.{Standing, isOpen, opens, closes, closed, next, run, opening, final}
+use Rattle.levy.specs.Capped.{marked, inside, capsOf}
 
--- nobody has closed at position i yet
+-- position i has not closed
 abbrev pub unmarked : List ℕ → ℕ → Bool
 unmarked marks i = eqb (at marks i) 0
-
--- position i has closed
-abbrev pub marked : List ℕ → ℕ → Bool
-marked marks i = not (eqb (at marks i) 0)
 
 pub record Sound (total : ℕ) (ws cs : List ℕ) (st : Standing) : Type 0 where
   pub long : length (st .marks) ≡ length ws
@@ -62,6 +62,18 @@ pub and-right : (s t : Bool) → s && t ≡ true → t ≡ true
 and-right true t e = e
 and-right false true e = refl
 and-right false false e = e
+
+pub and-false : (t : Bool) → t && false ≡ false
+and-false true = refl
+and-false false = refl
+
+-- whoever has closed has a mark above 0, and the other way round
+pub marked-up : (marks : List ℕ) (i : ℕ) → marked marks i ≡ true → 0 < at marks i
+marked-up marks i e =
+    ⊎-elim (λ (z : at marks i ≡ 0). absurd (eqb-false (at marks i) 0 (not-true (eqb (at marks i) 0) e) z)) (λ up. up) (eq-zero-or-pos (at marks i))
+
+pub up-marked : (marks : List ℕ) (i : ℕ) → 0 < at marks i → marked marks i ≡ true
+up-marked marks i up = rw (ne-eqb (at marks i) 0 (omega arith))
 
 -- whoever has weight stands in the column
 pub inside-weight : (ws : List ℕ) (i : ℕ) → 0 < at ws i → i < length ws
@@ -122,7 +134,7 @@ module _ (ws cs : List ℕ) (st : Standing) where
   opens-fall =
       sym
       (count-parts (length ws) (isOpen ws (st .marks)) (isOpen ws (next ws cs st .marks)) (closes ws cs st)
-        (λ i l. rw (mark-next i l) (each i (closes ws cs st i) refl)))
+      (λ i l. rw (mark-next i l) (each i (closes ws cs st i) refl)))
     where
       each : (i : ℕ) (t : Bool) → closes ws cs st i ≡ t
           → bit (eqb (at (st .marks) i) 0 && ltb 0 (at ws i)) ≡ bit (eqb (cond t (suc (st .rounds)) (at (st .marks) i)) 0 && ltb 0 (at ws i)) + bit t
@@ -134,9 +146,9 @@ module _ (ws cs : List ℕ) (st : Standing) where
   closed-nobody e =
       count-none (length ws) (closes ws cs st)
       (λ i l. ⊎-elim
-        (λ (t : closes ws cs st i ≡ true).
-          absurd (omega (arith, closed-is ws, closes-weight i t, where-term (length ws) (closes ws cs st) (at ws) i l t)))
-        (λ t. t) (test-or (closes ws cs st i)))
+      (λ (t : closes ws cs st i ≡ true).
+      absurd (omega (arith, closed-is ws, closes-weight i t, where-term (length ws) (closes ws cs st) (at ws) i l t)))
+      (λ t. t) (test-or (closes ws cs st i)))
 
   pub closed-somebody : (closed ws cs st ws ≡ 0 → ⊥) → 0 < countTo (length ws) (closes ws cs st)
   closed-somebody some =
@@ -178,8 +190,8 @@ run-enough ws cs zero g st l m =
 run-enough ws cs (suc f) g st l m =
     ⊎-elim (λ (e : countTo (length ws) (closes ws cs st) ≡ 0). run-stop ws cs st e (suc f) ∙ sym (run-stop ws cs st e g))
     (λ (some : 0 < countTo (length ws) (closes ws cs st)).
-      sym (run-again ws cs st (run (suc f) ws cs st) some
-        (λ h q. sym (run-more ws cs st some f ∙ run-enough ws cs f h (next ws cs st) (omega (arith, opens-fall ws cs st)) q)) g m))
+    sym (run-again ws cs st (run (suc f) ws cs st) some
+    (λ h q. sym (run-more ws cs st some f ∙ run-enough ws cs f h (next ws cs st) (omega (arith, opens-fall ws cs st)) q)) g m))
     (eq-zero-or-pos (countTo (length ws) (closes ws cs st)))
 
 pub run-ends : (ws cs : List ℕ) (f : ℕ) (st : Standing) → opens ws (st .marks) ≤ f → countTo (length ws) (closes ws cs (run f ws cs st)) ≡ 0
@@ -207,58 +219,89 @@ module _ (total : ℕ) (ws cs : List ℕ) where
   -- the weights that close are at most the open weight
   pub closed-weights-le : (st : Standing) → Sound total ws cs st → closed ws cs st ws ≤ st .weight
   closed-weights-le st s =
-      omega
-      (arith, closed-is ws cs st ws, s .weight-is,
-        where-sub (length ws) (closes ws cs st) (unmarked (st .marks)) (at ws) (λ i l e. closes-unmarked ws cs st i e))
+      omega (
+        arith,
+        closed-is ws cs st ws,
+        s .weight-is,
+        where-sub (length ws) (closes ws cs st) (unmarked (st .marks)) (at ws) (λ i l e. closes-unmarked ws cs st i e),
+      )
 
   -- the caps that close are at most the money
   pub closed-caps-le : (st : Standing) → Sound total ws cs st → closed ws cs st cs ≤ st .money
   closed-caps-le st s =
       ⊎-elim (λ (e : st .weight ≡ 0). omega (arith, none e))
       (λ (some : 0 < st .weight).
-        le-of-mul-le-mul-right {k = st .weight} (omega (arith, closed-cross ws cs st, mul-le-mul-left (st .money) (closed-weights-le st s))) some)
+      le-of-mul-le-mul-right {k = st .weight} (omega (arith, closed-cross ws cs st, mul-le-mul-left (st .money) (closed-weights-le st s))) some)
       (eq-zero-or-pos (st .weight))
     where
       none : st .weight ≡ 0 → closed ws cs st cs ≡ 0
       none e =
           closed-is ws cs st cs
           ∙ where-none (length ws) (closes ws cs st) (at cs)
-            (λ i l. ⊎-elim
-              (λ (t : closes ws cs st i ≡ true).
-                absurd (omega (arith, s .weight-is, closes-weight ws cs st i t, where-term (length ws) (unmarked (st .marks)) (at ws) i l (closes-unmarked ws cs st i t))))
-              (λ t. t) (test-or (closes ws cs st i)))
+          (λ i l. ⊎-elim
+          (λ (t : closes ws cs st i ≡ true).
+          absurd (omega (arith, s .weight-is, closes-weight ws cs st i t, where-term (length ws) (unmarked (st .marks)) (at ws) i l (closes-unmarked ws cs st i t))))
+          (λ t. t) (test-or (closes ws cs st i)))
+
+  -- the open weight is at most the whole weight, however many have closed
+  pub sound-weight : (st : Standing) → Sound total ws cs st → st .weight ≤ whole ws
+  unfolding whole
+  sound-weight st s = omega (arith, s .weight-is, where-whole (length ws) (unmarked (st .marks)) (at ws))
+
+  pub sound-caps : (st : Standing) → Sound total ws cs st → st .money + capsOf ws cs (marked (st .marks)) ≡ total
+  unfolding capsOf
+  sound-caps st s =
+      ap (λ (x : ℕ). st .money + x)
+      (where-same (length ws) (inside ws (marked (st .marks))) (marked (st .marks)) (at cs) (at cs)
+      (λ i l. ⊎-elim
+      (λ (e : marked (st .marks) i ≡ true). rw (lt-ltb 0 (at ws i) (s .payers i (marked-up (st .marks) i e))))
+      (λ (e : marked (st .marks) i ≡ false). rw e (and-false (ltb 0 (at ws i)))) (test-or (marked (st .marks) i)))
+      (λ i l. refl))
+      ∙ s .money-is
 
   pub next-sound : (st : Standing) → Sound total ws cs st → Sound total ws cs (next ws cs st)
   next-sound st s =
       record {
         long = next-long ws cs st;
         weight-is =
-          rw (next-weight ws cs st)
-          (omega (arith, s .weight-is, closed-is ws cs st ws,
-            where-parts (length ws) (unmarked (st .marks)) (unmarked (next ws cs st .marks)) (closes ws cs st) (at ws)
-              (λ i l. rw (mark-next ws cs st i l) (open-part i (closes ws cs st i) refl))));
+            rw (next-weight ws cs st)
+            (omega (
+              arith,
+              s .weight-is,
+              closed-is ws cs st ws,
+              where-parts (length ws) (unmarked (st .marks)) (unmarked (next ws cs st .marks)) (closes ws cs st) (at ws)
+                  (λ i l. rw (mark-next ws cs st i l) (open-part i (closes ws cs st i) refl)),
+            ));
         money-is =
-          rw (next-money ws cs st)
-          (omega (arith, s .money-is, closed-caps-le st s, closed-is ws cs st cs,
-            where-parts (length ws) (marked (next ws cs st .marks)) (marked (st .marks)) (closes ws cs st) (at cs)
-              (λ i l. rw (mark-next ws cs st i l) (shut-part i (closes ws cs st i) refl))));
+            rw (next-money ws cs st)
+            (omega (
+              arith,
+              s .money-is,
+              closed-caps-le st s,
+              closed-is ws cs st cs,
+              where-parts (length ws) (marked (next ws cs st .marks)) (marked (st .marks)) (closes ws cs st) (at cs)
+                  (λ i l. rw (mark-next ws cs st i l) (shut-part i (closes ws cs st i) refl)),
+            ));
         marks-le = λ i. ⊎-elim (λ (l : i < length ws). rw (mark-next ws cs st i l, next-rounds ws cs st) (low i (closes ws cs st i)))
-          (λ (l : length ws ≤ i). omega (arith, mark-past ws cs st i l)) (lt-or-le i (length ws));
+            (λ (l : length ws ≤ i). omega (arith, mark-past ws cs st i l)) (lt-or-le i (length ws));
         payers = λ i. ⊎-elim (λ (l : i < length ws). rw (mark-next ws cs st i l) (weighty i (closes ws cs st i) refl))
-          (λ (l : length ws ≤ i) (q : 0 < at (next ws cs st .marks) i). absurd (omega (arith, mark-past ws cs st i l))) (lt-or-le i (length ws));
+            (λ (l : length ws ≤ i) (q : 0 < at (next ws cs st .marks) i). absurd (omega (arith, mark-past ws cs st i l))) (lt-or-le i (length ws));
       }
     where
       open-part : (i : ℕ) (t : Bool) → closes ws cs st i ≡ t
           → cond (eqb (at (st .marks) i) 0) (at ws i) 0 ≡ cond (eqb (cond t (suc (st .rounds)) (at (st .marks) i)) 0) (at ws i) 0 + cond t (at ws i) 0
       open-part i true e = rw (closes-unmarked ws cs st i e, ne-eqb (suc (st .rounds)) 0 (omega arith)) (omega arith)
       open-part i false e = omega arith
+
       shut-part : (i : ℕ) (t : Bool) → closes ws cs st i ≡ t
           → cond (not (eqb (cond t (suc (st .rounds)) (at (st .marks) i)) 0)) (at cs i) 0 ≡ cond (not (eqb (at (st .marks) i) 0)) (at cs i) 0 + cond t (at cs i) 0
       shut-part i true e = rw (closes-unmarked ws cs st i e, ne-eqb (suc (st .rounds)) 0 (omega arith)) (omega arith)
       shut-part i false e = omega arith
+
       low : (i : ℕ) (t : Bool) → cond t (suc (st .rounds)) (at (st .marks) i) ≤ suc (st .rounds)
       low i true = omega arith
       low i false = omega (arith, s .marks-le i)
+
       weighty : (i : ℕ) (t : Bool) → closes ws cs st i ≡ t → 0 < cond t (suc (st .rounds)) (at (st .marks) i) → 0 < at ws i
       weighty i true e q = closes-weight ws cs st i e
       weighty i false e q = s .payers i q

@@ -5,24 +5,24 @@
 --     capped-unique    a set with the property is the set of those that closed
 -- Two sets are compared by their rates; rounds play no part in it.
 -- Assumes nothing.
-use Prim.Native.Nat.{ℕ, zero, suc, _+_, _-_, _*_, _≤_, _<_}
+use Prim.Native.Nat.{ℕ, zero, _+_, _-_, _*_, _≤_, _<_}
 use mathlib.Core.Path.{_≡_, refl, ap, sym, _∙_, subst}
-use mathlib.Core.Logic.{_⊎_, inl, inr, ⊎-elim}
+use mathlib.Core.Logic.{⊎-elim}
 use mathlib.Core.Bool.{Bool, true, false, cond, _&&_, not}
 use mathlib.Core.List.{List}
-use native.Mathlib.Nat.{eq-zero-or-pos, le-refl, mul-le-mul-left, mul-le-mul-right, le-of-mul-le-mul-right}
+use native.Mathlib.Nat.{eq-zero-or-pos, mul-le-mul-right, le-of-mul-le-mul-right}
 use native.Mathlib.Omega.{arith}
-use lib.Dec.{T, leb, ltb, eqb}
+use lib.Dec.{T, ltb}
 use lib.ListN.{length}
-use borrow.Author.Tests.{lt-ltb, le-ltb, ltb-true, eq-eqb, ne-eqb, eqb-true, eqb-false, not-true, not-false}
-use Rattle.columns.specs.Sum.{bit, sumTo, countTo, sumWhere}
-use Rattle.columns.specs.Table.{at, table, Below}
+use borrow.Author.Tests.{lt-ltb, ltb-true, eqb-true, not-true, not-false}
+use Rattle.columns.specs.Sum.{countTo, sumWhere}
+use Rattle.columns.specs.Table.{at}
 use Rattle.columns.proofs.Sum.{lt-or-le, sum-same, count-some}
-use Rattle.columns.proofs.Mask.{where-same, where-parts, where-zero, where-term, where-cross, where-cross-lt}
+use Rattle.columns.proofs.Mask.{where-parts, where-zero, where-term, where-cross, where-cross-lt}
 use Rattle.columns.proofs.Rank.{test-or}
-use Rattle.levy.specs.Rounds.{Standing, final}
-use Rattle.levy.specs.Capped.{inside, outside, capsOf, leftBy, weightsBeside, Capped}
-use Rattle.levy.proofs.Step.{Sound, unmarked, marked, and-left, and-right, inside-weight, final-sound}
+use Rattle.levy.specs.Rounds.{final}
+use Rattle.levy.specs.Capped.{marked, inside, outside, capsOf, leftBy, weightsBeside, Capped}
+use Rattle.levy.proofs.Step.{unmarked, and-left, and-right, inside-weight, marked-up, sound-caps, final-sound}
 use Rattle.levy.proofs.Rate.{capped-owe, open-owe}
 
 both : (s t : Bool) → s ≡ true → t ≡ true → s && t ≡ true
@@ -47,8 +47,8 @@ unfolding weightsBeside
 beside-none ws p z i =
     ⊎-elim
     (λ (o : outside ws p i ≡ true).
-      let some : 0 < at ws i = ltb-true 0 (at ws i) (and-left (ltb 0 (at ws i)) (not (p i)) o) in
-      absurd (omega (arith, where-term (length ws) (outside ws p) (at ws) i (inside-weight ws i some) o)))
+    let some : 0 < at ws i = ltb-true 0 (at ws i) (and-left (ltb 0 (at ws i)) (not (p i)) o) in
+    absurd (omega (arith, where-term (length ws) (outside ws p) (at ws) i (inside-weight ws i some) o)))
     (λ e. e) (test-or (outside ws p i))
 
 -- a larger set: what it has more, as numbers
@@ -78,9 +78,9 @@ module _ (total : ℕ) (ws cs : List ℕ) where
       ⊎-elim
       (λ (z : weightsBeside ws p ≡ 0). h .all (beside-none ws p z))
       (λ (some : 0 < weightsBeside ws p).
-        ⊎-elim
-        (λ (over : total < capsOf ws cs p). absurd (omega (arith, zero-caps some over)))
-        (λ (fits : capsOf ws cs p ≤ total). fits) (lt-or-le total (capsOf ws cs p)))
+      ⊎-elim
+      (λ (over : total < capsOf ws cs p). absurd (omega (arith, zero-caps some over)))
+      (λ (fits : capsOf ws cs p ≤ total). fits) (lt-or-le total (capsOf ws cs p)))
       (eq-zero-or-pos (weightsBeside ws p))
     where
       zero-caps : 0 < weightsBeside ws p → total < capsOf ws cs p → capsOf ws cs p ≡ 0
@@ -88,10 +88,10 @@ module _ (total : ℕ) (ws cs : List ℕ) where
           unfold capsOf in
           where-zero (length ws) (inside ws p) (at cs)
           (λ i l e.
-            let z : total - capsOf ws cs p ≡ 0 = omega arith in
-            let low : at cs i * weightsBeside ws p ≤ 0 * at ws i = rw z at (h .enough i e) in
-            let c : at cs i ≤ 0 = le-of-mul-le-mul-right {k = weightsBeside ws p} (omega arith) some in
-            omega arith)
+          let z : total - capsOf ws cs p ≡ 0 = omega arith in
+          let low : at cs i * weightsBeside ws p ≤ 0 * at ws i = rw z at (h .enough i e) in
+          let c : at cs i ≤ 0 = le-of-mul-le-mul-right {k = weightsBeside ws p} (omega arith) some in
+          omega arith)
 
   -- of two sets with the property, neither is larger
   module _ (p q : ℕ → Bool) (hp : Capped total ws cs p) (hq : Capped total ws cs q) (sub : (i : ℕ) → inside ws p i ≡ true → q i ≡ true) where
@@ -137,8 +137,8 @@ module _ (total : ℕ) (ws cs : List ℕ) where
     same-payers i some =
         ⊎-elim (λ (e : p i ≡ true). e ∙ sym (sub i (in-set (at ws i) (p i) some e)))
         (λ (e : p i ≡ false). ⊎-elim
-          (λ (f : q i ≡ true). absurd (omega (arith, none-more, count-some (length ws) (more p q ws) i (inside-weight ws i some) (is-more e f))))
-          (λ (f : q i ≡ false). e ∙ sym f) (test-or (q i)))
+        (λ (f : q i ≡ true). absurd (omega (arith, none-more, count-some (length ws) (more p q ws) i (inside-weight ws i some) (is-more e f))))
+        (λ (f : q i ≡ false). e ∙ sym f) (test-or (q i)))
         (test-or (p i))
       where
         is-more : p i ≡ false → q i ≡ true → more p q ws i ≡ true
@@ -150,9 +150,13 @@ module _ (total : ℕ) (ws cs : List ℕ) where
   rate-inside p q hp hq some rate i e =
       ⊎-elim (λ (f : q i ≡ true). f)
       (λ (f : q i ≡ false).
-        let up : 0 < at ws i = ltb-true 0 (at ws i) (and-left (ltb 0 (at ws i)) (p i) e) in
-        absurd (omega (arith, mul-le-mul-right (weightsBeside ws q) (hp .enough i e), mul-le-mul-right (at ws i) rate,
-          mul-le-mul-right (weightsBeside ws p) (hq .less i (beside (at ws i) (q i) up f)))))
+      let up : 0 < at ws i = ltb-true 0 (at ws i) (and-left (ltb 0 (at ws i)) (p i) e) in
+      absurd (omega (
+        arith,
+        mul-le-mul-right (weightsBeside ws q) (hp .enough i e),
+        mul-le-mul-right (at ws i) rate,
+        mul-le-mul-right (weightsBeside ws p) (hq .less i (beside (at ws i) (q i) up f)),
+      )))
       (test-or (q i))
 
   -- a set with nobody beside it has everybody
@@ -166,14 +170,14 @@ module _ (total : ℕ) (ws cs : List ℕ) where
       ⊎-elim
       (λ (z : weightsBeside ws p ≡ 0). sym (same-payers q p hq hp (λ k e. everybody p z k (payer k (q k) e)) i some))
       (λ (u : 0 < weightsBeside ws p). ⊎-elim
-        (λ (z : weightsBeside ws q ≡ 0). same-payers p q hp hq (λ k e. everybody q z k (payer k (p k) e)) i some)
-        (λ (v : 0 < weightsBeside ws q). ⊎-elim
-          (λ (m : leftBy total ws cs p * weightsBeside ws q < leftBy total ws cs q * weightsBeside ws p).
-            same-payers p q hp hq (rate-inside p q hp hq u (omega arith)) i some)
-          (λ (m : leftBy total ws cs q * weightsBeside ws p ≤ leftBy total ws cs p * weightsBeside ws q).
-            sym (same-payers q p hq hp (rate-inside q p hq hp v m) i some))
-          (lt-or-le (leftBy total ws cs p * weightsBeside ws q) (leftBy total ws cs q * weightsBeside ws p)))
-        (eq-zero-or-pos (weightsBeside ws q)))
+      (λ (z : weightsBeside ws q ≡ 0). same-payers p q hp hq (λ k e. everybody q z k (payer k (p k) e)) i some)
+      (λ (v : 0 < weightsBeside ws q). ⊎-elim
+      (λ (m : leftBy total ws cs p * weightsBeside ws q < leftBy total ws cs q * weightsBeside ws p).
+      same-payers p q hp hq (rate-inside p q hp hq u (omega arith)) i some)
+      (λ (m : leftBy total ws cs q * weightsBeside ws p ≤ leftBy total ws cs p * weightsBeside ws q).
+      sym (same-payers q p hq hp (rate-inside q p hq hp v m) i some))
+      (lt-or-le (leftBy total ws cs p * weightsBeside ws q) (leftBy total ws cs q * weightsBeside ws p)))
+      (eq-zero-or-pos (weightsBeside ws q)))
       (eq-zero-or-pos (weightsBeside ws p))
     where
       payer : (k : ℕ) (t : Bool) → ltb 0 (at ws k) && t ≡ true → 0 < at ws k
@@ -183,28 +187,9 @@ module _ (total : ℕ) (ws cs : List ℕ) where
   abbrev closers : ℕ → Bool
   closers = marked (final total ws cs .marks)
 
-  closers-up : (i : ℕ) → closers i ≡ true → 0 < at (final total ws cs .marks) i
-  closers-up i e =
-      ⊎-elim
-      (λ (z : at (final total ws cs .marks) i ≡ 0). absurd (eqb-false (at (final total ws cs .marks) i) 0 (not-true (eqb (at (final total ws cs .marks) i) 0) e) z))
-      (λ up. up) (eq-zero-or-pos (at (final total ws cs .marks) i))
-
-  closers-caps : capsOf ws cs closers ≡ sumWhere (length ws) closers (at cs)
-  unfolding capsOf
-  closers-caps =
-      where-same (length ws) (inside ws closers) closers (at cs) (at cs)
-      (λ i l. ⊎-elim
-        (λ (e : closers i ≡ true). in-set (at ws i) (closers i) (final-sound total ws cs .payers i (closers-up i e)) e ∙ sym e)
-        (λ (e : closers i ≡ false). rw e (and-false (ltb 0 (at ws i)))) (test-or (closers i)))
-      (λ i l. refl)
-    where
-      and-false : (t : Bool) → t && false ≡ false
-      and-false true = refl
-      and-false false = refl
-
   closers-left : leftBy total ws cs closers ≡ final total ws cs .money
   unfolding leftBy
-  closers-left = omega (arith, closers-caps, final-sound total ws cs .money-is)
+  closers-left = omega (arith, sound-caps total ws cs (final total ws cs) (final-sound total ws cs))
 
   closers-beside : weightsBeside ws closers ≡ final total ws cs .weight
   unfolding weightsBeside sumWhere
@@ -220,6 +205,7 @@ module _ (total : ℕ) (ws cs : List ℕ) where
           zero : (t : Bool) → _≡_ {A = ℕ} (cond (ltb 0 0 && not (not t)) 0 0) (cond t 0 0)
           zero true = refl
           zero false = refl
+
           twice : (t : Bool) → cond (not (not t)) w 0 ≡ cond t w 0
           twice true = refl
           twice false = refl
@@ -228,10 +214,10 @@ module _ (total : ℕ) (ws cs : List ℕ) where
   final-capped =
       record {
         less = λ i e. rw (closers-left, closers-beside)
-          (open-owe total ws cs i (eqb-true (at (final total ws cs .marks) i) 0 (not-false (unmarked (final total ws cs .marks) i) (beside-is (at ws i) (closers i) e)))
+            (open-owe total ws cs i (eqb-true (at (final total ws cs .marks) i) 0 (not-false (unmarked (final total ws cs .marks) i) (beside-is (at ws i) (closers i) e)))
             (ltb-true 0 (at ws i) (and-left (ltb 0 (at ws i)) (not (closers i)) e)));
-        enough = λ i e. rw (closers-left, closers-beside) (capped-owe total ws cs i (closers-up i (in-set-is (at ws i) (closers i) e)));
-        all = λ none. omega (arith, closers-caps, final-sound total ws cs .money-is);
+        enough = λ i e. rw (closers-left, closers-beside) (capped-owe total ws cs i (marked-up (final total ws cs .marks) i (in-set-is (at ws i) (closers i) e)));
+        all = λ none. omega (arith, sound-caps total ws cs (final total ws cs) (final-sound total ws cs));
       }
 
   pub capped-unique : (p : ℕ → Bool) → Capped total ws cs p → (i : ℕ) → 0 < at ws i → p i ≡ marked (final total ws cs .marks) i

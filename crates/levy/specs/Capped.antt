@@ -4,10 +4,14 @@ use Prim.Native.Nat.{ℕ, _-_, _*_, _≤_, _<_}
 use mathlib.Core.Path.{_≡_}
 use mathlib.Core.Bool.{Bool, true, false, _&&_, not}
 use mathlib.Core.List.{List}
-use lib.Dec.{ltb}
+use lib.Dec.{ltb, eqb}
 use lib.ListN.{length}
 use Rattle.columns.specs.Sum.{sumWhere}
 use Rattle.columns.specs.Table.{at}
+
+-- the set of those that have closed, by their marks
+abbrev pub marked : List ℕ → ℕ → Bool
+marked marks i = not (eqb (at marks i) 0)
 
 -- a payer in the set
 abbrev pub inside : List ℕ → (ℕ → Bool) → ℕ → Bool

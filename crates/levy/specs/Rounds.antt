@@ -21,7 +21,11 @@ pub record Standing : Type 0 where
 abbrev pub isOpen : List ℕ → List ℕ → ℕ → Bool
 isOpen ws marks i = eqb (at marks i) 0 && ltb 0 (at ws i)
 
--- how many payers are open
+-- how many payers there are: positions with weight
+unfoldable pub payers : List ℕ → ℕ
+payers ws = countTo (length ws) (λ i. ltb 0 (at ws i))
+
+-- how many of them are open
 unfoldable pub opens : List ℕ → List ℕ → ℕ
 opens ws marks = countTo (length ws) (isOpen ws marks)
 
