@@ -2,6 +2,7 @@
 --     Counted            rounds and open payers together are at most the payers; each round has somebody who closed in it
 --     opening-counted    it holds before the first round
 --     next-counted       a round in which somebody closes keeps it
+--     final-counted      it holds after the last round
 --     rounds-count       the rounds are at most the payers of weight above 0
 --     marks-rounds       no closing round is above the number of rounds
 --     round-somebody     somebody closed in each round
@@ -69,26 +70,30 @@ module _ (ws cs : List ℕ) (st : Standing) where
           found
 
 module _ (total : ℕ) (ws cs : List ℕ) where
-  pub final-counted : Counted ws (final total ws cs)
+  -- how things stand after the last round
+  abbrev end : Standing
+  end = final total ws cs
+
+  pub final-counted : Counted ws end
   unfolding final
   final-counted = run-keeps ws cs (Counted ws) (next-counted ws cs) (length ws) (opening total ws) (opening-counted total ws)
 
-  pub rounds-count : final total ws cs .rounds ≤ payers ws
+  pub rounds-count : end .rounds ≤ payers ws
   rounds-count = omega (arith, final-counted .early)
 
-  pub marks-rounds : (i : ℕ) → at (final total ws cs .marks) i ≤ final total ws cs .rounds
+  pub marks-rounds : (i : ℕ) → at (end .marks) i ≤ end .rounds
   marks-rounds i = final-sound total ws cs .marks-le i
 
-  pub round-somebody : (r : ℕ) → 0 < r → r ≤ final total ws cs .rounds → (i : ℕ) × (i < length ws) × (at (final total ws cs .marks) i ≡ r)
+  pub round-somebody : (r : ℕ) → 0 < r → r ≤ end .rounds → (i : ℕ) × (i < length ws) × (at (end .marks) i ≡ r)
   round-somebody r up le = final-counted .somebody r up le
 
-  pub rounds-max : final total ws cs .rounds ≡ maxTo (length ws) (at (final total ws cs .marks))
+  pub rounds-max : end .rounds ≡ maxTo (length ws) (at (end .marks))
   rounds-max =
-      ⊎-elim (λ (e : final total ws cs .rounds ≡ 0). omega (arith, bound))
-      (λ (up : 0 < final total ws cs .rounds).
-      let w = round-somebody (final total ws cs .rounds) up (le-refl (final total ws cs .rounds)) in
-      omega (arith, bound, w .2, max-term (length ws) (at (final total ws cs .marks)) (w .0) (w .1)))
-      (eq-zero-or-pos (final total ws cs .rounds))
+      ⊎-elim (λ (e : end .rounds ≡ 0). omega (arith, bound))
+      (λ (up : 0 < end .rounds).
+      let w = round-somebody (end .rounds) up (le-refl (end .rounds)) in
+      omega (arith, bound, w .2, max-term (length ws) (at (end .marks)) (w .0) (w .1)))
+      (eq-zero-or-pos (end .rounds))
     where
-      bound : maxTo (length ws) (at (final total ws cs .marks)) ≤ final total ws cs .rounds
-      bound = max-bound (length ws) (final total ws cs .rounds) (at (final total ws cs .marks)) (λ i l. marks-rounds i)
+      bound : maxTo (length ws) (at (end .marks)) ≤ end .rounds
+      bound = max-bound (length ws) (end .rounds) (at (end .marks)) (λ i l. marks-rounds i)

@@ -2,6 +2,7 @@
 --     cuts-total      the cuts add up to the shortfall
 --     cut-le          no cut is above its compensation
 --     cuts-none       somebody of weight above 0 is open: nobody is cut
+--     cut-capped      somebody is cut: every payer of weight above 0 closed
 --     cuts-length     as many cuts as compensations
 --     balance         what is paid is what receivers keep
 -- Assumes nothing.
@@ -14,62 +15,55 @@ use native.Mathlib.Omega.{arith}
 use lib.ListN.{length}
 use Rattle.columns.specs.Sum.{sumTo}
 use Rattle.columns.specs.Table.{at}
-use Rattle.columns.proofs.Sum.{sum-same, sum-add, sum-zero}
-use Rattle.share.specs.Share.{whole, shares}
-use Rattle.share.proofs.Laws.{share-le-amount, share-le-weight, shares-sum, shares-length, shares-at}
+use Rattle.columns.proofs.Sum.{sum-same, sum-add}
+use Rattle.share.specs.Share.{whole, share}
+use Rattle.share.proofs.Laws.{share-le-amount, share-le-weight, shares-sum, shares-length, shares-at, shares-are-weights}
 use Rattle.levy.specs.Rounds.{final, payments, shortfall, cuts}
-use Rattle.levy.proofs.Payment.{paid-total, shortfall-none, shortfall-le}
+use Rattle.levy.proofs.Payment.{paid-total, shortfall-none, shortfall-all, shortfall-le}
 
 module _ (total : ℕ) (ws cs compensations : List ℕ) (first : ℕ) where
-  pub cuts-length : length (cuts (final total ws cs) compensations first) ≡ length compensations
-  unfolding cuts
-  cuts-length = shares-length (shortfall (final total ws cs)) compensations first
+  -- the shortfall after the last round, and the cuts
+  abbrev short : ℕ
+  short = shortfall (final total ws cs)
 
-  pub cuts-none : (i : ℕ) → 0 < at ws i → at (final total ws cs .marks) i ≡ 0 → (k : ℕ) → at (cuts (final total ws cs) compensations first) k ≡ 0
+  abbrev taken : List ℕ
+  taken = cuts (final total ws cs) compensations first
+
+  cut-share : (k : ℕ) → at taken k ≡ share short compensations first k
   unfolding cuts
-  cuts-none i some z k =
-      omega (
-        arith,
-        shares-at (shortfall (final total ws cs)) compensations first k,
-        share-le-amount (shortfall (final total ws cs)) compensations first k,
-        shortfall-none total ws cs i some z,
-      )
+  cut-share = shares-at short compensations first
+
+  pub cuts-length : length taken ≡ length compensations
+  unfolding cuts
+  cuts-length = shares-length short compensations first
+
+  pub cuts-none : (i : ℕ) → 0 < at ws i → at (final total ws cs .marks) i ≡ 0 → (k : ℕ) → at taken k ≡ 0
+  cuts-none i some z k = omega (arith, cut-share k, share-le-amount short compensations first k, shortfall-none total ws cs i some z)
+
+  pub cut-capped : (k : ℕ) → 0 < at taken k → (i : ℕ) → 0 < at ws i → 0 < at (final total ws cs .marks) i
+  cut-capped k up = shortfall-all total ws cs (omega (arith, cut-share k, share-le-amount short compensations first k))
 
   module _ (is : total ≡ whole compensations) where
-    pub cut-le : (k : ℕ) → at (cuts (final total ws cs) compensations first) k ≤ at compensations k
-    unfolding cuts
-    cut-le k =
-        rw (shares-at (shortfall (final total ws cs)) compensations first k)
-        (share-le-weight (shortfall (final total ws cs)) compensations first k (omega (arith, shortfall-le total ws cs)))
+    pub cut-le : (k : ℕ) → at taken k ≤ at compensations k
+    cut-le k = omega (arith, cut-share k, share-le-weight short compensations first k (omega (arith, shortfall-le total ws cs)))
 
-    pub cuts-total : (0 < length compensations → first < length compensations)
-        → whole (cuts (final total ws cs) compensations first) ≡ shortfall (final total ws cs)
+    pub cuts-total : (0 < length compensations → first < length compensations) → whole taken ≡ short
     unfolding cuts
     cuts-total inside =
         ⊎-elim
-        (λ (e : whole compensations ≡ 0). let z : shortfall (final total ws cs) ≡ 0 = omega (arith, shortfall-le total ws cs) in none z ∙ sym z)
-        (λ (some : 0 < whole compensations). shares-sum (shortfall (final total ws cs)) compensations first some inside)
+        (λ (e : whole compensations ≡ 0).
+        let z : short ≡ 0 = omega (arith, shortfall-le total ws cs) in
+        ap whole (shares-are-weights short compensations first (z ∙ sym e)) ∙ e ∙ sym z)
+        (λ (some : 0 < whole compensations). shares-sum short compensations first some inside)
         (eq-zero-or-pos (whole compensations))
-      where
-        none : shortfall (final total ws cs) ≡ 0 → whole (shares (shortfall (final total ws cs)) compensations first) ≡ 0
-        none z =
-            unfold whole in
-            sum-zero (length (shares (shortfall (final total ws cs)) compensations first)) (at (shares (shortfall (final total ws cs)) compensations first))
-            (λ k l. omega (arith, shares-at (shortfall (final total ws cs)) compensations first k, share-le-amount (shortfall (final total ws cs)) compensations first k))
 
     pub balance : (0 < length compensations → first < length compensations) → (0 < length ws → first < length ws)
-        → whole (payments ws cs (final total ws cs) first)
-        ≡ sumTo (length compensations) (λ k. at compensations k - at (cuts (final total ws cs) compensations first) k)
+        → whole (payments ws cs (final total ws cs) first) ≡ sumTo (length compensations) (λ k. at compensations k - at taken k)
     balance inside inside′ = omega (arith, kept, paid-total total ws cs first inside′, cuts-total inside)
       where
-        kept : sumTo (length compensations) (λ k. at compensations k - at (cuts (final total ws cs) compensations first) k)
-            + whole (cuts (final total ws cs) compensations first) ≡ whole compensations
+        kept : sumTo (length compensations) (λ k. at compensations k - at taken k) + whole taken ≡ whole compensations
         kept =
             unfold whole in
-            ap (λ (n : ℕ). sumTo (length compensations) (λ k. at compensations k - at (cuts (final total ws cs) compensations first) k)
-            + sumTo n (at (cuts (final total ws cs) compensations first))) cuts-length
-            ∙ sym (sum-add (length compensations) (λ k. at compensations k - at (cuts (final total ws cs) compensations first) k)
-            (at (cuts (final total ws cs) compensations first)))
-            ∙ sum-same (length compensations)
-            (λ k. at compensations k - at (cuts (final total ws cs) compensations first) k + at (cuts (final total ws cs) compensations first) k)
-            (at compensations) (λ k l. omega (arith, cut-le k))
+            rw cuts-length
+            (sym (sum-add (length compensations) (λ k. at compensations k - at taken k) (at taken))
+            ∙ sum-same (length compensations) (λ k. at compensations k - at taken k + at taken k) (at compensations) (λ k l. omega (arith, cut-le k)))

@@ -41,7 +41,8 @@ use Rattle.columns.proofs.Table.{table-length, table-at, table-past}
 use Rattle.columns.proofs.Rank.{test-or}
 use Rattle.share.specs.Share.{whole}
 use Rattle.levy.specs.Rounds.{Standing, isOpen, opens, closes, closed, next, run, opening, final}
-use Rattle.levy.specs.Capped.{marked, inside, capsOf}
+use Rattle.levy.specs.Capped.{inside, capsOf}
+pub use Rattle.levy.specs.Capped.{marked}
 
 -- position i has not closed
 abbrev pub unmarked : List ℕ → ℕ → Bool

@@ -5,7 +5,7 @@
 --     capped-unique    a set with the property is the set of those that closed
 -- Two sets are compared by their rates; rounds play no part in it.
 -- Assumes nothing.
-use Prim.Native.Nat.{ℕ, zero, _+_, _-_, _*_, _≤_, _<_}
+use Prim.Native.Nat.{ℕ, _+_, _-_, _*_, _≤_, _<_}
 use mathlib.Core.Path.{_≡_, refl, ap, sym, _∙_, subst}
 use mathlib.Core.Logic.{⊎-elim}
 use mathlib.Core.Bool.{Bool, true, false, cond, _&&_, not}
@@ -20,7 +20,7 @@ use Rattle.columns.specs.Table.{at}
 use Rattle.columns.proofs.Sum.{lt-or-le, sum-same, count-some}
 use Rattle.columns.proofs.Mask.{where-parts, where-zero, where-term, where-cross, where-cross-lt}
 use Rattle.columns.proofs.Rank.{test-or}
-use Rattle.levy.specs.Rounds.{final}
+use Rattle.levy.specs.Rounds.{Standing, final}
 use Rattle.levy.specs.Capped.{marked, inside, outside, capsOf, leftBy, weightsBeside, Capped}
 use Rattle.levy.proofs.Step.{unmarked, and-left, and-right, inside-weight, marked-up, sound-caps, final-sound}
 use Rattle.levy.proofs.Rate.{capped-owe, open-owe}
@@ -183,41 +183,44 @@ module _ (total : ℕ) (ws cs : List ℕ) where
       payer : (k : ℕ) (t : Bool) → ltb 0 (at ws k) && t ≡ true → 0 < at ws k
       payer k t e = ltb-true 0 (at ws k) (and-left (ltb 0 (at ws k)) t e)
 
-  -- the payers that have closed in the end
+  -- the payers that have closed in the end, with money and weight as their set leaves them
+  abbrev end : Standing
+  end = final total ws cs
+
   abbrev closers : ℕ → Bool
-  closers = marked (final total ws cs .marks)
+  closers = marked (end .marks)
 
-  closers-left : leftBy total ws cs closers ≡ final total ws cs .money
+  closers-left : leftBy total ws cs closers ≡ end .money
   unfolding leftBy
-  closers-left = omega (arith, sound-caps total ws cs (final total ws cs) (final-sound total ws cs))
+  closers-left = omega (arith, sound-caps total ws cs end (final-sound total ws cs))
 
-  closers-beside : weightsBeside ws closers ≡ final total ws cs .weight
+  closers-beside : weightsBeside ws closers ≡ end .weight
   unfolding weightsBeside sumWhere
   closers-beside =
-      sum-same (length ws) (λ i. cond (outside ws closers i) (at ws i) 0) (λ i. cond (unmarked (final total ws cs .marks) i) (at ws i) 0)
-      (λ i l. each (at ws i) (unmarked (final total ws cs .marks) i))
+      sum-same (length ws) (λ i. cond (outside ws closers i) (at ws i) 0) (λ i. cond (unmarked (end .marks) i) (at ws i) 0)
+      (λ i l. ⊎-elim (λ (z : at ws i ≡ 0). rw z (none (unmarked (end .marks) i)))
+      (λ (some : 0 < at ws i). rw (lt-ltb 0 (at ws i) some) (twice (unmarked (end .marks) i) (at ws i))) (eq-zero-or-pos (at ws i)))
       ∙ sym (final-sound total ws cs .weight-is)
     where
-      each : (w : ℕ) (t : Bool) → cond (ltb 0 w && not (not t)) w 0 ≡ cond t w 0
-      each w t =
-          ⊎-elim (λ (z : w ≡ 0). rw z (zero t)) (λ (some : 0 < w). rw (lt-ltb 0 w some) (twice t)) (eq-zero-or-pos w)
-        where
-          zero : (t : Bool) → _≡_ {A = ℕ} (cond (ltb 0 0 && not (not t)) 0 0) (cond t 0 0)
-          zero true = refl
-          zero false = refl
+      none : (t : Bool) → _≡_ {A = ℕ} (cond (ltb 0 0 && not (not t)) 0 0) (cond t 0 0)
+      none true = refl
+      none false = refl
 
-          twice : (t : Bool) → cond (not (not t)) w 0 ≡ cond t w 0
-          twice true = refl
-          twice false = refl
+      twice : (t : Bool) (w : ℕ) → cond (not (not t)) w 0 ≡ cond t w 0
+      twice true w = refl
+      twice false w = refl
+
+  -- who is beside the closers is open
+  beside-open : (i : ℕ) → outside ws closers i ≡ true → at (end .marks) i ≡ 0
+  beside-open i e = eqb-true (at (end .marks) i) 0 (not-false (unmarked (end .marks) i) (beside-is (at ws i) (closers i) e))
 
   pub final-capped : Capped total ws cs (marked (final total ws cs .marks))
   final-capped =
       record {
         less = λ i e. rw (closers-left, closers-beside)
-            (open-owe total ws cs i (eqb-true (at (final total ws cs .marks) i) 0 (not-false (unmarked (final total ws cs .marks) i) (beside-is (at ws i) (closers i) e)))
-            (ltb-true 0 (at ws i) (and-left (ltb 0 (at ws i)) (not (closers i)) e)));
-        enough = λ i e. rw (closers-left, closers-beside) (capped-owe total ws cs i (marked-up (final total ws cs .marks) i (in-set-is (at ws i) (closers i) e)));
-        all = λ none. omega (arith, sound-caps total ws cs (final total ws cs) (final-sound total ws cs));
+            (open-owe total ws cs i (beside-open i e) (ltb-true 0 (at ws i) (and-left (ltb 0 (at ws i)) (not (closers i)) e)));
+        enough = λ i e. rw (closers-left, closers-beside) (capped-owe total ws cs i (marked-up (end .marks) i (in-set-is (at ws i) (closers i) e)));
+        all = λ none. omega (arith, sound-caps total ws cs end (final-sound total ws cs));
       }
 
   pub capped-unique : (p : ℕ → Bool) → Capped total ws cs p → (i : ℕ) → 0 < at ws i → p i ≡ marked (final total ws cs .marks) i
