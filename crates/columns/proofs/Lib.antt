@@ -1,1 +1,3 @@
 pub mod Product
+pub mod Sum
+pub mod Table

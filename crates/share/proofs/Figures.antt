@@ -8,3 +8,7 @@ use Rattle.share.specs.Share.{whole, quota, rest, turn, before, rank, le
 pub p7 : shares 100 (1 ∷ 1 ∷ 1 ∷ []) 0 ≡ 34 ∷ 33 ∷ 33 ∷ []
 unfolding sumTo countTo table whole quota rest turn before rank left share shares
 p7 = refl
+
+pub p8 : shares 10 (3 ∷ 3 ∷ 1 ∷ []) 0 ≡ 4 ∷ 4 ∷ 2 ∷ []
+unfolding sumTo countTo table whole quota rest turn before rank left share shares
+p8 = refl
