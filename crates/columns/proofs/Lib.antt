@@ -1,3 +1,4 @@
 pub mod Product
 pub mod Sum
 pub mod Table
+pub mod Rank
