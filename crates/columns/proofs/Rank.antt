@@ -3,6 +3,7 @@
 --     test-or       a test passes, or it does not
 --     same-test     two tests that pass together are equal
 --     ltb-same      two comparisons that hold together are equal
+--     some-or-none  some position below n passes a test, or none does
 --     find-is       the search finds the one position that passes
 --     count-one     a test that passes at one position at most is counted once at most
 --     under-some    for each l up to n there is a bound with l keys under it
@@ -14,13 +15,13 @@
 use Prim.Native.Nat.{ℕ, zero, suc, _+_, _≤_, _<_}
 use mathlib.Core.Path.{_≡_, refl, ap, sym, _∙_, subst}
 use mathlib.Core.Logic.{_⊎_, inl, inr, ⊎-elim}
-use mathlib.Core.Bool.{Bool, true, false, not}
+use mathlib.Core.Bool.{Bool, true, false, cond}
 use native.Mathlib.Nat.{le-refl, eq-zero-or-pos}
 use native.Mathlib.Numerals.{add-one}
 use native.Mathlib.Omega.{arith}
 use lib.Dec.{T, ltb, eqb}
-use borrow.Author.Tests.{lt-ltb, le-ltb, ltb-true, eq-eqb, ne-eqb, eqb-true}
-use Rattle.columns.specs.Sum.{bit, sumTo, countTo}
+use borrow.Author.Tests.{lt-ltb, le-ltb, ltb-true, eq-eqb, ne-eqb, eqb-true, eqb-false}
+use Rattle.columns.specs.Sum.{bit, sumTo, countTo, findTo}
 use Rattle.columns.specs.Table.{Below}
 use Rattle.columns.proofs.Sum.{lt-or-le, sum-add, sum-same, sum-le, term-le, count-next, count-same, count-le, count-none, count-all, count-sub, count-some}
 
@@ -39,7 +40,7 @@ ltb-same a b c d h k =
 
 pub count-one : (n : ℕ) (p : ℕ → Bool) → ((i j : ℕ) → i < n → j < n → p i ≡ true → p j ≡ true → i ≡ j) → countTo n p ≤ 1
 count-one zero p h = omega (arith, count-le 0 p)
-count-one (suc n) p h = rw (← add-one) (rw count-next (⊎-elim here (there (count-one n p (λ i j k l. h i j (omega arith) (omega arith)))) (test-or (p n))))
+count-one (suc n) p h = rw (← add-one n) (rw count-next (⊎-elim here (there (count-one n p (λ i j k l. h i j (omega arith) (omega arith)))) (test-or (p n))))
   where
     here : p n ≡ true → countTo n p + bit (p n) ≤ 1
     here e =
@@ -47,6 +48,36 @@ count-one (suc n) p h = rw (← add-one) (rw count-next (⊎-elim here (there (c
         (arith, ap bit e, count-none n p (λ k l. ⊎-elim (λ (f : p k ≡ true). absurd (omega (arith, h k n (omega arith) (omega arith) f e))) (λ f. f) (test-or (p k))))
     there : countTo n p ≤ 1 → p n ≡ false → countTo n p + bit (p n) ≤ 1
     there less e = omega (arith, ap bit e)
+
+pub some-or-none : (n : ℕ) (p : ℕ → Bool) → ((i : ℕ) × (i < n) × (p i ≡ true)) ⊎ Below n (λ i. p i ≡ false)
+some-or-none zero p = inr (λ i l. absurd (omega arith))
+some-or-none (suc n) p =
+    ⊎-elim (λ (e : p n ≡ true). inl (n , omega arith , e))
+    (λ (e : p n ≡ false). ⊎-elim
+      (λ (w : (i : ℕ) × (i < n) × (p i ≡ true)). inl (w .0 , omega arith , w .2))
+      (λ (h : Below n (λ i. p i ≡ false)). inr (λ i l. ⊎-elim (λ (k : i < n). h i k) (λ (k : n ≤ i). let s : i ≡ n = omega arith in rw s e) (lt-or-le i n)))
+      (some-or-none n p))
+    (test-or (p n))
+
+find-none : (n : ℕ) (p : ℕ → Bool) → Below n (λ i. p i ≡ false) → findTo n p ≡ n
+unfolding findTo
+find-none zero p h = refl
+find-none (suc n) p h =
+    let e : findTo n p ≡ n = find-none n p (λ i l. h i (omega arith)) in
+    rw (le-ltb (findTo n p) n (omega arith), h n (omega arith))
+
+-- the first that passes, where all before it do not
+pub find-is : (n : ℕ) (p : ℕ → Bool) (i : ℕ) → i < n → p i ≡ true → Below i (λ j. p j ≡ false) → findTo n p ≡ i
+unfolding findTo
+find-is zero p i l e h = absurd (omega arith)
+find-is (suc n) p i l e h =
+    ⊎-elim
+    (λ (k : i < n). let f : findTo n p ≡ i = find-is n p i k e h in rw (lt-ltb (findTo n p) n (omega arith)) f)
+    (λ (k : n ≤ i). let s : i ≡ n = omega arith in
+      let f : findTo n p ≡ n = find-none n p (λ j m. h j (omega arith)) in
+      let t : p n ≡ true = rw (← s) e in
+      rw (le-ltb (findTo n p) n (omega arith), t) (sym s))
+    (lt-or-le i n)
 
 -- how many keys below n are under t
 unfoldable pub under : ℕ → (ℕ → ℕ) → ℕ → ℕ
@@ -134,3 +165,15 @@ module _ (n : ℕ) (key : ℕ → ℕ) (apart : Apart n key) where
       count-same n (λ i. ltb (under n key (key i)) l) (λ i. ltb (key i) (w .0))
       (λ i k. ap (λ (m : ℕ). ltb (under n key (key i)) m) (sym (w .1)) ∙ under-order i (w .0) k)
       ∙ w .1
+
+  pub rank-some : (l : ℕ) → l < n → (i : ℕ) × (i < n) × (under n key (key i) ≡ l)
+  rank-some l h =
+      ⊎-elim
+      (λ (w : (i : ℕ) × (i < n) × (eqb (under n key (key i)) l ≡ true)). (w .0 , w .1 , eqb-true (under n key (key (w .0))) l (w .2)))
+      (λ (none : Below n (λ i. eqb (under n key (key i)) l ≡ false)).
+        absurd (omega (arith, rank-count l (omega arith), rank-count (suc l) (omega arith),
+          count-same n (λ i. ltb (under n key (key i)) (suc l)) (λ i. ltb (under n key (key i)) l)
+          (λ i k. ltb-same (under n key (key i)) (suc l) (under n key (key i)) l
+            (λ (m : under n key (key i) < suc l). omega (arith, eqb-false (under n key (key i)) l (none i k)))
+            (λ (m : under n key (key i) < l). omega arith)))))
+      (some-or-none n (λ i. eqb (under n key (key i)) l))

@@ -1,7 +1,8 @@
--- Sums, counts and maxima over positions: f 0, f 1, .., f (n - 1), taken from the front, as a loop does.
+-- Sums, counts, maxima and searches over positions: f 0, f 1, .., f (n - 1), taken from the front, as a loop does.
 -- Assumes nothing.
 use Prim.Native.Nat.{ℕ, zero, suc, _+_, max}
-use mathlib.Core.Bool.{Bool, true, false}
+use mathlib.Core.Bool.{Bool, true, false, cond}
+use lib.Dec.{ltb}
 
 -- a test as a number: 1 where it passes
 abbrev pub bit : Bool → ℕ
@@ -21,3 +22,8 @@ countTo n p = sumTo n (λ k. bit (p k))
 unfoldable pub maxTo : ℕ → (ℕ → ℕ) → ℕ
 maxTo zero f = 0
 maxTo (suc n) f = max (maxTo n f) (f n)
+
+-- the first position below n that passes the test, and n if none does
+unfoldable pub findTo : ℕ → (ℕ → Bool) → ℕ
+findTo zero p = 0
+findTo (suc n) p = cond (ltb (findTo n p) n) (findTo n p) (cond (p n) n (suc n))

@@ -1,1 +1,4 @@
 pub mod Figures
+pub mod Order
+pub mod Rests
+pub mod Laws

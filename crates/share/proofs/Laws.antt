@@ -1,0 +1,105 @@
+-- The laws of the sharing rule, for whoever calls `split`. They hold of every position i, also past the column's end,
+-- where weight and share are 0, and of every `first`, unless a law asks that `first` is inside the column.
+--     shares-sum         the shares sum to the amount, if a weight is above 0 and `first` is inside
+--     shares-none        all are 0 if no weight is above 0
+--     shares-length      as many shares as weights
+--     shares-at          what stands in the column at i is the share of i
+--     share-near-over    share * whole passes amount * weight by less than whole
+--     share-near-short   and falls short of it by less than whole
+--     share-zero         a weight of 0 gets 0
+--     share-at-most      amount * weight is at most c * whole: the share is at most c
+--     share-under        the same, from below c * whole
+--     share-le-amount    a share is at most the amount
+--     share-le-weight    the amount is at most the sum of the weights: a share is at most its weight
+--     share-is-weight    the amount is just that sum: each share is its weight
+--     shares-are-weights     the same of the whole column
+--     split-unique       two results that the contract of `split` allows are equal
+-- Each takes amount, weights and first, then the position, then what it asks.
+-- Assumes nothing.
+use Prim.Native.Nat.{ℕ, _+_, _-_, _*_, _/_, _%_, _≤_, _<_}
+use mathlib.Core.Path.{_≡_, refl, ap, sym, _∙_}
+use mathlib.Core.Logic.{⊎-elim}
+use mathlib.Core.Bool.{Bool, true, false, cond, _&&_, _||_}
+use mathlib.Core.List.{List}
+use native.Mathlib.Nat.{mod-lt, div-add-mod, eq-zero-or-pos, mul-le-mul-left, mul-le-mul-right, le-of-mul-le-mul-left, lt-of-mul-lt-mul-right}
+use native.Mathlib.Omega.{arith}
+use lib.Dec.{ltb, eqb}
+use lib.ListN.{length, List·getD-eq-default}
+use borrow.Author.Tests.{lt-ltb, le-ltb, eq-eqb, ne-eqb, ltb-true, ltb-false}
+use Rattle.columns.specs.Sum.{bit, sumTo, countTo}
+use Rattle.columns.specs.Table.{at, table}
+use Rattle.columns.proofs.Sum.{lt-or-le, sum-same, sum-add, sum-mul, sum-bound, sum-le, sum-zero, term-le, bit-le, count-same, count-sub, count-le}
+use Rattle.columns.proofs.Table.{table-length, table-at, table-past, table-same, table-list}
+use Rattle.columns.proofs.Rank.{test-or, rank-count, under}
+use Rattle.share.specs.Share.{whole, quota, rest, turn, before, rank, left, share, shares}
+use Rattle.share.proofs.Rests.{weight-le, some-length, over, short, share-sum}
+
+module _ (a : ℕ) (ws : List ℕ) (first : ℕ) where
+  pub share-none : whole ws ≡ 0 → (i : ℕ) → share a ws first i ≡ 0
+  unfolding share
+  share-none e i = rw (eq-eqb (whole ws) 0 e)
+
+  pub share-near-over : (i : ℕ) → 0 < whole ws → share a ws first i * whole ws < a * at ws i + whole ws
+  share-near-over i some = over a ws some first i
+
+  pub share-near-short : (i : ℕ) → 0 < whole ws → a * at ws i < share a ws first i * whole ws + whole ws
+  share-near-short i some = short a ws some first i
+
+  pub share-at-most : (i c : ℕ) → a * at ws i ≤ c * whole ws → share a ws first i ≤ c
+  share-at-most i c h =
+      ⊎-elim (λ (e : whole ws ≡ 0). omega (arith, share-none e i))
+      (λ (some : 0 < whole ws).
+        let l : share a ws first i < c + 1 = lt-of-mul-lt-mul-right (whole ws) (omega (arith, over a ws some first i)) in omega arith)
+      (eq-zero-or-pos (whole ws))
+
+  pub share-under : (i c : ℕ) → a * at ws i < c * whole ws → share a ws first i ≤ c
+  share-under i c h = share-at-most i c (omega arith)
+
+  pub share-zero : (i : ℕ) → at ws i ≡ 0 → share a ws first i ≡ 0
+  share-zero i e =
+      let l : share a ws first i ≤ 0 = share-at-most i 0 (rw e (omega arith)) in omega arith
+
+  pub share-le-amount : (i : ℕ) → share a ws first i ≤ a
+  share-le-amount i = share-at-most i a (mul-le-mul-left a (weight-le ws i))
+
+  pub share-le-weight : (i : ℕ) → a ≤ whole ws → share a ws first i ≤ at ws i
+  share-le-weight i h = share-at-most i (at ws i) (omega (arith, mul-le-mul-right (at ws i) h))
+
+  pub share-is-weight : (i : ℕ) → a ≡ whole ws → share a ws first i ≡ at ws i
+  share-is-weight i e =
+      ⊎-elim (λ (z : whole ws ≡ 0). omega (arith, share-none z i, weight-le ws i))
+      (λ (some : 0 < whole ws).
+        let l : at ws i < share a ws first i + 1 =
+              lt-of-mul-lt-mul-right (whole ws) (omega (arith, short a ws some first i, ap (λ (x : ℕ). x * at ws i) e)) in
+        omega (arith, share-le-weight i (omega arith)))
+      (eq-zero-or-pos (whole ws))
+
+  pub shares-length : length (shares a ws first) ≡ length ws
+  unfolding shares
+  shares-length = table-length (length ws) (share a ws first)
+
+  pub shares-at : (i : ℕ) → at (shares a ws first) i ≡ share a ws first i
+  unfolding shares
+  shares-at i =
+      ⊎-elim (λ (l : i < length ws). table-at 0 (length ws) (share a ws first) i l)
+      (λ (l : length ws ≤ i).
+        table-past 0 (length ws) (share a ws first) i l ∙ sym (share-zero i (List·getD-eq-default ws 0 l)))
+      (lt-or-le i (length ws))
+
+  pub shares-none : whole ws ≡ 0 → (i : ℕ) → at (shares a ws first) i ≡ 0
+  shares-none e i = shares-at i ∙ share-none e i
+
+  pub shares-sum : 0 < whole ws → (0 < length ws → first < length ws) → whole (shares a ws first) ≡ a
+  unfolding whole
+  shares-sum some inside =
+      ap (λ (n : ℕ). sumTo n (at (shares a ws first))) shares-length
+      ∙ sum-same (length ws) (at (shares a ws first)) (share a ws first) (λ i l. shares-at i)
+      ∙ share-sum a ws some first (inside (some-length ws some))
+
+  pub shares-are-weights : a ≡ whole ws → shares a ws first ≡ ws
+  unfolding shares
+  shares-are-weights e =
+      table-same (length ws) (share a ws first) (at ws) (λ i l. share-is-weight i e) ∙ sym (table-list 0 ws)
+
+  pub split-unique : (xs ys : List ℕ) → xs ≡ shares a ws first → ys ≡ shares a ws first → xs ≡ ys
+  split-unique xs ys p q = p ∙ sym q
