@@ -2,3 +2,4 @@ pub mod Product
 pub mod Sum
 pub mod Table
 pub mod Rank
+pub mod Mask
