@@ -9,3 +9,4 @@ pub mod First
 pub mod Rank
 pub mod Fill
 pub mod Passed
+pub mod Mask

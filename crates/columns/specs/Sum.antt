@@ -18,6 +18,10 @@ sumTo (suc n) f = sumTo n f + f n
 unfoldable pub countTo : ℕ → (ℕ → Bool) → ℕ
 countTo n p = sumTo n (λ k. bit (p k))
 
+-- the sum of f over the positions below n that pass the test
+unfoldable pub sumWhere : ℕ → (ℕ → Bool) → (ℕ → ℕ) → ℕ
+sumWhere n p f = sumTo n (λ k. cond (p k) (f k) 0)
+
 -- the largest value of f below n, and 0 if there is none
 unfoldable pub maxTo : ℕ → (ℕ → ℕ) → ℕ
 maxTo zero f = 0

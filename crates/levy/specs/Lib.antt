@@ -1,2 +1,3 @@
 pub mod Weight
 pub mod Rounds
+pub mod Capped

@@ -21,6 +21,14 @@ pub record Standing : Type 0 where
 abbrev pub isOpen : List ℕ → List ℕ → ℕ → Bool
 isOpen ws marks i = eqb (at marks i) 0 && ltb 0 (at ws i)
 
+-- how many payers there are: positions with weight
+unfoldable pub payers : List ℕ → ℕ
+payers ws = countTo (length ws) (λ i. ltb 0 (at ws i))
+
+-- how many of them are open
+unfoldable pub opens : List ℕ → List ℕ → ℕ
+opens ws marks = countTo (length ws) (isOpen ws marks)
+
 -- it closes in this round: money times its weight is at least its cap times the open weight
 unfoldable pub closes : List ℕ → List ℕ → Standing → ℕ → Bool
 closes ws cs st i = isOpen ws (st .marks) i && leb (at cs i * st .weight) (st .money * at ws i)

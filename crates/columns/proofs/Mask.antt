@@ -1,0 +1,115 @@
+-- Laws of sums over the positions that pass a test (specs/Sum.antt, sumWhere).
+--     where-next      the sum below n + 1, as a loop meets it
+--     where-same      tests and values that agree below n have the same sum
+--     where-parts     the sum over u is that over p and that over q, where u is p and q together and no position is in both
+--     where-split     those that pass and those that do not make the whole
+--     where-sub       what passes p passes q: the sum over p is at most that over q
+--     where-whole     a sum over some positions is at most the sum over all
+--     where-none      nobody passes: 0
+--     where-all       everybody passes: the sum of all
+--     where-zero      values of 0 add up to 0
+--     where-term      a position that passes is at most the sum
+--     where-cross     a * f ≤ b * g at each that passes: a * (sum of f) ≤ b * (sum of g)
+--     where-cross-lt  the same with < at each: the gap is at least the number that pass
+--     count-parts     counts of two parts
+--     count-zero      a count of 0: nobody passes
+-- Assumes nothing.
+use Prim.Native.Nat.{ℕ, zero, suc, _+_, _*_, _≤_, _<_, zero-le}
+use mathlib.Core.Path.{_≡_, refl, sym, _∙_}
+use mathlib.Core.Logic.{⊎-elim}
+use mathlib.Core.Bool.{Bool, true, false, cond, not}
+use native.Mathlib.Nat.{le-refl}
+use native.Mathlib.Omega.{arith}
+use Rattle.columns.specs.Sum.{bit, sumTo, countTo, sumWhere}
+use Rattle.columns.specs.Table.{Below}
+use Rattle.columns.proofs.Sum.{sum-next, sum-same, sum-le, sum-add, sum-zero, term-le, count-some}
+use Rattle.columns.proofs.Rank.{test-or}
+
+pub where-next : (n : ℕ) (p : ℕ → Bool) (f : ℕ → ℕ) → sumWhere (n + 1) p f ≡ sumWhere n p f + cond (p n) (f n) 0
+unfolding sumWhere
+where-next n p f = sum-next n (λ k. cond (p k) (f k) 0)
+
+pub where-same : (n : ℕ) (p q : ℕ → Bool) (f g : ℕ → ℕ) → Below n (λ k. p k ≡ q k) → Below n (λ k. f k ≡ g k) → sumWhere n p f ≡ sumWhere n q g
+unfolding sumWhere
+where-same n p q f g h e = sum-same n (λ k. cond (p k) (f k) 0) (λ k. cond (q k) (g k) 0) (λ k l. rw (h k l, e k l))
+
+pub where-parts : (n : ℕ) (u p q : ℕ → Bool) (f : ℕ → ℕ) → Below n (λ k. cond (u k) (f k) 0 ≡ cond (p k) (f k) 0 + cond (q k) (f k) 0)
+    → sumWhere n u f ≡ sumWhere n p f + sumWhere n q f
+unfolding sumWhere
+where-parts n u p q f h =
+    sum-same n (λ k. cond (u k) (f k) 0) (λ k. cond (p k) (f k) 0 + cond (q k) (f k) 0) h
+    ∙ sum-add n (λ k. cond (p k) (f k) 0) (λ k. cond (q k) (f k) 0)
+
+pub where-split : (n : ℕ) (p : ℕ → Bool) (f : ℕ → ℕ) → sumWhere n p f + sumWhere n (λ k. not (p k)) f ≡ sumTo n f
+unfolding sumWhere
+where-split n p f =
+    sym (sum-add n (λ k. cond (p k) (f k) 0) (λ k. cond (not (p k)) (f k) 0))
+    ∙ sum-same n (λ k. cond (p k) (f k) 0 + cond (not (p k)) (f k) 0) f (λ k l. each (p k) (f k))
+  where
+    each : (t : Bool) (x : ℕ) → cond t x 0 + cond (not t) x 0 ≡ x
+    each true x = omega arith
+    each false x = omega arith
+
+pub where-sub : (n : ℕ) (p q : ℕ → Bool) (f : ℕ → ℕ) → Below n (λ k. p k ≡ true → q k ≡ true) → sumWhere n p f ≤ sumWhere n q f
+unfolding sumWhere
+where-sub n p q f h = sum-le n (λ k. cond (p k) (f k) 0) (λ k. cond (q k) (f k) 0) (λ k l. each (p k) (q k) (f k) (h k l))
+  where
+    each : (s t : Bool) (x : ℕ) → (s ≡ true → t ≡ true) → cond s x 0 ≤ cond t x 0
+    each true t x h = rw (h refl) (le-refl x)
+    each false t x h = zero-le
+
+pub where-whole : (n : ℕ) (p : ℕ → Bool) (f : ℕ → ℕ) → sumWhere n p f ≤ sumTo n f
+where-whole n p f = omega (arith, where-split n p f)
+
+pub where-none : (n : ℕ) (p : ℕ → Bool) (f : ℕ → ℕ) → Below n (λ k. p k ≡ false) → sumWhere n p f ≡ 0
+unfolding sumWhere
+where-none n p f h = sum-zero n (λ k. cond (p k) (f k) 0) (λ k l. rw (h k l))
+
+pub where-all : (n : ℕ) (p : ℕ → Bool) (f : ℕ → ℕ) → Below n (λ k. p k ≡ true) → sumWhere n p f ≡ sumTo n f
+unfolding sumWhere
+where-all n p f h = sum-same n (λ k. cond (p k) (f k) 0) f (λ k l. rw (h k l))
+
+pub where-zero : (n : ℕ) (p : ℕ → Bool) (f : ℕ → ℕ) → Below n (λ k. p k ≡ true → f k ≡ 0) → sumWhere n p f ≡ 0
+unfolding sumWhere
+where-zero n p f h = sum-zero n (λ k. cond (p k) (f k) 0) (λ k l. each (p k) (f k) (h k l))
+  where
+    each : (t : Bool) (x : ℕ) → (t ≡ true → x ≡ 0) → cond t x 0 ≡ 0
+    each true x h = h refl
+    each false x h = refl
+
+pub where-term : (n : ℕ) (p : ℕ → Bool) (f : ℕ → ℕ) (k : ℕ) → k < n → p k ≡ true → f k ≤ sumWhere n p f
+unfolding sumWhere
+where-term n p f k l e =
+    let h : cond (p k) (f k) 0 ≡ f k = rw e in
+    omega (arith, term-le n (λ j. cond (p j) (f j) 0) k l)
+
+pub where-cross-lt : (n : ℕ) (p : ℕ → Bool) (a b : ℕ) (f g : ℕ → ℕ) → Below n (λ k. p k ≡ true → a * f k < b * g k)
+    → a * sumWhere n p f + countTo n p ≤ b * sumWhere n p g
+unfolding sumWhere countTo sumTo
+where-cross-lt zero p a b f g h = omega arith
+where-cross-lt (suc n) p a b f g h =
+    omega (arith, where-cross-lt n p a b f g (λ k l. h k (omega arith)), each (p n) (f n) (g n) (h n (omega arith)))
+  where
+    each : (t : Bool) (x y : ℕ) → (t ≡ true → a * x < b * y) → a * cond t x 0 + bit t ≤ b * cond t y 0
+    each true x y h = omega (arith, h refl)
+    each false x y h = omega arith
+
+pub where-cross : (n : ℕ) (p : ℕ → Bool) (a b : ℕ) (f g : ℕ → ℕ) → Below n (λ k. p k ≡ true → a * f k ≤ b * g k)
+    → a * sumWhere n p f ≤ b * sumWhere n p g
+unfolding sumWhere sumTo
+where-cross zero p a b f g h = omega arith
+where-cross (suc n) p a b f g h =
+    omega (arith, where-cross n p a b f g (λ k l. h k (omega arith)), each (p n) (f n) (g n) (h n (omega arith)))
+  where
+    each : (t : Bool) (x y : ℕ) → (t ≡ true → a * x ≤ b * y) → a * cond t x 0 ≤ b * cond t y 0
+    each true x y h = omega (arith, h refl)
+    each false x y h = omega arith
+
+pub count-parts : (n : ℕ) (u p q : ℕ → Bool) → Below n (λ k. bit (u k) ≡ bit (p k) + bit (q k)) → countTo n u ≡ countTo n p + countTo n q
+unfolding countTo
+count-parts n u p q h =
+    sum-same n (λ k. bit (u k)) (λ k. bit (p k) + bit (q k)) h ∙ sum-add n (λ k. bit (p k)) (λ k. bit (q k))
+
+pub count-zero : (n : ℕ) (p : ℕ → Bool) → countTo n p ≡ 0 → Below n (λ k. p k ≡ false)
+count-zero n p e k l =
+    ⊎-elim (λ (t : p k ≡ true). absurd (omega (arith, count-some n p k l t))) (λ t. t) (test-or (p k))

@@ -1,0 +1,6 @@
+pub mod Step
+pub mod Rate
+pub mod Count
+pub mod Payment
+pub mod Cut
+pub mod Unique
