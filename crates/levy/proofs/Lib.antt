@@ -1,3 +1,4 @@
+pub mod Row
 pub mod Step
 pub mod Rate
 pub mod Count
