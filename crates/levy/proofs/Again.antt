@@ -12,10 +12,8 @@
 -- Assumes nothing.
 use Prim.Native.Nat.{ℕ, zero, suc, _+_, _-_, _*_, _^_, _≤_, _<_}
 use mathlib.Core.Path.{_≡_, refl, ap, sym, _∙_, subst}
-use mathlib.Core.Logic.{⊎-elim}
 use mathlib.Core.Bool.{Bool, true, false, cond, not, _&&_}
 use mathlib.Core.List.{List, [], _∷_}
-use native.Mathlib.Nat.{eq-zero-or-pos}
 use native.Mathlib.Numerals.{add-one}
 use native.Mathlib.Omega.{arith}
 use lib.Dec.{leb, ltb, eqb}
@@ -23,42 +21,24 @@ use lib.ListN.{length, take, drop, replicate, length-replicate}
 use lib.Seq.{getD-take, length-take-le}
 use Rattle.columns.specs.Sum.{sumTo, countTo, sumWhere}
 use Rattle.columns.specs.Table.{at, table, Below}
-use Rattle.columns.proofs.Sum.{sum-bound, count-none, count-some}
+use Rattle.columns.proofs.Sum.{sum-bound}
 use Rattle.columns.proofs.Table.{table-is}
-use Rattle.columns.proofs.Mask.{where-whole, where-term, where-none}
-use Rattle.columns.proofs.Rank.{test-or}
+use Rattle.columns.proofs.Mask.{count-zero}
 use Rattle.share.specs.Share.{whole}
 use Rattle.levy.specs.Rounds.{Standing, isOpen, opens, closes, closed, next, run, opening, final}
+use Rattle.levy.specs.Capped.{marked}
 use Rattle.levy.specs.Asked.{standing, standingOf, Columns, Round, Shut, Ready, Ended, Finished}
 use Rattle.levy.specs.declared.Closed.{Closed}
 use Rattle.levy.specs.declared.Rest.{Rest}
 use Rattle.levy.proofs.Arrays.{take-replicate, drop-replicate}
-use Rattle.levy.proofs.Step.{Sound, marked, closed-is, closes-unmarked, closes-weight, closed-caps-le, closed-weights-le, next-sound, next-money, next-weight, next-rounds, opens-fall, opens-le, run-stop, run-again, final-run, opening-sound}
+use Rattle.levy.proofs.Step.{Sound, sound-weight, closed-nobody, closed-somebody, closed-caps-le, closed-weights-le, next-sound, opens-fall, opens-le, run-stop, run-again, final-run, opening-sound}
 
--- a closed weight of 0 says that nobody closed, since whoever closes has weight
-nobody : (ws cs : List ℕ) (st : Standing) → closed ws cs st ws ≡ 0 → Below (length ws) (λ i. closes ws cs st i ≡ false)
-nobody ws cs st e i l =
-    ⊎-elim
-    (λ (t : closes ws cs st i ≡ true).
-      absurd (omega (arith, closed-is ws cs st ws, closes-weight ws cs st i t, where-term (length ws) (closes ws cs st) (at ws) i l t)))
-    (λ t. t) (test-or (closes ws cs st i))
-
-somebody : (ws cs : List ℕ) (st : Standing) → (closed ws cs st ws ≡ 0 → ⊥) → 0 < countTo (length ws) (closes ws cs st)
-somebody ws cs st some =
-    ⊎-elim (λ (e : countTo (length ws) (closes ws cs st) ≡ 0). absurd (some (closed-is ws cs st ws ∙ where-none (length ws) (closes ws cs st) (at ws) (none e))))
-    (λ (l : 0 < countTo (length ws) (closes ws cs st)). l) (eq-zero-or-pos (countTo (length ws) (closes ws cs st)))
-  where
-    none : countTo (length ws) (closes ws cs st) ≡ 0 → Below (length ws) (λ i. closes ws cs st i ≡ false)
-    none e i l =
-        ⊎-elim (λ (t : closes ws cs st i ≡ true). absurd (omega (arith, count-some (length ws) (closes ws cs st) i l t))) (λ t. t)
-        (test-or (closes ws cs st i))
-
--- and then no mark changes
+-- where nobody closes no mark changes
 same-marks : (ws cs : List ℕ) (st : Standing) → length (st .marks) ≡ length ws → closed ws cs st ws ≡ 0 → next ws cs st .marks ≡ st .marks
 unfolding next
 same-marks ws cs st long e =
     sym (table-is 0 (st .marks) (length ws) (λ i. cond (closes ws cs st i) (suc (st .rounds)) (at (st .marks) i)) long
-      (λ k l. rw (nobody ws cs st e k l)))
+      (λ k l. rw (count-zero (length ws) (closes ws cs st) (closed-nobody ws cs st e) k l)))
 
 module _ (n : ℕ) (weights caps marks : List ℕ) (money weight rounds : ℕ) (asked : Ready n weights caps marks money weight rounds) where
   abbrev ws : List ℕ
@@ -90,11 +70,14 @@ module _ (n : ℕ) (weights caps marks : List ℕ) (money weight rounds : ℕ) (
         payers = asked .payers;
       }
 
+  whole-le : whole (take n weights) ≤ 550000000 * length (take n weights)
+  unfolding whole
+  whole-le = sum-bound (length ws) 550000000 (at ws) (λ k l. asked .columns .light k)
+
   heavy : weight ≤ 140800000000
   heavy =
       omega
-      (arith, asked .weight-is, wide, asked .columns .few,
-        where-whole (length ws) (λ i. eqb (at (take n marks) i) 0) (at ws), sum-bound (length ws) 550000000 (at ws) (λ k l. asked .columns .light k))
+      (arith, wide, asked .columns .few, sound-weight total ws cs st sound, whole-le)
 
   pub round-asked : Round n weights caps marks money weight rounds
   round-asked = record { columns = asked .columns; heavy = heavy; early = omega (arith, asked .early) }
@@ -109,7 +92,7 @@ module _ (n : ℕ) (weights caps marks : List ℕ) (money weight rounds : ℕ) (
     pub stopped : r .weights ≡ 0 → Ended n weights caps marks (standing n marks money weight rounds) after (money ∷ weight ∷ rounds ∷ [])
     stopped none =
         record {
-          is = λ f l. run-stop ws cs st (count-none (length ws) (closes ws cs st) (nobody ws cs st shut-none)) f
+          is = λ f l. run-stop ws cs st (closed-nobody ws cs st shut-none) f
             ∙ ap (λ (ks : List ℕ). record { marks = ks; money = money; weight = weight; rounds = rounds }) (sym (shut .marks-are ∙ same-marks ws cs st (sound .long) shut-none));
           past = shut .past;
           long = shut .long;
@@ -121,7 +104,7 @@ module _ (n : ℕ) (weights caps marks : List ℕ) (money weight rounds : ℕ) (
 
     module _ (some : r .weights ≡ 0 → ⊥) where
       closing : 0 < countTo (length ws) (closes ws cs st)
-      closing = somebody ws cs st (λ e. some (shut .weights-are ∙ e))
+      closing = closed-somebody ws cs st (λ e. some (shut .weights-are ∙ e))
 
       step-is : standing n after (money - r .caps) (weight - r .weights) (rounds + 1) ≡ next (take n weights) (take n caps) (standing n marks money weight rounds)
       unfolding next
