@@ -1,6 +1,10 @@
+pub mod Row
+pub mod Arrays
 pub mod Step
 pub mod Rate
 pub mod Count
 pub mod Payment
 pub mod Cut
 pub mod Unique
+pub mod Turn
+pub mod Again

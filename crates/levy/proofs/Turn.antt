@@ -1,0 +1,138 @@
+-- The loop of one round: what holds after i of the n positions, in the words of the arrays that the code holds.
+--     Turn             the loop's invariant
+--     turn-none        it holds before the first position
+--     turn-next        one position more
+--     turn-end         after the last one the round is that of `next` and `closed`
+--     products         both products of the closing test fit
+--     caps-fit, weights-fit     the sums fit
+-- Assumes nothing.
+use Prim.Native.Nat.{ℕ, zero, suc, _+_, _-_, _*_, _^_, _≤_, _<_}
+use mathlib.Core.Path.{_≡_, refl, ap, sym, _∙_}
+use mathlib.Core.Bool.{Bool, true, false, cond, _&&_}
+use mathlib.Core.List.{List}
+use native.Mathlib.Numerals.{add-one}
+use native.Mathlib.Omega.{arith}
+use lib.Dec.{leb, ltb, eqb}
+use lib.ListN.{length, take, drop, set, length-take, length-set}
+use lib.Seq.{getD-take, length-take-le, getD-set-other, drop-set-lt, ext-getD}
+use Rattle.columns.specs.Sum.{sumTo, sumWhere}
+use Rattle.columns.specs.Table.{at, table, Below}
+use Rattle.columns.proofs.Product.{product}
+use Rattle.columns.proofs.Sum.{sum-bound}
+use Rattle.columns.proofs.Table.{table-is, fill-next}
+use Rattle.columns.proofs.Mask.{where-next}
+use Rattle.levy.specs.Rounds.{Standing, closes, closed, next}
+use Rattle.levy.specs.Asked.{standing, Columns, Round, Shut}
+use Rattle.levy.specs.declared.Closed.{Closed}
+use Rattle.levy.proofs.Step.{closed-is}
+
+-- who closes, by position, in the arrays' words
+abbrev pub hits : ℕ → List ℕ → List ℕ → List ℕ → ℕ → ℕ → ℕ → ℕ → Bool
+hits n weights caps marks money weight rounds =
+    closes (take n weights) (take n caps) (standing n marks money weight rounds)
+
+pub record Turn (n : ℕ) (weights caps marks₀ : List ℕ) (money weight rounds : ℕ) (marks : List ℕ) (p g i : ℕ) : Type 0 where
+  pub within : i ≤ n
+  pub caps-are : p ≡ sumWhere i (hits n weights caps marks₀ money weight rounds) (at (take n caps))
+  pub weights-are : g ≡ sumWhere i (hits n weights caps marks₀ money weight rounds) (at (take n weights))
+  pub long : length marks ≡ 256
+  pub done : Below i (λ k. at marks k ≡ cond (hits n weights caps marks₀ money weight rounds k) (suc rounds) (at (take n marks₀) k))
+  pub past : drop n marks ≡ drop n marks₀
+  pub still : (k : ℕ) → i ≤ k → at marks k ≡ at marks₀ k
+
+module _ (n : ℕ) (weights caps marks₀ : List ℕ) (money weight rounds : ℕ) (asked : Round n weights caps marks₀ money weight rounds) where
+  abbrev hit : ℕ → Bool
+  hit = hits n weights caps marks₀ money weight rounds
+
+  pub turn-none : Turn n weights caps marks₀ money weight rounds marks₀ 0 0 0
+  turn-none =
+      record {
+        within = omega arith;
+        caps-are = unfold sumWhere sumTo in refl;
+        weights-are = unfold sumWhere sumTo in refl;
+        long = asked .columns .marks-long;
+        done = λ k l. absurd (omega arith);
+        past = refl;
+        still = λ k l. refl;
+      }
+
+  pub products : (i : ℕ) → i < n → (at caps i * weight < 2 ^ 63) × (money * at weights i < 2 ^ 63)
+  products i l =
+      ( product 44000000 140800000000 (2 ^ 63) (omega (arith, asked .columns .low i, getD-take n caps i 0 l)) (asked .heavy) tt
+      , product 6400000000 550000000 (2 ^ 63) (asked .columns .rich) (omega (arith, asked .columns .light i, getD-take n weights i 0 l)) tt )
+
+  where-small : (xs : List ℕ) (b i : ℕ) → ((k : ℕ) → at xs k ≤ b) → sumWhere i hit (at xs) ≤ b * i
+  unfolding sumWhere
+  where-small xs b i h = sum-bound i b (λ k. cond (hit k) (at xs k) 0) (λ k l. each (hit k) (at xs k) (h k))
+    where
+      each : (t : Bool) (x : ℕ) → x ≤ b → cond t x 0 ≤ b
+      each true x l = l
+      each false x l = omega arith
+
+  module _ (marks : List ℕ) (p g i : ℕ) (turn : Turn n weights caps marks₀ money weight rounds marks p g i) (l : i < n) where
+    -- the test on what the code reads is the test of the definition
+    hit-is : (eqb (at marks i) 0 && ltb 0 (at weights i)) && leb (at caps i * weight) (money * at weights i) ≡ hit i
+    unfolding closes
+    hit-is =
+        rw (turn .still i (omega arith), getD-take n marks₀ i 0 l, getD-take n weights i 0 l, getD-take n caps i 0 l)
+
+    counted-le : (t : Bool) (x r b : ℕ) → x ≤ b → r ≡ cond t x 0 → r ≤ b
+    counted-le true x r b h e = omega arith
+    counted-le false x r b h e = omega arith
+
+    pub caps-fit : (t : Bool) (r : ℕ) → r ≡ cond t (at caps i) 0 → p + r < 2 ^ 64
+    caps-fit t r e =
+        omega
+        (arith, turn .caps-are, asked .columns .few, where-small (take n caps) 44000000 i (asked .columns .low),
+          counted-le t (at caps i) r 44000000 (omega (arith, asked .columns .low i, getD-take n caps i 0 l)) e)
+
+    pub weights-fit : (t : Bool) (r : ℕ) → r ≡ cond t (at weights i) 0 → g + r < 2 ^ 64
+    weights-fit t r e =
+        omega
+        (arith, turn .weights-are, asked .columns .few, where-small (take n weights) 550000000 i (asked .columns .light),
+          counted-le t (at weights i) r 550000000 (omega (arith, asked .columns .light i, getD-take n weights i 0 l)) e)
+
+    sum-step : (xs : List ℕ) (t : Bool) → t ≡ hit i → (r : ℕ) → r ≡ cond t (at xs i) 0 → (sum : ℕ)
+        → sum ≡ sumWhere i hit (at (take n xs)) → sum + r ≡ sumWhere (i + 1) hit (at (take n xs))
+    sum-step xs t e r r-is sum sum-is =
+        let new : cond (hit i) (at (take n xs) i) 0 ≡ r = rw (← e, getD-take n xs i 0 l) (sym r-is) in
+        omega (arith, where-next i hit (at (take n xs)))
+
+    pub turn-next : (t : Bool) → t ≡ (eqb (at marks i) 0 && ltb 0 (at weights i)) && leb (at caps i * weight) (money * at weights i)
+        → (r : ℕ) → r ≡ cond t (at caps i) 0 → (s : ℕ) → s ≡ cond t (at weights i) 0
+        → (m : ℕ) → m ≡ cond t (rounds + 1) (at marks i)
+        → Turn n weights caps marks₀ money weight rounds (set marks i m) (p + r) (g + s) (i + 1)
+    turn-next t is r r-is s s-is m m-is =
+        let e : t ≡ hit i = is ∙ hit-is in
+        record {
+          within = omega arith;
+          caps-are = sum-step caps t e r r-is p (turn .caps-are);
+          weights-are = sum-step weights t e s s-is g (turn .weights-are);
+          long = length-set marks i m ∙ turn .long;
+          done =
+            fill-next 0 marks i m (λ k. cond (hit k) (suc rounds) (at (take n marks₀) k)) (omega (arith, turn .long, asked .columns .few))
+            (rw (← e, getD-take n marks₀ i 0 l, ← (turn .still i (omega arith)), ← (add-one rounds)) m-is) (turn .done);
+          past = drop-set-lt n marks i m l ∙ turn .past;
+          still = λ k q. getD-set-other marks i k m 0 (omega arith) ∙ turn .still k (omega arith);
+        }
+
+  pub turn-end : (marks : List ℕ) (p g i : ℕ) → Turn n weights caps marks₀ money weight rounds marks p g i → n ≤ i
+      → Shut n weights caps marks₀ (standing n marks₀ money weight rounds) marks (record { caps = p; weights = g })
+  turn-end marks p g i turn q =
+      record {
+        marks-are =
+          unfold next in table-is 0 (take n marks) (length (take n weights)) (λ k. cond (hit k) (suc rounds) (at (take n marks₀) k))
+          (omega (arith, wide, length-take-le n marks (omega (arith, turn .long, asked .columns .few))))
+          (λ k l. getD-take n marks k 0 (omega (arith, wide)) ∙ turn .done k (omega (arith, wide)));
+        past = turn .past;
+        long = turn .long;
+        caps-are = turn .caps-are ∙ ap (λ (m : ℕ). sumWhere m hit (at (take n caps))) ended ∙ sym (closed-is (take n weights) (take n caps) st (take n caps));
+        weights-are = turn .weights-are ∙ ap (λ (m : ℕ). sumWhere m hit (at (take n weights))) ended ∙ sym (closed-is (take n weights) (take n caps) st (take n weights));
+      }
+    where
+      st : Standing
+      st = standing n marks₀ money weight rounds
+      wide : length (take n weights) ≡ n
+      wide = length-take-le n weights (omega (arith, asked .columns .weights-long, asked .columns .few))
+      ended : i ≡ length (take n weights)
+      ended = omega (arith, wide, turn .within)

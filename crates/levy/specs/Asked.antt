@@ -1,0 +1,90 @@
+-- What the functions of the rounds ask of their callers, and what they answer. Their columns of n positions stand in arrays of
+-- 256; the numbers are those of the ranges, with room for what later requests need. Assumes nothing.
+use Prim.Native.Nat.{ℕ, _+_, _-_, _^_, _≤_, _<_}
+use mathlib.Core.Path.{_≡_}
+use mathlib.Core.List.{List}
+use lib.Dec.{eqb}
+use lib.ListN.{length, take, drop, replicate}
+use Rattle.columns.specs.Sum.{sumWhere}
+use Rattle.columns.specs.Table.{at}
+use Rattle.share.specs.Share.{whole}
+use Rattle.levy.specs.Rounds.{Standing, opens, closed, next, run, final, paid, shortfall}
+use Rattle.levy.specs.declared.Closed.{Closed}
+use Rattle.levy.specs.declared.Rest.{Rest}
+
+-- how things stand, from the array and the numbers that the code holds
+abbrev pub standing : ℕ → List ℕ → ℕ → ℕ → ℕ → Standing
+standing n marks money weight rounds =
+    record { marks = take n marks; money = money; weight = weight; rounds = rounds }
+
+abbrev pub standingOf : ℕ → List ℕ → Rest → Standing
+standingOf n marks r = standing n marks (r .money) (r .weight) (r .rounds)
+
+-- weights and caps small enough that each product of a round stays below 2 ^ 63
+pub record Columns (n : ℕ) (weights caps marks : List ℕ) (money : ℕ) : Type 0 where
+  pub few : n ≤ 256
+  pub weights-long : length weights ≡ 256
+  pub caps-long : length caps ≡ 256
+  pub marks-long : length marks ≡ 256
+  pub light : (i : ℕ) → at (take n weights) i ≤ 550000000
+  pub low : (i : ℕ) → at (take n caps) i ≤ 44000000
+  pub rich : money ≤ 6400000000
+
+-- asked of one round
+pub record Round (n : ℕ) (weights caps marks : List ℕ) (money weight rounds : ℕ) : Type 0 where
+  pub columns : Columns n weights caps marks money
+  pub heavy : weight ≤ 140800000000
+  pub early : rounds ≤ 256
+
+-- answered by one round: who closes has its mark, and nothing else changes
+pub record Shut (n : ℕ) (weights caps marks : List ℕ) (st : Standing) (after : List ℕ) (r : Closed) : Type 0 where
+  pub marks-are : take n after ≡ next (take n weights) (take n caps) st .marks
+  pub past : drop n after ≡ drop n marks
+  pub long : length after ≡ 256
+  pub caps-are : r .caps ≡ closed (take n weights) (take n caps) st (take n caps)
+  pub weights-are : r .weights ≡ closed (take n weights) (take n caps) st (take n weights)
+
+-- asked where redistribution begins, and again at each round: the weight is that of those who have not closed, marks are
+-- numbers of past rounds, only payers of weight above 0 have closed, and there are rounds enough for the open ones
+pub record Ready (n : ℕ) (weights caps marks : List ℕ) (money weight rounds : ℕ) : Type 0 where
+  pub columns : Columns n weights caps marks money
+  pub weight-is : weight ≡ sumWhere (length (take n weights)) (λ i. eqb (at (take n marks) i) 0) (at (take n weights))
+  pub marks-le : (i : ℕ) → at (take n marks) i ≤ rounds
+  pub payers : (i : ℕ) → 0 < at (take n marks) i → 0 < at (take n weights) i
+  pub early : rounds + opens (take n weights) (take n marks) ≤ 256
+
+-- answered by redistribution from any standing: however many rounds are allowed, if they are enough
+pub record Ended (n : ℕ) (weights caps marks : List ℕ) (st : Standing) (after rest : List ℕ) : Type 0 where
+  pub is :
+      (f : ℕ) → opens (take n weights) (take n marks) ≤ f
+      → run f (take n weights) (take n caps) st ≡ standing n after (at rest 0) (at rest 1) (at rest 2)
+  pub past : drop n after ≡ drop n marks
+  pub long : length after ≡ 256
+  pub early : at rest 2 ≤ 256
+
+-- answered by the rounds: how things stand after the last one, and 0 past the n positions
+pub record Finished (total n : ℕ) (weights caps after : List ℕ) (r : Rest) : Type 0 where
+  pub is : standingOf n after r ≡ final total (take n weights) (take n caps)
+  pub past : drop n after ≡ replicate (256 - n) 0
+  pub long : length after ≡ 256
+
+-- answered by the shortfall, which marks have no part in
+abbrev pub Short : Rest → ℕ → Type 0
+Short r x = (n : ℕ) (marks : List ℕ) → x ≡ shortfall (standingOf n marks r)
+
+-- asked by the payments: each fits its field
+pub record Payable (n : ℕ) (weights caps marks : List ℕ) (r : Rest) (first : ℕ) (out : List ℕ) : Type 0 where
+  pub few : n ≤ 256
+  pub weights-long : length weights ≡ 256
+  pub caps-long : length caps ≡ 256
+  pub marks-long : length marks ≡ 256
+  pub out-long : length out ≡ n
+  pub turn : 0 < n → first < n
+  pub fits : (i : ℕ) → paid (take n weights) (take n caps) (standingOf n marks r) first i < 2 ^ 32
+
+-- asked by the cuts: no more is cut than was to be paid out
+pub record Cuttable (shortfall : ℕ) (compensations : List ℕ) (first : ℕ) (out : List ℕ) : Type 0 where
+  pub few : length compensations ≤ 256
+  pub out-long : length out ≡ length compensations
+  pub turn : 0 < length compensations → first < length compensations
+  pub covered : shortfall ≤ whole compensations
