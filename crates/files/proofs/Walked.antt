@@ -53,7 +53,7 @@ walk-none s start count =
 rows-step : (s : List ℕ) (start count last i : ℕ) → i < count
     → rowsFault s (start + i * 21) (count - i) (i + 1) last
     ≡ orElse (fault (rowFault s (start + i * 21) last) (i + 1))
-        (rowsFault s (start + (i + 1) * 21) (count - (i + 1)) (i + 1 + 1) (rowAt s (start + i * 21) .id))
+    (rowsFault s (start + (i + 1) * 21) (count - (i + 1)) (i + 1 + 1) (rowAt s (start + i * 21) .id))
 unfolding rowsFault
 rows-step s start count last i l =
     let more : count - i ≡ suc (count - (i + 1)) = omega arith in
@@ -72,7 +72,7 @@ pub walk-stops : (s : List ℕ) (start count last i f : ℕ) → Walked s start 
     → f ≡ rowFault s (start + i * 21) last → (f ≡ 0 → ⊥) → Refused f (i + 1) ≡ verdict count (rowsFault s start count 1 0)
 walk-stops s start count last i f w l e z =
     let is : rowsFault s start count 1 0 ≡ fault f (i + 1) =
-        w .is ∙ rows-step s start count last i l ∙ or-first _ _ (λ o. z (e ∙ o)) ∙ ap (λ (x : ℕ). fault x (i + 1)) (sym e) in
+    w .is ∙ rows-step s start count last i l ∙ or-first _ _ (λ o. z (e ∙ o)) ∙ ap (λ (x : ℕ). fault x (i + 1)) (sym e) in
     rw is (sym (verdict-no count (fault f (i + 1)) z))
 
 pub walk-ends : (s : List ℕ) (start count last i : ℕ) → Walked s start count last i → count ≤ i
@@ -102,7 +102,7 @@ pub interval-refused : (s : List ℕ) (f : ℕ) → f ≡ headFault s → (f ≡
 unfolding intervalFault
 interval-refused s f e z =
     rw (or-first (fault (headFault s) 0) (rowsFault s 15 (rowCount s) 1 0) (λ o. z (e ∙ o)), ← e)
-      (sym (verdict-no (rowCount s) (fault f 0) z))
+    (sym (verdict-no (rowCount s) (fault f 0) z))
 
 pub interval-rows : (s : List ℕ) (f n : ℕ) (v : Verdict) → f ≡ headFault s → f ≡ 0 → n ≡ rowCount s
     → v ≡ verdict n (rowsFault s 15 n 1 0) → v ≡ verdict (rowCount s) (intervalFault s)

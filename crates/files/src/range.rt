@@ -1,27 +1,38 @@
 // Every range of a head and of a row (01, The files: Ranges; Article 25 for the limits of bids).
-use units::half;
-use units::most;
 use crate::CorrectionHead;
 use crate::Head;
 use crate::Row;
-
+use units::half;
+use units::most;
 ghost use mathlib.Core.Path.{_≡_};
 ghost use Rattle.columns.specs.Test.{within, firstOf};
 ghost use Rattle.files.specs.Range.{headOk, correctionHeadOk, statusOk, notOffering, offering, rowOk};
 ghost use Rattle.files.specs.Fault.{rowChecks};
 
 const LAST_DAY: u32 = 36524;
+
 const LAST_QUARTER: u8 = 95;
+
 const HIGHEST_TARIFF: u64 = 10000;
+
 const HIGHEST_NEED: u32 = 64000000;
+
 const MOST_ROWS: u16 = 256;
+
 const LARGEST_CAPACITY: u64 = 2000;
+
 const LOWEST_1: u64 = 100;
+
 const HIGHEST_1: u64 = 320;
+
 const LOWEST_2: u64 = 320;
+
 const HIGHEST_2: u64 = 750;
+
 const THERMAL: u8 = 1;
+
 const SOLAR: u64 = 3;
+
 const ACCIDENT: u8 = 3;
 
 fn within(lo: u64, hi: u64, x: u64) -> bool

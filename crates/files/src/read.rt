@@ -1,12 +1,11 @@
 // What the bytes of a head or a row say (01, The files).
+use crate::CorrectionHead;
+use crate::Head;
+use crate::Row;
 use columns::number_at;
 use units::Hao;
 use units::Kwh;
 use units::Li;
-use crate::CorrectionHead;
-use crate::Head;
-use crate::Row;
-
 ghost use mathlib.Core.Path.{_≡_};
 ghost use Prim.Native.Nat.{_+_, _≤_};
 ghost use lib.ListN.{length};
