@@ -1,7 +1,8 @@
--- The first of an ordered list of checks: where it gives 0, no check applies.
+-- An ordered list of checks, and a list of tests: what their answers say of each.
 --   none-applies   a list of checks with numbers above 0 that gave 0: the check at any position does not apply
+--   each           a list of tests that all pass: the test at any position does
 -- Assumes nothing.
-use mathlib.Core.Path.{_≡_, refl}
+use mathlib.Core.Path.{_≡_, refl, sym, subst}
 use Prim.Native.Nat.{ℕ, zero, suc, _<_}
 use mathlib.Core.Bool.{Bool, true, false, cond, _&&_}
 use mathlib.Core.List.{List, [], _∷_}
@@ -9,7 +10,7 @@ use native.Mathlib.Nat.{le-of-suc-le-suc}
 use native.Mathlib.Omega.{arith}
 use lib.Dec.{T, ltb, ltb→lt}
 use lib.ListN.{length, getD}
-use Rattle.columns.specs.Test.{Check, firstOf}
+use Rattle.columns.specs.Test.{Check, firstOf, allOf, allFrom}
 
 -- every check of the list has a number above 0
 abbrev pub numbered : List Check → Bool
@@ -35,3 +36,26 @@ none-applies d (c ∷ cs) t h zero l =
 none-applies d (c ∷ cs) t h (suc i) l =
     let rest = passed (c .applies) (c .number) (firstOf cs) (ltb→lt 0 (c .number) (both-left (ltb 0 (c .number)) (numbered cs) t)) h .1 in
     none-applies d cs (both-right (ltb 0 (c .number)) (numbered cs) t) rest i (le-of-suc-le-suc l)
+
+left-true : (a b : Bool) → a && b ≡ true → a ≡ true
+left-true true b e = refl
+left-true false b e = e
+
+right-true : (a b : Bool) → a && b ≡ true → b ≡ true
+right-true true b e = e
+right-true false b e = absurd (subst T (sym e) tt)
+
+-- all of t and us pass: t does, and so does each of us
+from-both : (t : Bool) (us : List Bool) → allFrom t us ≡ true → (t ≡ true) × ((i : ℕ) → i < length us → getD us i true ≡ true)
+from-both t [] h = (h, λ i l. refl)
+from-both t (u ∷ us) h =
+    let rest = from-both (t && u) us h in
+    (left-true t u (rest .0), at (right-true t u (rest .0)) (rest .1)) where
+      at : u ≡ true → ((i : ℕ) → i < length us → getD us i true ≡ true) → (i : ℕ) → i < length (u ∷ us) → getD (u ∷ us) i true ≡ true
+      at e f zero l = e
+      at e f (suc i) l = f i (le-of-suc-le-suc l)
+
+pub each : (ts : List Bool) → allOf ts ≡ true → (i : ℕ) → i < length ts → getD ts i true ≡ true
+each [] h i l = refl
+each (t ∷ ts) h zero l = from-both t ts h .0
+each (t ∷ ts) h (suc i) l = from-both t ts h .1 i (le-of-suc-le-suc l)

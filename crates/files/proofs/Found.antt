@@ -27,7 +27,7 @@ find-none (suc n) s k id h =
     let here : k + 0 * 21 ≡ k = omega arith in
     let not-here : eqb (rowAt s k .id) id ≡ false = ne-eqb _ _ (rw here at (h 0 (omega arith))) in
     let later : findId s (k + 21) n id ≡ n = find-none n s (k + 21) id
-        (λ x l. let there : k + suc x * 21 ≡ k + 21 + x * 21 = omega arith in rw there at (h (suc x) (omega arith))) in
+    (λ x l. let there : k + suc x * 21 ≡ k + 21 + x * 21 = omega arith in rw there at (h (suc x) (omega arith))) in
     rw (not-here, later)
 
 pub find-at : (n : ℕ) (s : List ℕ) (k id i : ℕ) → i < n → idOf s k i ≡ id → ((x : ℕ) → x < i → idOf s k x ≡ id → ⊥) → findId s k n id ≡ i
@@ -41,7 +41,7 @@ find-at (suc n) s k id (suc i) l e h =
     let there : k + suc i * 21 ≡ k + 21 + i * 21 = omega arith in
     let not-here : eqb (rowAt s k .id) id ≡ false = ne-eqb _ _ (rw here at (h 0 (omega arith))) in
     let later : findId s (k + 21) n id ≡ i = find-at n s (k + 21) id i (le-of-suc-le-suc l) (rw there at e)
-        (λ x m. let those : k + suc x * 21 ≡ k + 21 + x * 21 = omega arith in rw those at (h (suc x) (omega arith))) in
+    (λ x m. let those : k + suc x * 21 ≡ k + 21 + x * 21 = omega arith in rw those at (h (suc x) (omega arith))) in
     rw (not-here, later)
 
 -- the answer of a search by where the walk stopped: at r if that row has the id, else nowhere
@@ -52,18 +52,20 @@ pub find-sought : (s : List ℕ) (start n id r : ℕ) → Rows s start n → Sou
 find-sought s start n id r rows w = ⊎-elim inside past (lt-or-le r n) where
   past : n ≤ r → findId s start n id ≡ stopped s start n id r
   past m = rw (le-ltb r n m) (find-none n s start id (λ x l e. absurd (omega (arith, w .under x (omega arith)))))
+
   here : (t : Bool) → eqb (idOf s start r) id ≡ t → r < n → findId s start n id ≡ stopped s start n id r
   here true e l =
       rw (lt-ltb r n l, e) (find-at n s start id r l (eqb-true _ _ e) (λ x m q. absurd (omega (arith, w .under x m))))
   here false e l =
       rw (lt-ltb r n l, e)
-        (find-none n s start id (λ x m q. ⊎-elim
-          (λ (o : x < r). absurd (omega (arith, w .under x o)))
-          (λ (o : r ≤ x). ⊎-elim
-            (λ (z : r < x). absurd (omega (arith, rows .rising r x z m, w .reached l)))
-            (λ (z : x ≤ r). let same : x ≡ r = omega arith in eqb-false (idOf s start r) id e (rw same at q))
-            (lt-or-le r x))
-          (lt-or-le x r)))
+      (find-none n s start id (λ x m q. ⊎-elim
+      (λ (o : x < r). absurd (omega (arith, w .under x o)))
+      (λ (o : r ≤ x). ⊎-elim
+      (λ (z : r < x). absurd (omega (arith, rows .rising r x z m, w .reached l)))
+      (λ (z : x ≤ r). let same : x ≡ r = omega arith in eqb-false (idOf s start r) id e (rw same at q))
+      (lt-or-le r x))
+      (lt-or-le x r)))
+
   inside : r < n → findId s start n id ≡ stopped s start n id r
   inside l = here (eqb (idOf s start r) id) refl l
 
@@ -81,11 +83,14 @@ unfolding corrects
 corrects-sought s n r row e rows w = rw (← e, find-sought s 15 n (row .id) r rows w) (⊎-elim inside past (lt-or-le r n)) where
   goal : Type 0
   goal = ltb (stopped s 15 n (row .id) r) n && sameTerms (rowAt s (rowStart (stopped s 15 n (row .id) r))) row ≡ matches s n r row
+
   past : n ≤ r → goal
   past m = rw (le-ltb r n m, le-ltb n n (omega arith))
+
   here : (t : Bool) → eqb (idOf s 15 r) (row .id) ≡ t → r < n → goal
   here true f l = rw (lt-ltb r n l, f, lt-ltb r n l)
   here false f l = rw (lt-ltb r n l, f, le-ltb n n (omega arith), terms-id (rowAt s (rowStart r)) row f)
+
   inside : r < n → goal
   inside l = here (eqb (idOf s 15 r) (row .id)) refl l
 

@@ -51,7 +51,6 @@ names-step s k m j l =
 module _ (s k : List ℕ) (n m i j r : ℕ) (row : Row) (t : Bool) (b : Beside s k n m i j) (l : j < m)
     (is-row : row ≡ rowAt k (9 + j * 21)) (count : n ≡ rowCount s) (own : Rows s 15 n) (theirs : Rows k 9 m)
     (w : Sought s 15 n (row .id) r) (told : t ≡ matches s n r row) where
-
   corrected : corrects s (rowAt k (9 + j * 21)) ≡ t
   corrected = rw (← is-row) (corrects-sought s n r row count own w ∙ sym told)
 

@@ -68,7 +68,7 @@ rows-rise (suc left) s k place last h (suc i) (suc j) l m =
     let here : k + suc i * 21 ≡ k + 21 + i * 21 = omega arith in
     let there : k + suc j * 21 ≡ k + 21 + j * 21 = omega arith in
     rw (here, there)
-      (rows-rise left s (k + 21) (place + 1) (rowAt s k .id) (rows-parts left s k place last h .1) i j (le-of-suc-le-suc l) (le-of-suc-le-suc m))
+    (rows-rise left s (k + 21) (place + 1) (rowAt s k .id) (rows-parts left s k place last h .1) i j (le-of-suc-le-suc l) (le-of-suc-le-suc m))
 
 pub rows-sound : (s : List ℕ) (start n : ℕ) → start + n * 21 ≤ length s → rowsFault s start n 1 0 .number ≡ 0 → Rows s start n
 rows-sound s start n le h =

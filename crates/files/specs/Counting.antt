@@ -1,6 +1,6 @@
 -- Which bytes count for a row, and the rows that count (01, The files).
 -- Assumes nothing.
-use Prim.Native.Nat.{ℕ}
+use Prim.Native.Nat.{ℕ, _+_}
 use mathlib.Core.Bool.{cond}
 use mathlib.Core.List.{List, []}
 use lib.Dec.{ltb, eqb}
@@ -30,6 +30,12 @@ named s k id =
 -- the bytes that count for an id; none where checks 1 to 10 refuse the pair of files
 unfoldable pub countingBytes : List ℕ → List ℕ → ℕ → List ℕ
 countingBytes s k id = cond (eqb (fileFault s k .number) 0) (named s k id) []
+
+-- where the row that counts for row i stands: 0 for the interval's own, else 1 more than the correction's row number
+unfoldable pub sourceOf : List ℕ → List ℕ → ℕ → ℕ
+sourceOf s k i =
+    let j = inCorrection k (rowAt s (rowStart i) .id) in
+    cond (ltb j (correctionCount k)) (j + 1) 0
 
 -- row i of an accepted pair, with the correction's row in its place where there is one
 unfoldable pub countingRow : List ℕ → List ℕ → ℕ → Row

@@ -3,14 +3,14 @@ use units::Hao;
 use units::Kwh;
 use units::Li;
 
-//mod counts;
+mod counts;
 mod range;
 mod read;
 mod refusal;
 
-//pub use counts::counting;
-//pub use counts::counting_row;
-//pub use counts::sources;
+pub use counts::counting;
+pub use counts::counting_row;
+pub use counts::sources;
 pub use range::correction_head_ok;
 pub use range::head_ok;
 pub use range::row_checks;

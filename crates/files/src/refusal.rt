@@ -1,5 +1,6 @@
 // The refusals 1 to 10 in their order (01, Numbers of refusal).
-use columns::number_at;
+use crate::Row;
+use crate::Verdict;
 use crate::range::correction_head_ok;
 use crate::range::head_ok;
 use crate::range::row_checks;
@@ -8,9 +9,7 @@ use crate::read::head_at;
 use crate::read::id_at;
 use crate::read::marked;
 use crate::read::row_at;
-use crate::Row;
-use crate::Verdict;
-
+use columns::number_at;
 ghost use mathlib.Core.Path.{_≡_};
 ghost use mathlib.Core.Bool.{_&&_};
 ghost use Prim.Native.Nat.{_+_, _*_, _≤_, _<_};
@@ -21,7 +20,9 @@ ghost use Rattle.files.specs.Fault.{headFault, rowFault, rowsFault, inte
 ghost use Rattle.files.specs.Walk.{Rows, Under, Sought};
 
 const HEAD: usize = 15;
+
 const CORRECTION_HEAD: usize = 9;
+
 const ROW: usize = 21;
 
 // How many rows an interval file announces.

@@ -1,0 +1,126 @@
+// Which bytes count for a row, and the rows that count (01, The files): the correction's where it names the row.
+use crate::Row;
+use crate::Verdict;
+use crate::read::id_at;
+use crate::read::row_at;
+use crate::refusal::check;
+use crate::refusal::correction_count;
+use crate::refusal::seek;
+ghost use mathlib.Core.Path.{_≡_};
+ghost use mathlib.Core.Bool.{_&&_, cond};
+ghost use Prim.Native.Nat.{_+_, _*_, _≤_, _<_};
+ghost use lib.Dec.{ltb, eqb};
+ghost use lib.ListN.{length};
+ghost use Rattle.columns.specs.Table.{table};
+ghost use Rattle.columns.specs.Buffer.{put};
+ghost use Rattle.files.specs.Layout.{rowCount, correctionCount};
+ghost use Rattle.files.specs.Fault.{verdictOf};
+ghost use Rattle.files.specs.Walk.{idOf, Rows};
+ghost use Rattle.files.specs.Counting.{part, named, countingBytes, sourceOf, countingRow};
+
+const HEAD: usize = 15;
+
+const CORRECTION_HEAD: usize = 9;
+
+const ROW: usize = 21;
+
+// How many rows a correction has that is sound or absent.
+fn named_rows(k: &[u8]) -> usize
+    requires { ⌜ Rows (now k) 9 (correctionCount (now k)) ⌝ }
+    ensures { λ r. ⌜ r ≡ correctionCount (now (k .entry)) ⌝ }
+{
+    if k.len() < CORRECTION_HEAD {
+        return 0;
+    }
+    correction_count(k)
+}
+
+// Row i is there and has this id.
+fn is_row(s: &[u8], start: usize, n: usize, i: usize, id: u16) -> bool
+    requires { ⌜ Rows (now s) start n ⌝ }
+    ensures { λ b. ⌜ b ≡ (ltb i n && eqb (idOf (now (s .entry)) start i) id) ⌝ }
+{
+    if n <= i {
+        return false;
+    }
+    id_at(s, start + i * ROW) == id
+}
+
+// The 21 bytes of a row.
+fn part_at(s: &[u8], at: usize) -> &[u8]
+    requires { ⌜ at + 21 ≤ length (now s) ⌝ }
+    ensures { λ r. ⌜ now r ≡ part (now (s .entry)) at ⌝ }
+{
+    &s[at..at + ROW]
+}
+
+// The bytes of an id's row in a pair of files that is accepted; none where nobody names it.
+fn named_part<'a>(interval: &'a [u8], correction: &'a [u8], n: usize, id: u16) -> &'a [u8]
+    requires { ⌜ verdictOf (now interval) (now correction) ≡ Verdict.Accepted n ⌝ }
+    ensures { λ r. ⌜ now r ≡ named (now (interval .entry)) (now (correction .entry)) id ⌝ }
+{
+    let m = named_rows(correction);
+    let j = seek(correction, CORRECTION_HEAD, 0, m, id);
+    if is_row(correction, CORRECTION_HEAD, m, j, id) {
+        return part_at(correction, CORRECTION_HEAD + j * ROW);
+    }
+    let i = seek(interval, HEAD, 0, n, id);
+    if is_row(interval, HEAD, n, i, id) {
+        return part_at(interval, HEAD + i * ROW);
+    }
+    &interval[0..0]
+}
+
+// The public reader: the bytes that count for an id; none where the files are refused or nobody names it.
+pub fn counting<'a>(interval: &'a [u8], correction: &'a [u8], id: u16) -> &'a [u8]
+    ensures { λ r. ⌜ now r ≡ countingBytes (now (interval .entry)) (now (correction .entry)) id ⌝ }
+{
+    let v = check(interval, correction);
+    match v {
+        Verdict::Refused(_, _) => &interval[0..0],
+        Verdict::Accepted(n) => named_part(interval, correction, n, id),
+    }
+}
+
+// 1 more than a row's number where it has this id, else 0.
+fn source_at(k: &[u8], m: usize, j: usize, id: u16) -> u16
+    requires { ⌜ Rows (now k) 9 m ⌝ }
+    requires { ⌜ m ≤ 256 ⌝ }
+    ensures { λ r. ⌜ r ≡ cond (ltb j m && eqb (idOf (now (k .entry)) 9 j) id) (j + 1) 0 ⌝ }
+{
+    if !is_row(k, CORRECTION_HEAD, m, j, id) {
+        return 0;
+    }
+    (j + 1) as u16
+}
+
+// For each of the n rows of an accepted pair, where the row that counts stands: both files side by side.
+pub fn sources(interval: &[u8], correction: &[u8], n: usize, out: &mut [u16; 256])
+    requires { ⌜ verdictOf (now interval) (now correction) ≡ Verdict.Accepted n ⌝ }
+    requires { ⌜ length (now out) ≡ 256 ⌝ }
+    ensures { λ r. ⌜ now (out .exit) ≡ put (now (out .entry)) 0 (table n (sourceOf (now (interval .entry)) (now (correction .entry)))) ⌝ }
+{
+    let m = named_rows(correction);
+    let mut j = 0;
+    let mut i = 0;
+    while i < n {
+        let id = id_at(interval, HEAD + i * ROW);
+        j = seek(correction, CORRECTION_HEAD, j, m, id);
+        out[i] = source_at(correction, m, j, id);
+        i += 1;
+    }
+}
+
+// The row that counts for row i of an accepted pair of n rows, by its source.
+pub fn counting_row(interval: &[u8], correction: &[u8], n: usize, i: usize, source: u16) -> Row
+    requires { ⌜ verdictOf (now interval) (now correction) ≡ Verdict.Accepted n ⌝ }
+    requires { ⌜ i < n ⌝ }
+    requires { ⌜ source ≡ sourceOf (now interval) (now correction) i ⌝ }
+    ensures { λ r. ⌜ r ≡ countingRow (now (interval .entry)) (now (correction .entry)) i ⌝ }
+{
+    if source == 0 {
+        return row_at(interval, HEAD + i * ROW);
+    }
+    let j = (source as usize) - 1;
+    row_at(correction, CORRECTION_HEAD + j * ROW)
+}
