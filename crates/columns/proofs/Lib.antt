@@ -4,3 +4,8 @@ pub mod Table
 pub mod Rank
 pub mod Fill
 pub mod Mask
+pub mod Number
+pub mod Buffer
+pub mod Reading
+pub mod Choice
+pub mod First

@@ -1,4 +1,6 @@
 // Interval contents (01, The files): read from a file's bytes, and written to bytes in a lent buffer.
+ghost use mathlib.Core.Path.{_≡_};
+ghost use Rattle.files.specs.Layout.{headBytes, rowBytes};
 use files::Head;
 use files::Row;
 
@@ -20,4 +22,56 @@ pub struct Reading {
 pub enum Written {
     Bytes(usize),
     Refused(usize, usize),
+}
+
+// A head's 15 bytes.
+fn encode_head(h: Head) -> [u8; 15]
+    ensures { λ b. ⌜ b ≡ headBytes h ⌝ }
+{
+    [
+        b'P',
+        b'H',
+        (h.day % 256) as u8,
+        (h.day / 256 % 256) as u8,
+        (h.day / 256 / 256 % 256) as u8,
+        (h.day / 256 / 256 / 256 % 256) as u8,
+        h.quarter,
+        (h.tariff.0 % 256) as u8,
+        (h.tariff.0 / 256 % 256) as u8,
+        (h.need.0 % 256) as u8,
+        (h.need.0 / 256 % 256) as u8,
+        (h.need.0 / 256 / 256 % 256) as u8,
+        (h.need.0 / 256 / 256 / 256 % 256) as u8,
+        (h.rows % 256) as u8,
+        (h.rows / 256 % 256) as u8,
+    ]
+}
+
+// A row's 21 bytes.
+fn encode_row(r: Row) -> [u8; 21]
+    ensures { λ b. ⌜ b ≡ rowBytes r ⌝ }
+{
+    [
+        b'P',
+        b'R',
+        (r.id % 256) as u8,
+        (r.id / 256 % 256) as u8,
+        r.kind,
+        (r.capacity % 256) as u8,
+        (r.capacity / 256 % 256) as u8,
+        (r.metered.0 % 256) as u8,
+        (r.metered.0 / 256 % 256) as u8,
+        (r.metered.0 / 256 / 256 % 256) as u8,
+        (r.metered.0 / 256 / 256 / 256 % 256) as u8,
+        r.status,
+        r.offered,
+        (r.minimum.0 % 256) as u8,
+        (r.minimum.0 / 256 % 256) as u8,
+        (r.minimum.0 / 256 / 256 % 256) as u8,
+        (r.minimum.0 / 256 / 256 / 256 % 256) as u8,
+        (r.bid1.0 % 256) as u8,
+        (r.bid1.0 / 256 % 256) as u8,
+        (r.bid2.0 % 256) as u8,
+        (r.bid2.0 / 256 % 256) as u8,
+    ]
 }

@@ -31,11 +31,13 @@ abbrev pub check : Bool → ℕ → Check
 check b n = record { applies = b; number = n }
 
 -- 1 to 4: length, mark, ranges of the head, length by the count of rows
+abbrev pub headChecks : List ℕ → List Check
+headChecks s =
+    check (ltb (length s) 15) 1 ∷ check (not (marked s 0 letterH)) 2 ∷ check (not (headOk (headAt s))) 3
+    ∷ check (not (eqb (length s) (rowStart (rowCount s)))) 4 ∷ []
+
 unfoldable pub headFault : List ℕ → ℕ
-headFault s =
-    firstOf
-    (check (ltb (length s) 15) 1 ∷ check (not (marked s 0 letterH)) 2 ∷ check (not (headOk (headAt s))) 3
-    ∷ check (not (eqb (length s) (rowStart (rowCount s)))) 4 ∷ [])
+headFault s = firstOf (headChecks s)
 
 -- 6 and 7: a row's ranges, and its id against the id before it
 abbrev pub rowChecks : Row → ℕ → List Check

@@ -1,4 +1,5 @@
 pub mod Layout
 pub mod Range
 pub mod Fault
+pub mod Walk
 pub mod Counting

@@ -3,6 +3,24 @@ use units::Hao;
 use units::Kwh;
 use units::Li;
 
+mod check;
+//mod counting;
+mod range;
+mod read;
+
+//pub use check::check;
+pub use check::interval_verdict;
+//pub use counting::counting;
+//pub use counting::counting_row;
+//pub use counting::sources;
+pub use range::correction_head_ok;
+pub use range::head_ok;
+pub use range::row_checks;
+pub use range::row_ok;
+pub use read::correction_head_at;
+pub use read::head_at;
+pub use read::row_at;
+
 // An interval's head, without its mark.
 pub struct Head {
     pub day: u32,

@@ -25,8 +25,9 @@ use Rattle.merit.specs.Price.{price}
 use Rattle.pay.specs.Pay.{compensation}
 use Rattle.levy.specs.Weight.{payer, weight, cap}
 use Rattle.levy.specs.Rounds.{closes, closed, next, run, opening, final, openWeights, paid, payments, shortfall, cuts}
-use Rattle.settle.specs.Settlement.{figures}
-use Rattle.settle.specs.Statement.{statementHeadBytes, statementHeadAt, lineBytes, lineAt, statementHead, line, linesBytes, statementBytes}
+use Rattle.settle.specs.Settlement.{compensationsOf, weightsOf, capsOf, levied, figures}
+use Rattle.statement.specs.Statement.{statementHeadBytes, statementHeadAt, lineBytes, lineAt, linesBytes}
+use Rattle.settle.specs.Statement.{statementHead, lineOf, linesOf, statementBytes}
 use Rattle.settle.specs.Answer.{statementOf, settleFault, answerOf, bufferAfter}
 use Rattle.settle.specs.Table.{intervalX, settledX, Entry, entry, figuresTable, same, allRight}
 
@@ -35,8 +36,8 @@ unfolding sumTo countTo maxTo table numberAt numberBytes put whole quota rest tu
     headAt rowAt correctionHeadAt headOk statusOk notOffering offering rowTests rowOk
     orElse headFault rowFault rowsFault intervalFault findId pairFault fileFault countingRow
     width1 width2 bandsOf cheaperIn cheaper group due called calls uncovered price compensation payer weight cap
-    closes closed next run opening final openWeights paid payments shortfall cuts figures
-    statementHeadBytes statementHeadAt lineBytes lineAt statementHead line linesBytes statementBytes
+    closes closed next run opening final openWeights paid payments shortfall cuts compensationsOf weightsOf capsOf levied figures
+    statementHeadBytes statementHeadAt lineBytes lineAt statementHead lineOf linesOf linesBytes statementBytes
     statementOf settleFault answerOf bufferAfter intervalX settledX figuresTable same allRight
 all-right = refl
 

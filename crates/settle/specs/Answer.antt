@@ -10,7 +10,8 @@ use Rattle.files.specs.Layout.{headAt, rowCount}
 use Rattle.files.specs.Fault.{Fault, fault, none, orElse, fileFault}
 use Rattle.files.specs.Counting.{countingRow}
 use Rattle.settle.specs.Settlement.{figures}
-use Rattle.settle.specs.Statement.{lineStart, statementBytes}
+use Rattle.statement.specs.Statement.{lineStart}
+use Rattle.settle.specs.Statement.{statementBytes}
 use Rattle.settle.specs.declared.Answer.{Answer}
 use Rattle.settle.specs.declared.Answer.the-variants.{Settled, Refused}
 

@@ -22,19 +22,44 @@ baseline r = half (r .capacity)
 abbrev pub firstTurn : ℕ
 firstTurn = 0
 
--- the figures of a statement: two prices, uncovered need, and a column for each field of a line
-pub record Figures : Type 0 where
-  pub price1 : ℕ
-  pub price2 : ℕ
-  pub uncovered : ℕ
+-- what each row is paid, from the calls and the prices of both tiers
+unfoldable pub compensationsOf : ℕ → (ℕ → Row) → List ℕ → List ℕ → ℕ → ℕ → List ℕ
+compensationsOf n row called1 called2 price1 price2 =
+    table n (λ i. compensation (row i) (baseline (row i)) (at called1 i) (at called2 i) price1 price2)
+
+-- what each row weighs, and the most that it pays at a tariff
+unfoldable pub weightsOf : ℕ → (ℕ → Row) → List ℕ
+weightsOf n row = table n (λ i. weight (baseline (row i)) (row i))
+
+unfoldable pub capsOf : ℕ → ℕ → (ℕ → Row) → List ℕ
+capsOf tariff n row = table n (λ i. cap (baseline (row i)) tariff (row i))
+
+-- a column for each field of a line
+pub record Columns : Type 0 where
   pub called1 : List ℕ
   pub called2 : List ℕ
   pub compensations : List ℕ
+  pub cuts : List ℕ
   pub weights : List ℕ
   pub caps : List ℕ
-  pub standing : Standing
+  pub paid : List ℕ
+  pub closing : List ℕ
 
--- calls, prices, compensations, weights, caps and rounds of n rows
+-- the figures of a statement: what its head shows, and the columns
+pub record Figures : Type 0 where
+  pub price1 : ℕ
+  pub price2 : ℕ
+  pub total : ℕ
+  pub shortfall : ℕ
+  pub rounds : ℕ
+  pub uncovered : ℕ
+  pub columns : Columns
+
+-- what the rounds make of compensations, weights and caps
+unfoldable pub levied : List ℕ → List ℕ → List ℕ → Standing
+levied pay ws cs = final (whole pay) ws cs
+
+-- calls, prices, compensations, weights, caps, rounds, payments and cuts of n rows
 unfoldable pub figures : Head → ℕ → (ℕ → Row) → Figures
 figures h n row =
     let b = bandsOf n row in
@@ -42,27 +67,25 @@ figures h n row =
     let c2 = calls (h .need .0) b firstTurn two in
     let p1 = price (b .bids1) c1 in
     let p2 = price (b .bids2) c2 in
-    let pay = table n (λ i. compensation (row i) (baseline (row i)) (at c1 i) (at c2 i) p1 p2) in
-    let ws = table n (λ i. weight (baseline (row i)) (row i)) in
-    let cs = table n (λ i. cap (baseline (row i)) (h .tariff .0) (row i)) in
+    let pay = compensationsOf n row c1 c2 p1 p2 in
+    let ws = weightsOf n row in
+    let cs = capsOf (h .tariff .0) n row in
+    let st = levied pay ws cs in
     record {
       price1 = p1;
       price2 = p2;
+      total = whole pay;
+      shortfall = shortfall st;
+      rounds = st .rounds;
       uncovered = uncovered (h .need .0) b;
-      called1 = c1;
-      called2 = c2;
-      compensations = pay;
-      weights = ws;
-      caps = cs;
-      standing = final (whole pay) ws cs;
+      columns = record {
+        called1 = c1;
+        called2 = c2;
+        compensations = pay;
+        cuts = cuts st pay firstTurn;
+        weights = ws;
+        caps = cs;
+        paid = payments ws cs st firstTurn;
+        closing = st .marks;
+      };
     }
-
--- the total compensation
-abbrev pub total : Figures → ℕ
-total f = whole (f .compensations)
-
-abbrev pub paidOf : Figures → List ℕ
-paidOf f = payments (f .weights) (f .caps) (f .standing) firstTurn
-
-abbrev pub cutsOf : Figures → List ℕ
-cutsOf f = cuts (f .standing) (f .compensations) firstTurn

@@ -13,7 +13,7 @@ use Rattle.share.specs.Share.{shares}
 use Rattle.merit.specs.Band.{Tier, one, Bands}
 use Rattle.merit.specs.Call.{calls}
 use Rattle.levy.specs.Weight.{thermalWeight}
-use Rattle.settle.specs.Statement.{lineStart, statementHeadAt, lineAt}
+use Rattle.statement.specs.Statement.{lineStart, statementHeadAt, lineAt}
 use Rattle.settle.specs.Answer.{answerOf, bufferAfter, numberOf, valueOf}
 
 -- interval X at a tariff, byte by byte: a head and three rows of 100 MW

@@ -1,0 +1,119 @@
+-- A run put into a buffer: its length, its elements, and runs put one after the other.
+--   put-length            the buffer keeps its length
+--   put-none              an empty run changes nothing
+--   put-whole             a run as long as the buffer is what the buffer holds afterwards
+--   put-put               two runs that adjoin are one run
+--   set-put               a store is a run of one
+--   put-step              a turn of a copy loop: one element more of the source
+--   copy-none, -more, -all  a copy loop's start, turn and end
+--   put-inside            within the run stand its elements
+--   put-before, put-after on either side of it stands what stood there
+--   take-put, put-taken   the first elements up to the run's end, and the run alone, taken out again
+--   drop-put              what follows the run is as it was
+-- Assumes nothing.
+use mathlib.Core.Path.{_≡_, refl, sym, ap, _∙_}
+use mathlib.Core.List.{List, [], _∷_, _++_, append-assoc, append-nil}
+use Prim.Native.Nat.{ℕ, zero, suc, _+_, _-_, _≤_, _<_}
+use native.Mathlib.Nat.{add-zero, zero-add, add-assoc}
+use native.Mathlib.Numerals.{add-one}
+use native.Mathlib.Omega.{arith}
+use lib.ListN.{length, getD, take, drop, set, length-append, length-take, length-drop, take-append-drop, List·getD-append}
+use lib.Seq.{length-take-le, take-suc, take-at, drop-at, drop-drop, drop-append-add, set-split, getD-take, getD-drop, getD-append-add, take-all, drop-length}
+use Rattle.columns.specs.Buffer.{put}
+
+module _ {A : Type 0} where
+  pub put-length : (l : List A) (k : ℕ) (vs : List A) → k + length vs ≤ length l → length (put l k vs) ≡ length l
+  unfolding put
+  put-length l k vs h = simp (length-append, length-take, length-drop) (omega arith)
+
+  pub put-none : (l : List A) (k : ℕ) → put l k [] ≡ l
+  unfolding put
+  put-none l k = rw (add-zero k, take-append-drop k l)
+
+  pub put-whole : (l vs : List A) → length vs ≡ length l → put l 0 vs ≡ vs
+  unfolding put
+  put-whole l vs e = rw (zero-add (length vs), e, drop-length l, append-nil vs)
+
+  -- what stands up to the end of the run
+  front-length : (l : List A) (k : ℕ) (vs : List A) → k ≤ length l → length (take k l ++ vs) ≡ k + length vs
+  front-length l k vs h = simp (length-append, length-take) (omega arith)
+
+  pub take-put : (l : List A) (k : ℕ) (vs : List A) → k ≤ length l → take (k + length vs) (put l k vs) ≡ take k l ++ vs
+  unfolding put
+  take-put l k vs h =
+      rw (← append-assoc (take k l) vs (drop (k + length vs) l))
+      (take-at (take k l ++ vs) (drop (k + length vs) l) (k + length vs) (front-length l k vs h))
+
+  pub drop-put : (l : List A) (k : ℕ) (vs : List A) → k ≤ length l → drop (k + length vs) (put l k vs) ≡ drop (k + length vs) l
+  unfolding put
+  drop-put l k vs h =
+      rw (← append-assoc (take k l) vs (drop (k + length vs) l))
+      (drop-at (take k l ++ vs) (drop (k + length vs) l) (k + length vs) (front-length l k vs h))
+
+  pub put-taken : (l : List A) (k : ℕ) (vs : List A) → k ≤ length l → take (length vs) (drop k (put l k vs)) ≡ vs
+  unfolding put
+  put-taken l k vs h =
+      rw (drop-at (take k l) (vs ++ drop (k + length vs) l) k (length-take-le k l h))
+      (take-at vs (drop (k + length vs) l) (length vs) refl)
+
+  rest-put : (l : List A) (at : ℕ) (vs ws : List A) → at ≤ length l
+      → drop (at + length vs + length ws) (put l at vs) ≡ drop (at + length (vs ++ ws)) l
+  rest-put l at vs ws h =
+      sym (drop-drop (length ws) (at + length vs) (put l at vs)) ∙ ap (drop (length ws)) (drop-put l at vs h)
+      ∙ drop-drop (length ws) (at + length vs) l ∙ rw (length-append vs ws, add-assoc at (length vs) (length ws))
+
+  adjoining : (l l′ : List A) (at : ℕ) (vs ws : List A) → take (at + length vs) l′ ≡ take at l ++ vs
+      → drop (at + length vs + length ws) l′ ≡ drop (at + length (vs ++ ws)) l
+      → put l′ (at + length vs) ws ≡ put l at (vs ++ ws)
+  unfolding put
+  adjoining l l′ at vs ws front rest = rw (front, rest) (simp append-assoc)
+
+  pub put-put : (l : List A) (at k : ℕ) (vs ws : List A) → k ≡ at + length vs → at ≤ length l
+      → put (put l at vs) k ws ≡ put l at (vs ++ ws)
+  put-put l at k vs ws e h = rw e (adjoining l (put l at vs) at vs ws (take-put l at vs h) (rest-put l at vs ws h))
+
+  pub set-put : (l : List A) (k : ℕ) (x : A) → k < length l → set l k x ≡ put l k (x ∷ [])
+  unfolding put
+  set-put l k x h = rw (set-split l k x h, add-one k)
+
+  pub put-step : (l : List A) (at : ℕ) (src : List A) (i : ℕ) (d : A) → at + length src ≤ length l → i < length src
+      → set (put l at (take i src)) (at + i) (getD src i d) ≡ put l at (take (i + 1) src)
+  put-step l at src i d room h =
+      let n : length (take i src) ≡ i = length-take-le i src (omega arith) in
+      let keeps : length (put l at (take i src)) ≡ length l = put-length l at (take i src) (omega arith) in
+      set-put (put l at (take i src)) (at + i) (getD src i d) (omega arith)
+      ∙ put-put l at (at + i) (take i src) (getD src i d ∷ []) (omega arith) (omega arith)
+      ∙ rw (add-one i, take-suc src i d h)
+
+  -- the copy loop by its parts, as its proof asks for them: the start, a turn, the end
+  pub copy-none : (l : List A) (at : ℕ) (src : List A) → l ≡ put l at (take 0 src)
+  copy-none l at src = sym (put-none l at)
+
+  pub copy-more : (l l′ : List A) (at : ℕ) (src : List A) (i : ℕ) (d : A) → at + length src ≤ length l
+      → l′ ≡ put l at (take i src) → i < length src → set l′ (at + i) (getD src i d) ≡ put l at (take (i + 1) src)
+  copy-more l l′ at src i d room e h = rw e (put-step l at src i d room h)
+
+  pub copy-all : (l l′ : List A) (at : ℕ) (src : List A) (i : ℕ) → l′ ≡ put l at (take i src) → length src ≤ i
+      → l′ ≡ put l at src
+  copy-all l l′ at src i e h = e ∙ ap (put l at) (take-all i src h)
+
+  pub put-inside : (l : List A) (k : ℕ) (vs : List A) (j : ℕ) (d : A) → k ≤ length l → j < length vs
+      → getD (put l k vs) (k + j) d ≡ getD vs j d
+  unfolding put
+  put-inside l k vs j d h i =
+      let there : getD (take k l ++ (vs ++ drop (k + length vs) l)) (length (take k l) + j) d ≡ getD (vs ++ drop (k + length vs) l) j d =
+      getD-append-add (take k l) (vs ++ drop (k + length vs) l) j d in
+      (rw (length-take-le k l h) at there) ∙ List·getD-append vs (drop (k + length vs) l) d j i
+
+  pub put-before : (l : List A) (k : ℕ) (vs : List A) (j : ℕ) (d : A) → k ≤ length l → j < k
+      → getD (put l k vs) j d ≡ getD l j d
+  unfolding put
+  put-before l k vs j d h i =
+      List·getD-append (take k l) (vs ++ drop (k + length vs) l) d j (rw (length-take-le k l h) i) ∙ getD-take k l j d i
+
+  pub put-after : (l : List A) (k : ℕ) (vs : List A) (j : ℕ) (d : A) → k ≤ length l → k + length vs ≤ j
+      → getD (put l k vs) j d ≡ getD l j d
+  put-after l k vs j d h i =
+      let n = k + length vs in
+      let e : n + (j - n) ≡ j = omega arith in
+      rw (← e, ← getD-drop n (put l k vs) (j - n) d, ← getD-drop n l (j - n) d, drop-put l k vs h)

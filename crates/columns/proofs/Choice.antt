@@ -1,0 +1,31 @@
+-- From what code has tested to the value of a definition that chooses by `cond`: hand `search checks` to a return.
+--   yes, no              a choice whose test passes, or fails
+--   not-yes, not-no      a test that code negates, told by a call that answers the definition's test
+--   differ, agree        the same for a test of equality
+--   checks               all of these, with the orders of numbers, as one set
+-- Assumes nothing.
+use mathlib.Core.Path.{_≡_, refl, sym, ap, _∙_}
+use Prim.Native.Nat.{ℕ}
+use mathlib.Core.Bool.{Bool, true, false, not, cond}
+use lib.Dec.{eqb}
+use borrow.Author.Tests.{lt-ltb, le-ltb, le-leb, lt-leb, eq-eqb, ne-eqb}
+
+pub yes : {A : Type 0} (t : Bool) (x y z : A) → t ≡ true → z ≡ x → z ≡ cond t x y
+yes t x y z e p = rw e p
+
+pub no : {A : Type 0} (t : Bool) (x y z : A) → t ≡ false → z ≡ y → z ≡ cond t x y
+no t x y z e p = rw e p
+
+pub not-yes : (b t : Bool) → b ≡ t → not b ≡ true → not t ≡ true
+not-yes b t e h = ap not (sym e) ∙ h
+
+pub not-no : (b t : Bool) → b ≡ t → not b ≡ false → not t ≡ false
+not-no b t e h = ap not (sym e) ∙ h
+
+pub differ : (a b : ℕ) → (a ≡ b → ⊥) → not (eqb a b) ≡ true
+differ a b h = ap not (ne-eqb a b h)
+
+pub agree : (a b : ℕ) → a ≡ b → not (eqb a b) ≡ false
+agree a b e = ap not (eq-eqb a b e)
+
+pub ruleset checks = (yes, no, not-yes, not-no, differ, agree, lt-ltb, le-ltb, le-leb, lt-leb, eq-eqb, ne-eqb)

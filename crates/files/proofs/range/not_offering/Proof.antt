@@ -1,0 +1,13 @@
+use Rattle.files.specs.Range.{notOffering}
+use Rattle.files.proofs.range.not_offering.Statement.{statement}
+use Rattle.files.proofs.range.not_offering.Tie as tie
+use Rattle.files.proofs.range.not_offering.Reads as reads
+use Rattle.files.proofs.range.not_offering.Lts as lts
+
+-- src/range.rt:55:1
+returns : tie.Need-returns
+unfolding notOffering
+returns c = cc
+
+pub not-offering-spec : {M : Type 1} → statement M
+not-offering-spec = tie.close (tie.spec returns)

@@ -1,0 +1,93 @@
+// Every range of a head and of a row (01, The files: Ranges; Article 25 for the limits of bids).
+use units::half;
+use units::most;
+use crate::CorrectionHead;
+use crate::Head;
+use crate::Row;
+
+ghost use mathlib.Core.Path.{_≡_};
+ghost use Rattle.columns.specs.Test.{within, firstOf};
+ghost use Rattle.files.specs.Range.{headOk, correctionHeadOk, statusOk, notOffering, offering, rowOk};
+ghost use Rattle.files.specs.Fault.{rowChecks};
+
+const LAST_DAY: u32 = 36524;
+const LAST_QUARTER: u8 = 95;
+const HIGHEST_TARIFF: u64 = 10000;
+const HIGHEST_NEED: u32 = 64000000;
+const MOST_ROWS: u16 = 256;
+const LARGEST_CAPACITY: u64 = 2000;
+const LOWEST_1: u64 = 100;
+const HIGHEST_1: u64 = 320;
+const LOWEST_2: u64 = 320;
+const HIGHEST_2: u64 = 750;
+const THERMAL: u8 = 1;
+const SOLAR: u64 = 3;
+const ACCIDENT: u8 = 3;
+
+fn within(lo: u64, hi: u64, x: u64) -> bool
+    ensures { λ r. ⌜ r ≡ within lo hi x ⌝ }
+{
+    (lo <= x) & (x <= hi)
+}
+
+pub fn head_ok(h: Head) -> bool
+    ensures { λ r. ⌜ r ≡ headOk h ⌝ }
+{
+    (h.day <= LAST_DAY)
+        & (h.quarter <= LAST_QUARTER)
+        & within(1, HIGHEST_TARIFF, h.tariff.0 as u64)
+        & (h.need.0 <= HIGHEST_NEED)
+        & (h.rows <= MOST_ROWS)
+}
+
+pub fn correction_head_ok(h: CorrectionHead) -> bool
+    ensures { λ r. ⌜ r ≡ correctionHeadOk h ⌝ }
+{
+    (h.day <= LAST_DAY) & (h.quarter <= LAST_QUARTER) & within(1, MOST_ROWS as u64, h.rows as u64)
+}
+
+fn status_ok(r: Row) -> bool
+    ensures { λ b. ⌜ b ≡ statusOk r ⌝ }
+{
+    (r.status <= ACCIDENT) & ((r.kind == THERMAL) | ((r.status == 0) | (r.status == ACCIDENT)))
+}
+
+fn not_offering(r: Row) -> bool
+    ensures { λ b. ⌜ b ≡ notOffering r ⌝ }
+{
+    (r.offered == 0) & (r.minimum.0 == 0) & (r.bid1.0 == 0) & (r.bid2.0 == 0)
+}
+
+fn offering(r: Row) -> bool
+    ensures { λ b. ⌜ b ≡ offering r ⌝ }
+{
+    (r.offered == 1)
+        & (r.kind == THERMAL)
+        & (r.minimum.0 <= half(r.capacity).0)
+        & within(LOWEST_1, HIGHEST_1, r.bid1.0)
+        & within(LOWEST_2, HIGHEST_2, r.bid2.0)
+}
+
+pub fn row_ok(r: Row) -> bool
+    ensures { λ b. ⌜ b ≡ rowOk r ⌝ }
+{
+    (1 <= r.id)
+        & within(1, SOLAR, r.kind as u64)
+        & within(1, LARGEST_CAPACITY, r.capacity as u64)
+        & (r.metered.0 <= most(r.capacity).0)
+        & status_ok(r)
+        & (not_offering(r) | offering(r))
+}
+
+// 6 and 7 for a row whose mark is right: its ranges, and its id against the id before it.
+pub fn row_checks(r: Row, last: u16) -> usize
+    ensures { λ f. ⌜ f ≡ firstOf (rowChecks r last) ⌝ }
+{
+    if !row_ok(r) {
+        return 6;
+    }
+    if r.id <= last {
+        return 7;
+    }
+    0
+}
