@@ -1,12 +1,12 @@
 pub mod Product
 pub mod Sum
 pub mod Table
+pub mod Rank
+pub mod Fill
+pub mod Mask
 pub mod Number
 pub mod Buffer
 pub mod Reading
 pub mod Choice
 pub mod First
-pub mod Rank
-pub mod Fill
 pub mod Passed
-pub mod Mask

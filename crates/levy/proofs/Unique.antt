@@ -25,15 +25,15 @@ use Rattle.levy.specs.Capped.{marked, inside, outside, capsOf, leftBy, w
 use Rattle.levy.proofs.Step.{unmarked, and-left, and-right, inside-weight, marked-up, sound-caps, final-sound}
 use Rattle.levy.proofs.Rate.{capped-owe, open-owe}
 
-both : (s t : Bool) → s ≡ true → t ≡ true → s && t ≡ true
-both s t e f = rw (e, f)
+and-true : (s t : Bool) → s ≡ true → t ≡ true → s && t ≡ true
+and-true s t e f = rw (e, f)
 
 -- a payer of weight w, in the set or beside it
 in-set : (w : ℕ) (t : Bool) → 0 < w → t ≡ true → ltb 0 w && t ≡ true
-in-set w t some e = both (ltb 0 w) t (lt-ltb 0 w some) e
+in-set w t some e = and-true (ltb 0 w) t (lt-ltb 0 w some) e
 
 beside : (w : ℕ) (t : Bool) → 0 < w → t ≡ false → ltb 0 w && not t ≡ true
-beside w t some e = both (ltb 0 w) (not t) (lt-ltb 0 w some) (ap not e)
+beside w t some e = and-true (ltb 0 w) (not t) (lt-ltb 0 w some) (ap not e)
 
 in-set-is : (w : ℕ) (t : Bool) → ltb 0 w && t ≡ true → t ≡ true
 in-set-is w t e = and-right (ltb 0 w) t e
@@ -112,14 +112,14 @@ module _ (total : ℕ) (ws cs : List ℕ) where
     more-less i e =
         let t : ltb 0 (at ws i) ≡ true = and-left (ltb 0 (at ws i)) (not (p i) && q i) e in
         let o : not (p i) ≡ true = and-left (not (p i)) (q i) (and-right (ltb 0 (at ws i)) (not (p i) && q i) e) in
-        omega (arith, hp .less i (both (ltb 0 (at ws i)) (not (p i)) t o))
+        omega (arith, hp .less i (and-true (ltb 0 (at ws i)) (not (p i)) t o))
 
     more-enough : (i : ℕ) → more p q ws i ≡ true → weightsBeside ws q * at cs i ≤ leftBy total ws cs q * at ws i
     unfolding more
     more-enough i e =
         let t : ltb 0 (at ws i) ≡ true = and-left (ltb 0 (at ws i)) (not (p i) && q i) e in
         let o : q i ≡ true = and-right (not (p i)) (q i) (and-right (ltb 0 (at ws i)) (not (p i) && q i) e) in
-        omega (arith, hq .enough i (both (ltb 0 (at ws i)) (q i) t o))
+        omega (arith, hq .enough i (and-true (ltb 0 (at ws i)) (q i) t o))
 
     left-more : leftBy total ws cs p ≡ leftBy total ws cs q + sumWhere (length ws) (more p q ws) (at cs)
     unfolding leftBy
