@@ -143,7 +143,7 @@ fn close_round(
 ) -> Closed
     requires { ⌜ Round n (now weights) (now caps) (now marks) money weight rounds ⌝ }
     ensures { λ r. ⌜ Shut n (now (weights .entry)) (now (caps .entry)) (now (marks .entry))
-      (standing n (now (marks .entry)) money weight rounds) (now (marks .exit)) r ⌝ }
+        (standing n (now (marks .entry)) money weight rounds) (now (marks .exit)) r ⌝ }
 {
     let mut closed_caps: u64 = 0;
     let mut closed_weights: u64 = 0;
@@ -175,7 +175,7 @@ fn redistribute(
 )
     requires { ⌜ Ready n (now weights) (now caps) (now marks) money weight rounds ⌝ }
     ensures { λ _. ⌜ Ended n (now (weights .entry)) (now (caps .entry)) (now (marks .entry))
-      (standing n (now (marks .entry)) money weight rounds) (now (marks .exit)) (now (rest .exit)) ⌝ }
+        (standing n (now (marks .entry)) money weight rounds) (now (marks .exit)) (now (rest .exit)) ⌝ }
 {
     let shut = close_round(money, weight, rounds, n, weights, caps, marks);
     if shut.weights == 0 {
@@ -221,7 +221,13 @@ fn whole_weight(n: usize, weights: &[u32; 256]) -> u64
 }
 
 // The total under weights and caps, round after round.
-pub fn rounds(total: u64, n: usize, weights: &[u32; 256], caps: &[u32; 256], marks: &mut [u16; 256]) -> Rest
+pub fn rounds(
+    total: u64,
+    n: usize,
+    weights: &[u32; 256],
+    caps: &[u32; 256],
+    marks: &mut [u16; 256],
+) -> Rest
     requires { ⌜ Columns n (now weights) (now caps) (now marks) total ⌝ }
     ensures { λ r. ⌜ Finished total n (now (weights .entry)) (now (caps .entry)) (now (marks .exit)) r ⌝ }
 {

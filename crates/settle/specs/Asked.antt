@@ -2,8 +2,15 @@
 use Prim.Native.Nat.{ℕ, _≤_, _<_}
 use mathlib.Core.Path.{_≡_}
 use mathlib.Core.List.{List}
+use mathlib.Core.Bool.{Bool, cond}
 use lib.ListN.{length}
+use Rattle.columns.specs.Table.{at, Below}
 use Rattle.files.specs.Layout.{rowAt, rowStart}
+use Rattle.files.specs.Fault.{verdictOf}
+use Rattle.files.specs.Counting.{sourceOf, countingRow}
+use Rattle.files.specs.declared.Row.{Row}
+use Rattle.files.specs.declared.Verdict.the-variants.{Accepted}
+use Rattle.merit.specs.Band.{width1, width2}
 use Rattle.statement.specs.Statement.{lineStart}
 use Rattle.settle.specs.Settlement.{Columns}
 
@@ -48,3 +55,23 @@ pub record Lines (bytes : ℕ) (c : Columns) (room : ℕ) : Type 0 where
   pub closing : length (c .closing) ≡ length (c .called1)
   pub covered : rowStart (length (c .called1)) ≤ bytes
   pub roomy : lineStart (length (c .called1)) ≤ room
+
+-- an accepted pair of files of n rows, and where the row that counts at each position stands
+pub record Read (s k : List ℕ) (n : ℕ) (sources : List ℕ) : Type 0 where
+  pub accepted : verdictOf s k ≡ Accepted n
+  pub few : n ≤ 256
+  pub long : length sources ≡ 256
+  pub sourced : Below n (λ i. at sources i ≡ sourceOf s k i)
+
+-- the width and the bid of a row's band in tier 2 where `second`, else in tier 1; and those of the row that counts at a position
+abbrev pub widthIn : Bool → Row → ℕ
+widthIn second r = cond second (width2 r) (width1 r)
+
+abbrev pub bidIn : Bool → Row → ℕ
+bidIn second r = cond second (r .bid2 .0) (r .bid1 .0)
+
+abbrev pub widthAt : Bool → List ℕ → List ℕ → ℕ → ℕ
+widthAt second s k i = widthIn second (countingRow s k i)
+
+abbrev pub bidAt : Bool → List ℕ → List ℕ → ℕ → ℕ
+bidAt second s k i = bidIn second (countingRow s k i)
