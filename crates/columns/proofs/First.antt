@@ -1,5 +1,6 @@
 -- An ordered list of checks, and a list of tests: what their answers say of each.
 --   none-applies   a list of checks with numbers above 0 that gave 0: the check at any position does not apply
+--   left-true, right-true      both of two tests pass: the one does, and the other
 --   each           a list of tests that all pass: the test at any position does
 -- Assumes nothing.
 use mathlib.Core.Path.{_≡_, refl, sym, subst}
@@ -37,11 +38,11 @@ none-applies d (c ∷ cs) t h (suc i) l =
     let rest = passed (c .applies) (c .number) (firstOf cs) (ltb→lt 0 (c .number) (both-left (ltb 0 (c .number)) (numbered cs) t)) h .1 in
     none-applies d cs (both-right (ltb 0 (c .number)) (numbered cs) t) rest i (le-of-suc-le-suc l)
 
-left-true : (a b : Bool) → a && b ≡ true → a ≡ true
+pub left-true : (a b : Bool) → a && b ≡ true → a ≡ true
 left-true true b e = refl
 left-true false b e = e
 
-right-true : (a b : Bool) → a && b ≡ true → b ≡ true
+pub right-true : (a b : Bool) → a && b ≡ true → b ≡ true
 right-true true b e = e
 right-true false b e = absurd (subst T (sym e) tt)
 

@@ -4,7 +4,8 @@
 --     same-test     two tests that pass together are equal
 --     ltb-same      two comparisons that hold together are equal
 --     some-or-none  some position below n passes a test, or none does
---     find-is       the search finds the one position that passes
+--     find-is       the search finds the first position that passes
+--     find-passes   what the search finds below n passes
 --     count-one     a test that passes at one position at most is counted once at most
 --     under-some    for each l up to n there is a bound with l keys under it
 --     rank-order    ranks stand as the keys do
@@ -13,17 +14,16 @@
 --     rank-some     each rank below n is somebody's
 -- Assumes nothing.
 use Prim.Native.Nat.{ℕ, zero, suc, _+_, _≤_, _<_}
-use mathlib.Core.Path.{_≡_, refl, ap, sym, _∙_, subst}
+use mathlib.Core.Path.{_≡_, refl, ap, sym, _∙_}
 use mathlib.Core.Logic.{_⊎_, inl, inr, ⊎-elim}
-use mathlib.Core.Bool.{Bool, true, false, cond}
-use native.Mathlib.Nat.{le-refl, eq-zero-or-pos}
+use mathlib.Core.Bool.{Bool, true, false}
 use native.Mathlib.Numerals.{add-one}
 use native.Mathlib.Omega.{arith}
-use lib.Dec.{T, ltb, eqb}
+use lib.Dec.{ltb, eqb}
 use borrow.Author.Tests.{lt-ltb, le-ltb, ltb-true, eq-eqb, ne-eqb, eqb-true, eqb-false}
 use Rattle.columns.specs.Sum.{bit, sumTo, countTo, findTo}
 use Rattle.columns.specs.Table.{Below}
-use Rattle.columns.proofs.Sum.{lt-or-le, sum-add, sum-same, sum-le, term-le, count-next, count-same, count-le, count-none, count-all, count-sub, count-some}
+use Rattle.columns.proofs.Sum.{lt-or-le, sum-add, sum-same, term-le, count-next, count-same, count-le, count-none, count-all, count-sub, count-some}
 
 pub test-or : (t : Bool) → (t ≡ true) ⊎ (t ≡ false)
 test-or true = inl refl
@@ -79,6 +79,15 @@ find-is (suc n) p i l e h =
     let t : p n ≡ true = rw (← s) e in
     rw (le-ltb (findTo n p) n (omega arith), t) (sym s))
     (lt-or-le i n)
+
+pub find-passes : (n : ℕ) (p : ℕ → Bool) → findTo n p < n → p (findTo n p) ≡ true
+unfolding findTo
+find-passes zero p l = absurd (omega arith)
+find-passes (suc n) p l =
+    ⊎-elim (λ (k : findTo n p < n). rw (lt-ltb (findTo n p) n k) (find-passes n p k))
+    (λ (k : n ≤ findTo n p). ⊎-elim (λ (e : p n ≡ true). rw (le-ltb (findTo n p) n k, e) e)
+    (λ (e : p n ≡ false). let m = rw (le-ltb (findTo n p) n k, e) at l in absurd (omega arith)) (test-or (p n)))
+    (lt-or-le (findTo n p) n)
 
 -- how many keys below n are under t
 unfoldable pub under : ℕ → (ℕ → ℕ) → ℕ → ℕ

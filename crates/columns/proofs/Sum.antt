@@ -12,7 +12,7 @@
 --     terms-none    a sum of 0 has terms of 0
 --     sum-same-le   where f ≤ g below n and the sums are equal, f and g agree
 --     bit-le        a test counts for at most 1
---     count-next, count-same, count-le, count-none, count-all, count-sub, count-some     the same of counts
+--     count-next, count-same, count-le, count-none, count-all, count-sub, count-some, count-zero     the same of counts
 --     max-next, max-same, max-term, max-bound, max-reached      the same of maxima
 -- Assumes nothing.
 use Prim.Native.Nat.{ℕ, zero, suc, _+_, _*_, _≤_, _<_, max, zero-le, suc-le-suc}
@@ -125,6 +125,14 @@ count-sub n p q h = sum-le n (λ k. bit (p k)) (λ k. bit (q k)) (λ k l. each k
 pub count-some : (n : ℕ) (p : ℕ → Bool) (k : ℕ) → k < n → p k ≡ true → 0 < countTo n p
 unfolding countTo
 count-some n p k l e = omega (arith, term-le n (λ j. bit (p j)) k l, ap bit e)
+
+-- a count of 0 passes nowhere
+pub count-zero : (n : ℕ) (p : ℕ → Bool) → countTo n p ≡ 0 → Below n (λ k. p k ≡ false)
+count-zero n p e k l = passes (p k) refl
+  where
+    passes : (t : Bool) → p k ≡ t → p k ≡ false
+    passes true f = absurd (omega (arith, count-some n p k l f))
+    passes false f = f
 
 pub max-next : (n : ℕ) (f : ℕ → ℕ) → maxTo (n + 1) f ≡ max (maxTo n f) (f n)
 unfolding maxTo

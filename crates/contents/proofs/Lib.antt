@@ -2,3 +2,6 @@ pub mod Record
 pub mod Rows
 pub mod Refusal
 pub mod RoundTrip
+pub mod Walk
+pub mod Answered
+pub mod Figures

@@ -33,13 +33,10 @@ use Rattle.contents.specs.declared.Contents.{Contents}
 use Rattle.contents.specs.declared.Reading.{Reading}
 use Rattle.contents.specs.declared.Written.{Written}
 use Rattle.contents.specs.declared.Written.the-variants.{Bytes}
+use Rattle.contents.proofs.Walk.{fileRow}
 use Rattle.contents.proofs.Record.{head-write, head-fits, row-fits, rows-few}
 use Rattle.contents.proofs.Rows.{contents-length, contents-head, contents-mark, contents-row, contents-row-mark, rows-write}
 use Rattle.contents.proofs.Refusal.{HeadNone, head-none, rows-valid, list-valid, SameRow, rows-agree}
-
--- row i of the contents of a file
-abbrev fileRow : List ℕ → ℕ → Row
-fileRow s i = cond (ltb i (rowCount s)) (rowAt s (rowStart i)) zeroRow
 
 -- What acceptance of a file gives.
 module _ (s : List ℕ) (accepted : intervalFault s .number ≡ 0) where
@@ -104,7 +101,7 @@ pub record InRange (c : Contents) : Type 0 where
   pub past : (i : ℕ) → c .head .rows ≤ i → getD (c .rows) i zeroRow ≡ zeroRow
   pub ids : (i : ℕ) → getD (c .rows) i zeroRow .id < 256 ^ 2
 
-contents-none : (c : Contents) → contentsFault c .number ≡ 0
+pub contents-none : (c : Contents) → contentsFault c .number ≡ 0
     → (headOk (c .head) ≡ true) × (listFault (c .rows) 0 (c .head .rows) 0 .number ≡ 0)
 unfolding contentsFault
 contents-none c e = go (headOk (c .head)) refl e

@@ -105,7 +105,7 @@ module _ (c : Contents) (enough : c .head .rows ≤ length (c .rows)) where
       (λ i q. rw (getD-take (c .head .rows) (c .rows) i zeroRow (omega (arith, taken))) (fits i (omega (arith, taken))))
       ∙ getD-take (c .head .rows) (c .rows) k zeroRow l)
 
-one-row : (r : Row) → rowsBytes (r ∷ []) ≡ rowBytes r
+pub one-row : (r : Row) → rowsBytes (r ∷ []) ≡ rowBytes r
 unfolding rowsBytes
 one-row r = append-nil (rowBytes r)
 

@@ -5,3 +5,6 @@ pub mod Found
 pub mod Named
 pub mod Accepted
 pub mod Sourced
+pub mod First
+pub mod Ranges
+pub mod Laws

@@ -16,7 +16,7 @@ use borrow.Author.Tests.{not-false, leb-false}
 use Rattle.columns.proofs.First.{none-applies}
 use Rattle.files.specs.Layout.{marked, letterR, rowAt}
 use Rattle.files.specs.Range.{rowOk}
-use Rattle.files.specs.Fault.{Fault, fault, check, rowChecks, rowFault, rowsFault}
+use Rattle.files.specs.Fault.{Fault, fault, rowChecksAt, rowFault, rowsFault}
 use Rattle.files.specs.Walk.{idOf, Rows}
 use Rattle.files.proofs.Answer.{or-none}
 use Rattle.files.proofs.Walked.{noCheck}
@@ -29,7 +29,7 @@ pub record Passed (s : List ℕ) (k last : ℕ) : Type 0 where
 pub row-passed : (s : List ℕ) (k last : ℕ) → rowFault s k last ≡ 0 → Passed s k last
 unfolding rowFault
 row-passed s k last h =
-    let each = none-applies noCheck (check (not (marked s k letterR)) 5 ∷ rowChecks (rowAt s k) last) tt h in
+    let each = none-applies noCheck (rowChecksAt s k last) tt h in
     record {
       mark = not-false _ (each 0 (lit< tt));
       ok = not-false _ (each 1 (lit< tt));

@@ -44,8 +44,11 @@ abbrev pub rowChecks : Row → ℕ → List Check
 rowChecks r last = check (not (rowOk r)) 6 ∷ check (leb (r .id) last) 7 ∷ []
 
 -- 5, 6, 7 of the row at position k
+abbrev pub rowChecksAt : List ℕ → ℕ → ℕ → List Check
+rowChecksAt s k last = check (not (marked s k letterR)) 5 ∷ rowChecks (rowAt s k) last
+
 unfoldable pub rowFault : List ℕ → ℕ → ℕ → ℕ
-rowFault s k last = firstOf (check (not (marked s k letterR)) 5 ∷ rowChecks (rowAt s k) last)
+rowFault s k last = firstOf (rowChecksAt s k last)
 
 -- the first fault of the rows from position k on, `place` being the number of the first of them
 unfoldable pub rowsFault : List ℕ → ℕ → ℕ → ℕ → ℕ → Fault

@@ -3,3 +3,4 @@ pub mod Range
 pub mod Fault
 pub mod Walk
 pub mod Counting
+pub mod Order

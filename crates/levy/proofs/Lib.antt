@@ -7,4 +7,6 @@ pub mod Payment
 pub mod Cut
 pub mod Unique
 pub mod Turn
+pub mod Fill
+pub mod Making
 pub mod Again

@@ -2,6 +2,7 @@
 -- 256; the numbers are those of the ranges, with room for what later requests need. Assumes nothing.
 use Prim.Native.Nat.{ℕ, _+_, _-_, _^_, _≤_, _<_}
 use mathlib.Core.Path.{_≡_}
+use mathlib.Core.Bool.{cond}
 use mathlib.Core.List.{List}
 use lib.Dec.{eqb}
 use lib.ListN.{length, take, drop, replicate}
@@ -19,6 +20,10 @@ standing n marks money weight rounds =
 
 abbrev pub standingOf : ℕ → List ℕ → Rest → Standing
 standingOf n marks r = standing n marks (r .money) (r .weight) (r .rounds)
+
+-- a column of numbers of 32 bits
+abbrev pub Small : List ℕ → Type 0
+Small xs = (i : ℕ) → at xs i < 2 ^ 32
 
 -- weights and caps small enough that each product of a round stays below 2 ^ 63
 pub record Columns (n : ℕ) (weights caps marks : List ℕ) (money : ℕ) : Type 0 where
@@ -72,6 +77,10 @@ pub record Finished (total n : ℕ) (weights caps after : List ℕ) (r : Rest) :
 abbrev pub Short : Rest → ℕ → Type 0
 Short r x = (n : ℕ) (marks : List ℕ) → x ≡ shortfall (standingOf n marks r)
 
+-- the open weights do not depend on what else is known of the standing
+abbrev pub markedOnly : ℕ → List ℕ → Standing
+markedOnly n marks = standing n marks 0 0 0
+
 -- asked by the payments: each fits its field
 pub record Payable (n : ℕ) (weights caps marks : List ℕ) (r : Rest) (first : ℕ) (out : List ℕ) : Type 0 where
   pub few : n ≤ 256
@@ -81,6 +90,21 @@ pub record Payable (n : ℕ) (weights caps marks : List ℕ) (r : Rest) (first :
   pub out-long : length out ≡ n
   pub turn : 0 < n → first < n
   pub fits : (i : ℕ) → paid (take n weights) (take n caps) (standingOf n marks r) first i < 2 ^ 32
+
+-- what position i pays, from shares of the money left that have been made
+unfoldable pub paidFrom : List ℕ → List ℕ → List ℕ → ℕ → ℕ
+paidFrom caps marks parts i = cond (eqb (at marks i) 0) (at parts i) (at caps i)
+
+-- asked where shares and caps become payments
+pub record Made (caps marks parts out : List ℕ) : Type 0 where
+  pub few : length out ≤ 256
+  pub parts-long : length parts ≡ length out
+  pub fits : (i : ℕ) → i < length out → paidFrom caps marks parts i < 2 ^ 32
+
+-- room for two columns of n
+pub record Room (n : ℕ) (one two : List ℕ) : Type 0 where
+  pub one-long : length one ≡ n
+  pub two-long : length two ≡ n
 
 -- asked by the cuts: no more is cut than was to be paid out
 pub record Cuttable (shortfall : ℕ) (compensations : List ℕ) (first : ℕ) (out : List ℕ) : Type 0 where

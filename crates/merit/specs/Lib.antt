@@ -1,3 +1,4 @@
 pub mod Band
 pub mod Call
 pub mod Price
+pub mod Walk

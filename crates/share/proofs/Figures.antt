@@ -6,9 +6,8 @@
 --     wide-tie        products that pass 64 bits, equal remainders, the second goes first
 --     no-weight       nobody has a weight
 -- Assumes nothing.
-use Prim.Native.Nat.{ℕ}
 use mathlib.Core.Path.{_≡_, refl}
-use mathlib.Core.List.{List, [], _∷_}
+use mathlib.Core.List.{[], _∷_}
 use Rattle.columns.specs.Sum.{sumTo, countTo, findTo}
 use Rattle.columns.specs.Table.{table}
 use Rattle.share.specs.Share.{whole, quota, rest, turn, before, rank, left, share, shares}

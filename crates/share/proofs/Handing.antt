@@ -1,22 +1,26 @@
 -- From the columns of quotas and remainders to the shares: what the proofs of `share_out` and `split` lean on.
+--     quotas-fit, quotas-under     the sum of the quotas fits, and is at most the amount
+--     none-left      if the quotas leave nothing they are the shares
+--     handable       what handing out asks
+--     handed         what it gives are the shares
+--     cleared        if nobody has a weight everybody gets 0
+--     front, quotable     the room for the remainders
 -- Assumes nothing.
-use Prim.Native.Nat.{ℕ, _+_, _-_, _*_, _/_, _%_, _^_, _≤_, _<_}
-use mathlib.Core.Path.{_≡_, refl, ap, sym, _∙_}
+use Prim.Native.Nat.{ℕ, _-_, _*_, _^_, _≤_, _<_}
+use mathlib.Core.Path.{_≡_, ap, sym, _∙_}
 use mathlib.Core.Logic.{⊎-elim}
-use mathlib.Core.Bool.{Bool, _&&_, _||_}
 use mathlib.Core.List.{List}
 use native.Mathlib.Nat.{zero-div, zero-mod}
 use native.Mathlib.Omega.{arith}
-use lib.Dec.{ltb, eqb}
 use lib.ListN.{length, take, length-take, List·getD-eq-default}
 use borrow.Author.Tests.{le-ltb}
-use Rattle.columns.specs.Sum.{bit, sumTo, countTo}
+use Rattle.columns.specs.Sum.{bit, sumTo}
 use Rattle.columns.specs.Table.{at, table}
 use Rattle.columns.proofs.Sum.{lt-or-le, sum-same, count-same}
 use Rattle.columns.proofs.Table.{table-length, table-at, table-past, table-same}
 use Rattle.share.specs.Share.{whole, quota, rest, turn, before, rank, left, share, shares}
 use Rattle.share.specs.Split.{Splittable}
-use Rattle.share.specs.Steps.{Quotable, Quoted, Sparing, Handable, goesBefore, ahead, place, extra, raised, nothing}
+use Rattle.share.specs.Steps.{Quotable, Quoted, Handable, goesBefore, ahead, place, extra, raised, nothing}
 use Rattle.share.proofs.Rests.{quotas-le, left-is, rest-none, share-is}
 use Rattle.share.proofs.Laws.{share-none, share-le-amount}
 

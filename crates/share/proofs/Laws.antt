@@ -13,26 +13,42 @@
 --     share-le-weight    the amount is at most the sum of the weights: a share is at most its weight
 --     share-is-weight    the amount is just that sum: each share is its weight
 --     shares-are-weights     the same of the whole column
+--     share-none, share-sum      shares-none and shares-sum of the share itself
 --     split-unique       two results that the contract of `split` allows are equal
 -- Each takes amount, weights and first, then the position, then what it asks.
+-- For whoever has to show what `split` asks:
+--     weight-le          a weight is at most the sum of the weights
+--     whole-is           the sum of the weights, as a sum
+--     whole-table        the same of a column that is a table
+--     whole-bound        weights of at most b: their sum is at most b * length
 -- Assumes nothing.
-use Prim.Native.Nat.{ℕ, _+_, _-_, _*_, _/_, _%_, _≤_, _<_}
+use Prim.Native.Nat.{ℕ, _+_, _-_, _*_, _≤_, _<_}
 use mathlib.Core.Path.{_≡_, refl, ap, sym, _∙_}
 use mathlib.Core.Logic.{⊎-elim}
-use mathlib.Core.Bool.{Bool, true, false, cond, _&&_, _||_}
 use mathlib.Core.List.{List}
-use native.Mathlib.Nat.{mod-lt, div-add-mod, eq-zero-or-pos, mul-le-mul-left, mul-le-mul-right, le-of-mul-le-mul-left, lt-of-mul-lt-mul-right}
+use native.Mathlib.Nat.{eq-zero-or-pos, mul-le-mul-left, mul-le-mul-right, lt-of-mul-lt-mul-right}
 use native.Mathlib.Omega.{arith}
-use lib.Dec.{ltb, eqb}
 use lib.ListN.{length, List·getD-eq-default}
-use borrow.Author.Tests.{lt-ltb, le-ltb, eq-eqb, ne-eqb, ltb-true, ltb-false}
-use Rattle.columns.specs.Sum.{bit, sumTo, countTo}
+use borrow.Author.Tests.{eq-eqb}
+use Rattle.columns.specs.Sum.{sumTo}
 use Rattle.columns.specs.Table.{at, table}
-use Rattle.columns.proofs.Sum.{lt-or-le, sum-same, sum-add, sum-mul, sum-bound, sum-le, sum-zero, term-le, bit-le, count-same, count-sub, count-le}
+use Rattle.columns.proofs.Sum.{lt-or-le, sum-same, sum-bound}
 use Rattle.columns.proofs.Table.{table-length, table-at, table-past, table-same, table-list}
-use Rattle.columns.proofs.Rank.{test-or, rank-count, under}
-use Rattle.share.specs.Share.{whole, quota, rest, turn, before, rank, left, share, shares}
-use Rattle.share.proofs.Rests.{weight-le, some-length, over, short, share-sum}
+use Rattle.share.specs.Share.{whole, share, shares}
+pub use Rattle.share.proofs.Rests.{weight-le}
+use Rattle.share.proofs.Rests.{some-length, over, short, shares-all}
+
+pub whole-is : (ws : List ℕ) → whole ws ≡ sumTo (length ws) (at ws)
+unfolding whole
+whole-is ws = refl
+
+pub whole-table : (n : ℕ) (f : ℕ → ℕ) → whole (table n f) ≡ sumTo n f
+whole-table n f =
+    whole-is (table n f) ∙ rw table-length (sum-same n (at (table n f)) f (λ i l. table-at 0 n f i l))
+
+pub whole-bound : (ws : List ℕ) (b : ℕ) → ((i : ℕ) → at ws i ≤ b) → whole ws ≤ b * length ws
+unfolding whole
+whole-bound ws b h = sum-bound (length ws) b (at ws) (λ i l. h i)
 
 module _ (a : ℕ) (ws : List ℕ) (first : ℕ) where
   pub share-none : whole ws ≡ 0 → (i : ℕ) → share a ws first i ≡ 0
@@ -89,12 +105,12 @@ module _ (a : ℕ) (ws : List ℕ) (first : ℕ) where
   pub shares-none : whole ws ≡ 0 → (i : ℕ) → at (shares a ws first) i ≡ 0
   shares-none e i = shares-at i ∙ share-none e i
 
+  pub share-sum : 0 < whole ws → (0 < length ws → first < length ws) → sumTo (length ws) (share a ws first) ≡ a
+  share-sum some inside = shares-all a ws some first (inside (some-length ws some))
+
   pub shares-sum : 0 < whole ws → (0 < length ws → first < length ws) → whole (shares a ws first) ≡ a
-  unfolding whole
-  shares-sum some inside =
-      ap (λ (n : ℕ). sumTo n (at (shares a ws first))) shares-length
-      ∙ sum-same (length ws) (at (shares a ws first)) (share a ws first) (λ i l. shares-at i)
-      ∙ share-sum a ws some first (inside (some-length ws some))
+  unfolding shares
+  shares-sum some inside = whole-table (length ws) (share a ws first) ∙ share-sum some inside
 
   pub shares-are-weights : a ≡ whole ws → shares a ws first ≡ ws
   unfolding shares

@@ -1,25 +1,26 @@
 -- The rule in one step is the rule as it is told.
 --     next-is       whoever is next, when k were served, is the position of rank k
+--     next-waits    nobody else who waits stands before whoever is next
 --     next-inside   there is such a position as long as fewer than all were served
 --     process       handing out one by one gives the shares
 -- Assumes nothing.
 use Prim.Native.Nat.{ℕ, zero, suc, _+_, _≤_, _<_}
-use mathlib.Core.Path.{_≡_, refl, ap, sym, _∙_}
+use mathlib.Core.Path.{_≡_, refl, ap, sym, _∙_, subst}
 use mathlib.Core.Logic.{⊎-elim}
-use mathlib.Core.Bool.{Bool, true, false, cond, not, _&&_, _||_}
+use mathlib.Core.Bool.{Bool, true, false, not, _&&_}
 use mathlib.Core.List.{List, [], _∷_}
-use native.Mathlib.Nat.{eq-zero-or-pos, add-zero, add-suc, suc-add}
+use native.Mathlib.Nat.{eq-zero-or-pos, add-zero}
 use native.Mathlib.Omega.{arith}
-use lib.Dec.{ltb, eqb}
-use lib.ListN.{length, getD, set, length-set}
+use lib.Dec.{T, ltb, eqb}
+use lib.ListN.{length, set, length-set}
 use lib.Seq.{getD-set-same, getD-set-other}
 use borrow.Author.Tests.{lt-ltb, le-ltb, eq-eqb, ne-eqb, eqb-true, eqb-false}
-use Rattle.columns.specs.Sum.{bit, countTo, findTo}
+use Rattle.columns.specs.Sum.{bit, countTo}
 use Rattle.columns.specs.Table.{at, table, Below}
-use Rattle.columns.proofs.Sum.{lt-or-le, count-none, count-some}
+use Rattle.columns.proofs.Sum.{lt-or-le, count-none, count-some, count-zero}
 use Rattle.columns.proofs.Table.{table-length, table-at, table-is, table-same}
-use Rattle.columns.proofs.Rank.{test-or, ltb-same, find-is, under, rank-order, rank-apart, rank-some}
-use Rattle.share.specs.Share.{whole, quota, rest, turn, before, rank, left, share, shares}
+use Rattle.columns.proofs.Rank.{test-or, ltb-same, find-is, find-passes, rank-order, rank-apart, rank-some}
+use Rattle.share.specs.Share.{whole, quota, before, rank, left, share, shares}
 use Rattle.share.specs.Process.{among, next, handOut, oneByOne}
 use Rattle.share.proofs.Order.{key, key-apart, before-key, rank-under}
 use Rattle.share.proofs.Rests.{some-length, left-le, share-is}
@@ -32,6 +33,31 @@ not-and false = refl
 and-false : (b : Bool) → b && false ≡ false
 and-false true = refl
 and-false false = refl
+
+both : (s t : Bool) → not s && t ≡ true → (s ≡ false) × (t ≡ true)
+both true t e = absurd (subst T (sym e) tt)
+both false t e = (refl, e)
+
+neither : (s t : Bool) → s ≡ false → not s && t ≡ false → t ≡ false
+neither true t e f = absurd (subst T e tt)
+neither false t e f = f
+
+-- whoever is next was not served yet, and nobody else not served yet stands before
+pub next-waits : (a : ℕ) (ws : List ℕ) (first : ℕ) (served : List ℕ) → next a ws first served < length ws
+    → (among served (next a ws first served) ≡ false)
+    × Below (length ws) (λ j. among served j ≡ false → before a ws first j (next a ws first served) ≡ false)
+unfolding next
+next-waits a ws first served l =
+    let w = both (among served (next a ws first served)) (eqb (ahead (next a ws first served)) 0) (find-passes (length ws) (λ i. not (among served i) && eqb (ahead i) 0) l) in (
+      w .0,
+      λ j m e.
+          neither (among served j) (before a ws first j (next a ws first served)) e
+          (count-zero (length ws) (λ k. not (among served k) && before a ws first k (next a ws first served))
+          (eqb-true (ahead (next a ws first served)) 0 (w .1)) j m),
+    )
+  where
+    ahead : ℕ → ℕ
+    ahead i = countTo (length ws) (λ j. not (among served j) && before a ws first j i)
 
 module _ (a : ℕ) (ws : List ℕ) (first : ℕ) (some : 0 < whole ws) (inside : first < length ws) where
   before-rank : (i j : ℕ) → i < length ws → before a ws first i j ≡ ltb (rank a ws first i) (rank a ws first j)

@@ -7,24 +7,23 @@
 --     rest-none       without a remainder a position is not among the first to be served
 --     share-is        the share where a weight is above 0
 --     over, short     the share is off by less than one
---     share-sum       the shares sum to the amount
+--     shares-all      the shares sum to the amount
 -- Assumes nothing.
-use Prim.Native.Nat.{ℕ, _+_, _-_, _*_, _/_, _%_, _≤_, _<_}
-use mathlib.Core.Path.{_≡_, refl, ap, sym, _∙_}
+use Prim.Native.Nat.{ℕ, _+_, _-_, _*_, _≤_, _<_}
+use mathlib.Core.Path.{_≡_, ap}
 use mathlib.Core.Logic.{⊎-elim}
-use mathlib.Core.Bool.{Bool, true, false, cond, _&&_, _||_}
+use mathlib.Core.Bool.{true, false}
 use mathlib.Core.List.{List}
-use native.Mathlib.Nat.{mod-lt, div-add-mod, eq-zero-or-pos, mul-le-mul-left, mul-le-mul-right, le-of-mul-le-mul-left, lt-of-mul-lt-mul-right}
+use native.Mathlib.Nat.{mod-lt, div-add-mod, eq-zero-or-pos, le-of-mul-le-mul-left}
 use native.Mathlib.Omega.{arith}
-use lib.Dec.{ltb, eqb}
+use lib.Dec.{ltb}
 use lib.ListN.{length, List·getD-eq-default}
-use borrow.Author.Tests.{lt-ltb, le-ltb, eq-eqb, ne-eqb, ltb-true, ltb-false}
+use borrow.Author.Tests.{lt-ltb, le-ltb, ne-eqb}
 use Rattle.columns.specs.Sum.{bit, sumTo, countTo}
-use Rattle.columns.specs.Table.{at, table}
-use Rattle.columns.proofs.Sum.{lt-or-le, sum-same, sum-add, sum-mul, sum-bound, sum-le, sum-zero, term-le, bit-le, count-same, count-sub, count-le}
-use Rattle.columns.proofs.Table.{table-length, table-at, table-past, table-same, table-list}
+use Rattle.columns.specs.Table.{at}
+use Rattle.columns.proofs.Sum.{lt-or-le, sum-same, sum-add, sum-mul, sum-bound, sum-le, term-le, bit-le, count-same, count-sub}
 use Rattle.columns.proofs.Rank.{test-or, rank-count, under}
-use Rattle.share.specs.Share.{whole, quota, rest, turn, before, rank, left, share, shares}
+use Rattle.share.specs.Share.{whole, quota, rest, before, rank, left, share}
 use Rattle.share.proofs.Order.{key, key-apart, rank-under}
 
 -- a weight is at most the sum
@@ -130,9 +129,9 @@ module _ (a : ℕ) (ws : List ℕ) (some : 0 < whole ws) where
       (λ (e : ltb (rank a ws first i) (left a ws) ≡ false). rw e (omega (arith, row i, rest-lt i)))
       (test-or (ltb (rank a ws first i) (left a ws))))
 
-  pub share-sum : (first : ℕ) → first < length ws → sumTo (length ws) (share a ws first) ≡ a
+  pub shares-all : (first : ℕ) → first < length ws → sumTo (length ws) (share a ws first) ≡ a
   unfolding countTo
-  share-sum first inside =
+  shares-all first inside =
       omega (
         arith,
         left-is,

@@ -1,7 +1,7 @@
 -- The sharing rule as it is told (01, Sharing a whole amount): the quotas first, then what is left, one after the other.
 -- `oneByOne` gives what `shares` gives in one step: proofs/Process.antt. Assumes nothing.
 use Prim.Native.Nat.{ℕ, zero, suc, _+_}
-use mathlib.Core.Bool.{Bool, true, false, cond, not, _&&_, _||_}
+use mathlib.Core.Bool.{Bool, false, cond, not, _&&_, _||_}
 use mathlib.Core.List.{List, [], _∷_}
 use lib.Dec.{eqb}
 use lib.ListN.{length, set}

@@ -1,18 +1,16 @@
 // The one sharing rule (01, Sharing a whole amount): it serves calls, payments and cuts. No word of energy or money.
 ghost use Prim.Native.Nat.{_+_, _*_, _≤_, _<_, _^_};
 ghost use mathlib.Core.Path.{_≡_};
-ghost use lib.Dec.{ltb};
 ghost use lib.ListN.{length};
-ghost use Rattle.columns.specs.Sum.{bit};
-ghost use Rattle.columns.specs.Table.{at, table};
-ghost use Rattle.share.specs.Share.{whole, turn, left, shares};
+ghost use Rattle.columns.specs.Table.{table};
+ghost use Rattle.share.specs.Share.{whole, turn, shares};
 ghost use Rattle.share.specs.Split.{Splittable};
 ghost use Rattle.share.specs.Steps.{Divided, Carries, Digits, Divisible, Quotable, Quoted, Rankable, Sparing, Handable, goesBefore, place, extra, raised, nothing};
 
 // A product divided by the sum of the weights: the quota, and the remainder.
-pub struct Division {
-    pub quota: u64,
-    pub rest: u64,
+struct Division {
+    quota: u64,
+    rest: u64,
 }
 
 // The sum of a column.

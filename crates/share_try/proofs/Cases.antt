@@ -2,7 +2,7 @@
 --     ready     three weights whose sum fits, and a first position among them
 --     got       what stands at a position of a result, by the figure of the shares
 -- Assumes nothing.
-use Prim.Native.Nat.{ℕ, _+_, _<_, _^_}
+use Prim.Native.Nat.{ℕ, _+_, _^_}
 use mathlib.Core.Path.{_≡_, refl, _∙_, ap}
 use mathlib.Core.Bool.{true}
 use mathlib.Core.List.{List, [], _∷_}

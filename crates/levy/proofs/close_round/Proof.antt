@@ -5,7 +5,7 @@ use Rattle.levy.proofs.close_round.Reads as reads
 use Rattle.levy.proofs.close_round.Lts as lts
 use Rattle.levy.proofs.closes_now.Reads as closes-now-reads
 use Rattle.levy.proofs.counted.Reads as counted-reads
-use Rattle.levy.proofs.marked.Reads as marked-reads
+use Rattle.levy.proofs.mark_after.Reads as mark-after-reads
 use Prim.Native.Nat.{_-_}
 use Rattle.levy.proofs.Turn.{Turn, turn-none, products, caps-fit, weights-fit, turn-next, turn-end}
 
@@ -66,7 +66,7 @@ counted-requires c κs = search mine
 -- src/lib.rt:146:9
 add-closed-caps : tie.Need-add-closed-caps Inv-loop μ-loop
 add-closed-caps c = let o = c .before .before .before .before .before .before .before in
-    record { fits = caps-fit _ _ _ _ _ _ _ (o .before .pre) _ _ _ _ (o .loop .inv) (search needs) (c .before .before .closes-now .result) _ (c .counted .ensures) }
+    record { fits = caps-fit _ _ _ _ _ _ _ (o .before .pre) _ _ _ _ (o .loop .inv) (search needs) (c .before .before .closes-now .result) _ (c .counted .ensures .0) }
 
 -- src/lib.rt:147:38
 mul-counted-2 : tie.Need-mul-counted-2 Inv-loop μ-loop
@@ -83,23 +83,23 @@ counted-requires-2 c κs = search mine
 -- src/lib.rt:147:9
 add-closed-weights : tie.Need-add-closed-weights Inv-loop μ-loop
 add-closed-weights c = let o = c .before .before .before .before .before .before .before .before .before in
-    record { fits = weights-fit _ _ _ _ _ _ _ (o .before .pre) _ _ _ _ (o .loop .inv) (search needs) (c .before .before .before .before .closes-now .result) _ (c .counted2 .ensures) }
+    record { fits = weights-fit _ _ _ _ _ _ _ (o .before .pre) _ _ _ _ (o .loop .inv) (search needs) (c .before .before .before .before .closes-now .result) _ (c .counted2 .ensures .0) }
 
 -- src/lib.rt:148:30
-add-marked : tie.Need-add-marked Inv-loop μ-loop
-add-marked c = search mine
+add-mark-after : tie.Need-add-mark-after Inv-loop μ-loop
+add-mark-after c = search mine
 
 -- src/lib.rt:148:42
-mul-marked : tie.Need-mul-marked Inv-loop μ-loop
-mul-marked c = search mine
+mul-mark-after : tie.Need-mul-mark-after Inv-loop μ-loop
+mul-mark-after c = search mine
 
 -- src/lib.rt:148:42
-element-copy-out-marked : tie.Need-element-copy-out-marked Inv-loop μ-loop
-element-copy-out-marked c = search mine
+element-copy-out-mark-after : tie.Need-element-copy-out-mark-after Inv-loop μ-loop
+element-copy-out-mark-after c = search mine
 
 -- src/lib.rt:148:20
-marked-requires : tie.Need-marked-requires Inv-loop μ-loop
-marked-requires c κs = search mine
+mark-after-requires : tie.Need-mark-after-requires Inv-loop μ-loop
+mark-after-requires c κs = search mine
 
 -- src/lib.rt:148:9
 mul-marks : tie.Need-mul-marks Inv-loop μ-loop
@@ -122,7 +122,7 @@ loop-again : tie.Need-loop-again Inv-loop μ-loop
 loop-again c = let o = c .before .before .before .before .before .before in
     let s = o .before .before .before .before .before in
     turn-next _ _ _ _ _ _ _ (s .before .pre) _ _ _ _ (s .loop .inv) (search needs) _ (o .closes-now .ensures)
-    _ (c .before .before .before .before .counted .ensures) _ (c .before .before .counted2 .ensures) _ (c .marked .ensures)
+    _ (c .before .before .before .before .counted .ensures .0) _ (c .before .before .counted2 .ensures .0) _ (c .mark-after .ensures)
 
 -- src/lib.rt:128:1
 returns : tie.Need-returns Inv-loop μ-loop
@@ -150,10 +150,10 @@ close-round-spec =
     element-copy-out-counted-2
     counted-requires-2
     add-closed-weights
-    add-marked
-    mul-marked
-    element-copy-out-marked
-    marked-requires
+    add-mark-after
+    mul-mark-after
+    element-copy-out-mark-after
+    mark-after-requires
     mul-marks
     element-write-marks
     add-i

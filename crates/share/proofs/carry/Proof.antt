@@ -1,5 +1,5 @@
 -- `share::carry` meets its contract. Assumes nothing.
-use Rattle.share.proofs.Steps.{carry-sum, carry-more, carry-over}
+use Rattle.share.proofs.Long.{carry-sum, carry-more, carry-over}
 use borrow.Author.Needs.{needs}
 use Rattle.share.proofs.carry.Statement.{statement}
 use Rattle.share.proofs.carry.Tie as tie

@@ -1,5 +1,5 @@
 -- `share::divide` meets its contract. Assumes nothing.
-use Rattle.share.proofs.Steps.{divided-none, divided-fits, divided-plain}
+use Rattle.share.proofs.Long.{divided-none, divided-fits, divided-plain}
 use borrow.Author.Needs.{needs}
 use Rattle.share.proofs.divide.Statement.{statement}
 use Rattle.share.proofs.divide.Tie as tie

@@ -3,7 +3,7 @@
 use Prim.Native.Nat.{_≤_, _*_, _/_, _^_}
 use native.Mathlib.Omega.{arith}
 use Rattle.share.specs.Steps.{Divided}
-use Rattle.share.proofs.Steps.{long-holds, long-ready, long-again, long-end}
+use Rattle.share.proofs.Long.{long-holds, long-ready, long-again, long-end}
 use borrow.Author.Needs.{needs}
 use Rattle.share.proofs.divide_long.Statement.{statement}
 use Rattle.share.proofs.divide_long.Tie as tie

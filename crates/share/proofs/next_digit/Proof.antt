@@ -1,5 +1,5 @@
 -- `share::next_digit` meets its contract. Assumes nothing.
-use Rattle.share.proofs.Steps.{twice-fits, digit-0, digit-1-ready, digit-1}
+use Rattle.share.proofs.Long.{twice-fits, digit-0, digit-1-ready, digit-1}
 use borrow.Author.Needs.{needs}
 use Rattle.share.proofs.next_digit.Statement.{statement}
 use Rattle.share.proofs.next_digit.Tie as tie

@@ -1,5 +1,5 @@
 -- `share::quotas_of` meets its contract. Assumes nothing.
-use Rattle.share.proofs.Steps.{divided-fits}
+use Rattle.share.proofs.Long.{divided-fits}
 use borrow.Author.Needs.{needs}
 use Rattle.share.proofs.quotas_of.Statement.{statement}
 use Rattle.share.proofs.quotas_of.Tie as tie

@@ -2,7 +2,6 @@
 use Prim.Native.Nat.{_≤_, _-_}
 use mathlib.Core.Path.{_≡_}
 use native.Mathlib.Omega.{arith}
-use lib.ListN.{length}
 use Rattle.columns.specs.Sum.{sumTo, countTo}
 use Rattle.share.specs.Steps.{ahead}
 use Rattle.share.proofs.Steps.{rank-next, rank-end, byte-le}

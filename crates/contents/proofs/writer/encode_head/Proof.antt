@@ -1,12 +1,12 @@
--- `contents::encode_head` meets its contract: a byte is its own remainder by 256. Assumes nothing.
-use Rattle.files.specs.Layout.{headBytes}
-use Rattle.columns.specs.Number.{numberBytes}
+-- `contents::writer::encode_head` meets its contract: a byte is its own remainder by 256. Assumes nothing.
 use mathlib.Core.Path.{_≡_}
 use Prim.Native.Nat.{_%_}
 use native.Mathlib.Omega.{arith}
 use borrow.Author.Needs.{needs}
-use Rattle.contents.proofs.encode_head.Statement.{statement}
-use Rattle.contents.proofs.encode_head.Tie as tie
+use Rattle.columns.specs.Number.{numberBytes}
+use Rattle.files.specs.Layout.{headBytes}
+use Rattle.contents.proofs.writer.encode_head.Statement.{statement}
+use Rattle.contents.proofs.writer.encode_head.Tie as tie
 
 cast-t3 : tie.Need-cast-t3
 cast-t3 c = search needs

@@ -1,12 +1,12 @@
--- `contents::encode_row` meets its contract: a byte is its own remainder by 256. Assumes nothing.
+-- `contents::writer::encode_row` meets its contract: a byte is its own remainder by 256. Assumes nothing.
 use mathlib.Core.Path.{_≡_}
 use Prim.Native.Nat.{_%_}
 use native.Mathlib.Omega.{arith}
-use Rattle.files.specs.Layout.{rowBytes}
-use Rattle.columns.specs.Number.{numberBytes}
 use borrow.Author.Needs.{needs}
-use Rattle.contents.proofs.encode_row.Statement.{statement}
-use Rattle.contents.proofs.encode_row.Tie as tie
+use Rattle.columns.specs.Number.{numberBytes}
+use Rattle.files.specs.Layout.{rowBytes}
+use Rattle.contents.proofs.writer.encode_row.Statement.{statement}
+use Rattle.contents.proofs.writer.encode_row.Tie as tie
 
 cast-t3 : tie.Need-cast-t3
 cast-t3 c = search needs

@@ -1,0 +1,79 @@
+-- Interval X of document 01 (Checked figures) at tariff 1300, as 78 bytes and as contents: the definitions run on numbers.
+--   x-accepted    its file is accepted
+--   x-said        its contents make that file
+--   x-read        and the file says these contents
+--   x-refused     with rows 2 and 3 exchanged the writer gives 7 at row 3; with a buffer one byte short, 11 at place 0
+-- Assumes nothing.
+use mathlib.Core.Path.{_≡_, refl}
+use mathlib.Core.List.{List, [], _∷_, _++_}
+use Prim.Native.Nat.{ℕ}
+use Rattle.columns.specs.Number.{numberAt, numberBytes}
+use Rattle.columns.specs.Table.{table}
+use Rattle.files.specs.Layout.{headAt, headBytes, rowAt, rowBytes}
+use Rattle.files.specs.Range.{headOk, statusOk, notOffering, offering, rowTests, rowOk}
+use Rattle.files.specs.Fault.{fault, none, orElse, headFault, rowFault, rowsFault, intervalFault}
+use Rattle.files.specs.declared.Head.{Head}
+use Rattle.files.specs.declared.Row.{Row}
+use Rattle.contents.specs.Content.{zeroRow, contentsOf, rowsBytes, contentsBytes, listFault, contentsFault, writerFault}
+use Rattle.contents.specs.declared.Contents.{Contents}
+
+abbrev file : List ℕ
+file =
+    80 ∷ 72 ∷ 0 ∷ 0 ∷ 0 ∷ 0 ∷ 0 ∷ 20 ∷ 5 ∷ 184 ∷ 11 ∷ 0 ∷ 0 ∷ 3 ∷ 0
+    ∷ 80 ∷ 82 ∷ 1 ∷ 0 ∷ 1 ∷ 100 ∷ 0 ∷ 40 ∷ 35 ∷ 0 ∷ 0 ∷ 0 ∷ 1 ∷ 64 ∷ 31 ∷ 0 ∷ 0 ∷ 200 ∷ 0 ∷ 144 ∷ 1
+    ∷ 80 ∷ 82 ∷ 2 ∷ 0 ∷ 1 ∷ 100 ∷ 0 ∷ 32 ∷ 78 ∷ 0 ∷ 0 ∷ 0 ∷ 0 ∷ 0 ∷ 0 ∷ 0 ∷ 0 ∷ 0 ∷ 0 ∷ 0 ∷ 0
+    ∷ 80 ∷ 82 ∷ 3 ∷ 0 ∷ 2 ∷ 100 ∷ 0 ∷ 136 ∷ 19 ∷ 0 ∷ 0 ∷ 0 ∷ 0 ∷ 0 ∷ 0 ∷ 0 ∷ 0 ∷ 0 ∷ 0 ∷ 0 ∷ 0 ∷ []
+
+-- a row of 100 MW and status 0 that offers nothing
+abbrev plain : ℕ → ℕ → ℕ → Row
+plain id kind metered =
+    record {
+      id = id;
+      kind = kind;
+      capacity = 100;
+      metered = record { 0 = metered };
+      status = 0;
+      offered = 0;
+      minimum = record { 0 = 0 };
+      bid1 = record { 0 = 0 };
+      bid2 = record { 0 = 0 };
+    }
+
+abbrev first : Row
+first =
+    record {
+      id = 1;
+      kind = 1;
+      capacity = 100;
+      metered = record { 0 = 9000 };
+      status = 0;
+      offered = 1;
+      minimum = record { 0 = 8000 };
+      bid1 = record { 0 = 200 };
+      bid2 = record { 0 = 400 };
+    }
+
+abbrev said : List Row → Contents
+said rows =
+    record {
+      head = record { day = 0; quarter = 0; tariff = record { 0 = 1300 }; need = record { 0 = 3000 }; rows = 3 };
+      rows = rows ++ table 253 (λ i. zeroRow);
+    }
+
+pub x-accepted : intervalFault file ≡ none
+unfolding intervalFault headFault rowsFault rowFault orElse headAt rowAt numberAt headOk rowOk rowTests statusOk notOffering offering
+x-accepted = refl
+
+pub x-said : contentsBytes (said (first ∷ plain 2 1 20000 ∷ plain 3 2 5000 ∷ [])) ≡ file
+unfolding contentsBytes rowsBytes headBytes rowBytes numberBytes table
+x-said = refl
+
+pub x-read : contentsOf file ≡ said (first ∷ plain 2 1 20000 ∷ plain 3 2 5000 ∷ [])
+unfolding contentsOf headAt rowAt numberAt table
+x-read = refl
+
+pub x-refused :
+    (writerFault (said (first ∷ plain 3 2 5000 ∷ plain 2 1 20000 ∷ [])) 78 ≡ fault 7 3)
+    × (writerFault (said (first ∷ plain 2 1 20000 ∷ plain 3 2 5000 ∷ [])) 77 ≡ fault 11 0)
+unfolding writerFault contentsFault listFault orElse headOk rowOk rowTests statusOk notOffering offering table
+x-refused = (refl, refl)

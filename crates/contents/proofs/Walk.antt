@@ -1,0 +1,158 @@
+-- How far the loops of the writer and of the reader have come, and what they end with.
+--   Checked   the rows so far have no fault by 6 and 7; check-start, -next, -stops, -ends: its steps
+--   Placed    the bytes of the rows so far stand in the buffer; place-start, -next, -ends: its steps
+--   Filled    the rows so far are the file's, and zero rows past them; fill-start, -next, -ends: its steps
+-- Assumes nothing.
+use mathlib.Core.Path.{_≡_, refl, sym, ap, _∙_}
+use mathlib.Core.Bool.{true, false, cond}
+use mathlib.Core.Logic.{⊎-elim}
+use mathlib.Core.List.{List, [], _∷_, _++_}
+use Prim.Native.Nat.{ℕ, zero, suc, _+_, _-_, _*_, _≤_, _<_}
+use native.Mathlib.Numerals.{add-one}
+use native.Mathlib.Omega.{arith}
+use lib.Dec.{ltb}
+use lib.ListN.{length, getD, set, take, length-set}
+use lib.Seq.{length-take-le, take-suc, getD-set-other}
+use borrow.Author.Tests.{lt-ltb, le-ltb}
+use Rattle.columns.specs.Table.{table, Below}
+use Rattle.columns.specs.Test.{firstOf}
+use Rattle.columns.specs.Buffer.{put}
+use Rattle.columns.proofs.Sum.{lt-or-le}
+use Rattle.columns.proofs.Table.{table-length, table-at, table-past, table-is}
+use Rattle.columns.proofs.Table as tables
+use Rattle.columns.proofs.Buffer.{put-length, put-none, put-put}
+use Rattle.files.specs.Layout.{rowStart, headAt, headBytes, rowAt, rowBytes, rowCount}
+use Rattle.files.specs.Fault.{Fault, fault, orElse, rowChecks, verdict}
+use Rattle.files.specs.declared.Head.{Head}
+use Rattle.files.specs.declared.Row.{Row}
+use Rattle.files.specs.declared.Verdict.{Verdict}
+use Rattle.files.specs.declared.Verdict.the-variants.{Accepted, Refused}
+use Rattle.files.proofs.Answer.{or-first, or-next, verdict-yes, verdict-no}
+use Rattle.contents.specs.Content.{zeroRow, contentsOf, rowsBytes, contentsBytes, listFault}
+use Rattle.contents.specs.declared.Contents.{Contents}
+use Rattle.contents.proofs.Record.{head-length, row-length}
+use Rattle.contents.proofs.Rows.{rows-append, rows-length, one-row}
+
+pub record Checked (rs : List Row) (count last i : ℕ) : Type 0 where
+  pub short : i ≤ count
+  pub is : listFault rs 0 count 0 ≡ listFault rs i (count - i) last
+
+pub check-start : (rs : List Row) (count : ℕ) → Checked rs count 0 0
+check-start rs count = let all : count - 0 ≡ count = omega arith in record { short = omega arith; is = rw all }
+
+list-step : (rs : List Row) (count last i : ℕ) → i < count
+    → listFault rs i (count - i) last
+    ≡ orElse (fault (firstOf (rowChecks (getD rs i zeroRow) last)) (i + 1)) (listFault rs (i + 1) (count - (i + 1)) (getD rs i zeroRow .id))
+unfolding listFault
+list-step rs count last i l = let more : count - i ≡ suc (count - (i + 1)) = omega arith in rw more
+
+pub check-next : (rs : List Row) (count last i f : ℕ) → Checked rs count last i → i < count
+    → f ≡ firstOf (rowChecks (getD rs i zeroRow) last) → f ≡ 0 → Checked rs count (getD rs i zeroRow .id) (i + 1)
+check-next rs count last i f w l e z =
+    record { short = omega arith; is = w .is ∙ list-step rs count last i l ∙ or-next _ _ (sym e ∙ z) }
+
+pub check-stops : (rs : List Row) (count last i f : ℕ) → Checked rs count last i → i < count
+    → f ≡ firstOf (rowChecks (getD rs i zeroRow) last) → (f ≡ 0 → ⊥)
+    → Refused f (i + 1) ≡ verdict count (listFault rs 0 count 0)
+check-stops rs count last i f w l e z =
+    let is : listFault rs 0 count 0 ≡ fault f (i + 1) =
+    w .is ∙ list-step rs count last i l ∙ or-first _ _ (λ o. z (e ∙ o)) ∙ ap (λ (x : ℕ). fault x (i + 1)) (sym e) in
+    rw is (sym (verdict-no count (fault f (i + 1)) z))
+
+pub check-ends : (rs : List Row) (count last i : ℕ) → Checked rs count last i → count ≤ i
+    → Accepted count ≡ verdict count (listFault rs 0 count 0)
+unfolding listFault
+check-ends rs count last i w l =
+    let none : count - i ≡ 0 = omega arith in
+    let is : listFault rs 0 count 0 .number ≡ 0 = ap (λ (f : Fault). f .number) (w .is) ∙ rw none in
+    sym (verdict-yes count (listFault rs 0 count 0) is)
+
+pub record Placed (l₀ : List ℕ) (rs : List Row) (count : ℕ) (l : List ℕ) (i : ℕ) : Type 0 where
+  pub short : i ≤ count
+  pub long : length l ≡ length l₀
+  pub is : l ≡ put l₀ 15 (rowsBytes (take i rs))
+
+pub place-start : (l₀ : List ℕ) (rs : List Row) (count : ℕ) → Placed l₀ rs count l₀ 0
+unfolding rowsBytes
+place-start l₀ rs count = record { short = omega arith; long = refl; is = sym (put-none l₀ 15) }
+
+pub place-next : (l₀ : List ℕ) (rs : List Row) (count : ℕ) (l : List ℕ) (i : ℕ) (l′ : List ℕ) (b : List ℕ)
+    → Placed l₀ rs count l i → i < count → count ≤ length rs → rowStart count ≤ length l₀
+    → b ≡ rowBytes (getD rs i zeroRow) → l′ ≡ put l (rowStart i) b → Placed l₀ rs count l′ (i + 1)
+place-next l₀ rs count l i l′ b w h few room e p =
+    let n : length (take i rs) ≡ i = length-take-le i rs (omega arith) in
+    let m : length (rowsBytes (take i rs)) ≡ i * 21 = rows-length (take i rs) ∙ ap (λ (x : ℕ). x * 21) n in
+    let width : length b ≡ 21 = rw e (row-length (getD rs i zeroRow)) in
+    let more : rowsBytes (take (i + 1) rs) ≡ rowsBytes (take i rs) ++ rowBytes (getD rs i zeroRow) =
+    rw (add-one i, take-suc rs i zeroRow (omega arith), rows-append, one-row) in
+    record {
+      short = omega arith;
+      long = rw p (put-length l (rowStart i) b (omega (arith, w .long)) ∙ w .long);
+      is =
+          p ∙ rw (w .is, e, more)
+          (put-put l₀ 15 (rowStart i) (rowsBytes (take i rs)) (rowBytes (getD rs i zeroRow)) (omega arith) (omega arith));
+    }
+
+pub place-ends : (l₀ : List ℕ) (rs : List Row) (count : ℕ) (l : List ℕ) (i : ℕ) → Placed l₀ rs count l i → count ≤ i
+    → l ≡ put l₀ 15 (rowsBytes (take count rs))
+place-ends l₀ rs count l i w h =
+    let e : i ≡ count = omega (arith, w .short) in
+    rw (← e) (w .is)
+
+-- row i of the contents of a file
+abbrev pub fileRow : List ℕ → ℕ → Row
+fileRow s i = cond (ltb i (rowCount s)) (rowAt s (rowStart i)) zeroRow
+
+pub record Filled (s : List ℕ) (count : ℕ) (rows : List Row) (i : ℕ) : Type 0 where
+  pub counted : count ≡ rowCount s
+  pub few : count ≤ 256
+  pub room : rowStart count ≤ length s
+  pub short : i ≤ count
+  pub held : length rows ≡ 256
+  pub so-far : Below i (λ k. getD rows k zeroRow ≡ rowAt s (rowStart k))
+  pub past : (k : ℕ) → i ≤ k → getD rows k zeroRow ≡ zeroRow
+
+zeros : (k : ℕ) → getD (table 256 (λ i. zeroRow)) k zeroRow ≡ zeroRow
+zeros k =
+    ⊎-elim (λ (l : k < 256). table-at zeroRow 256 (λ i. zeroRow) k l) (λ (m : 256 ≤ k). table-past zeroRow 256 (λ i. zeroRow) k m)
+    (lt-or-le k 256)
+
+pub fill-start : (s : List ℕ) (h : Head) (rows : List Row) → h ≡ headAt s → rowCount s ≤ 256 → rowStart (rowCount s) ≤ length s
+    → rows ≡ table 256 (λ i. zeroRow) → Filled s (h .rows) rows 0
+fill-start s h rows e few room z =
+    let n : h .rows ≡ rowCount s = ap (λ (x : Head). x .rows) e in
+    record {
+      counted = n;
+      few = omega arith;
+      room = omega arith;
+      short = omega arith;
+      held = rw z (table-length 256 (λ i. zeroRow));
+      so-far = λ k l. absurd (omega arith);
+      past = λ k l. rw z (zeros k);
+    }
+
+pub fill-next : (s : List ℕ) (count : ℕ) (rows : List Row) (i : ℕ) (r : Row) → Filled s count rows i → i < count
+    → r ≡ rowAt s (rowStart i) → Filled s count (set rows i r) (i + 1)
+fill-next s count rows i r w l e =
+    record {
+      counted = w .counted;
+      few = w .few;
+      room = w .room;
+      short = omega arith;
+      held = length-set rows i r ∙ w .held;
+      so-far = tables.fill-next zeroRow rows i r (λ k. rowAt s (rowStart k)) (omega (arith, w .held, w .few)) e (w .so-far);
+      past = λ k m. getD-set-other rows i k r zeroRow (omega arith) ∙ w .past k (omega arith);
+    }
+
+pub fill-ends : (s : List ℕ) (count : ℕ) (rows : List Row) (i : ℕ) (h : Head) → Filled s count rows i → h ≡ headAt s → count ≤ i
+    → _≡_ {A = Contents} (record { head = h; rows = rows }) (contentsOf s)
+unfolding contentsOf
+fill-ends s count rows i h w e l =
+    let is : rows ≡ table 256 (fileRow s) =
+    table-is zeroRow rows 256 (fileRow s) (w .held)
+    (λ k q.
+    ⊎-elim
+    (λ (m : k < i). rw (lt-ltb k (rowCount s) (omega (arith, w .short, w .counted))) (w .so-far k m))
+    (λ (m : i ≤ k). rw (le-ltb k (rowCount s) (omega (arith, w .counted))) (w .past k m))
+    (lt-or-le k i)) in
+    rw (is, e)

@@ -1,0 +1,6 @@
+pub mod Steps
+pub mod Groups
+pub mod Laws
+pub mod Parts
+pub mod Next
+pub mod Walking
