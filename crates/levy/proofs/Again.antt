@@ -38,7 +38,7 @@ same-marks : (ws cs : List ℕ) (st : Standing) → length (st .marks) ≡ lengt
 unfolding next
 same-marks ws cs st long e =
     sym (table-is 0 (st .marks) (length ws) (λ i. cond (closes ws cs st i) (suc (st .rounds)) (at (st .marks) i)) long
-      (λ k l. rw (count-zero (length ws) (closes ws cs st) (closed-nobody ws cs st e) k l)))
+    (λ k l. rw (count-zero (length ws) (closes ws cs st) (closed-nobody ws cs st e) k l)))
 
 module _ (n : ℕ) (weights caps marks : List ℕ) (money weight rounds : ℕ) (asked : Ready n weights caps marks money weight rounds) where
   abbrev ws : List ℕ
@@ -93,7 +93,7 @@ module _ (n : ℕ) (weights caps marks : List ℕ) (money weight rounds : ℕ) (
     stopped none =
         record {
           is = λ f l. run-stop ws cs st (closed-nobody ws cs st shut-none) f
-            ∙ ap (λ (ks : List ℕ). record { marks = ks; money = money; weight = weight; rounds = rounds }) (sym (shut .marks-are ∙ same-marks ws cs st (sound .long) shut-none));
+              ∙ ap (λ (ks : List ℕ). record { marks = ks; money = money; weight = weight; rounds = rounds }) (sym (shut .marks-are ∙ same-marks ws cs st (sound .long) shut-none));
           past = shut .past;
           long = shut .long;
           early = omega (arith, asked .early);
@@ -126,15 +126,15 @@ module _ (n : ℕ) (weights caps marks : List ℕ) (money weight rounds : ℕ) (
       ready-again =
           record {
             columns =
-              record {
-                few = asked .columns .few;
-                weights-long = asked .columns .weights-long;
-                caps-long = asked .columns .caps-long;
-                marks-long = shut .long;
-                light = asked .columns .light;
-                low = asked .columns .low;
-                rich = omega (arith, asked .columns .rich);
-              };
+                record {
+                  few = asked .columns .few;
+                  weights-long = asked .columns .weights-long;
+                  caps-long = asked .columns .caps-long;
+                  marks-long = shut .long;
+                  light = asked .columns .light;
+                  low = asked .columns .low;
+                  rich = omega (arith, asked .columns .rich);
+                };
             weight-is = after-sound .weight-is;
             marks-le = after-sound .marks-le;
             payers = after-sound .payers;
@@ -147,7 +147,7 @@ module _ (n : ℕ) (weights caps marks : List ℕ) (money weight rounds : ℕ) (
       went-on end rest ended =
           record {
             is = run-again ws cs st (standing n end (at rest 0) (at rest 1) (at rest 2)) closing
-              (λ f l. ap (run f ws cs) (sym step-is) ∙ ended .is f (rw (shut .marks-are) l));
+                (λ f l. ap (run f ws cs) (sym step-is) ∙ ended .is f (rw (shut .marks-are) l));
             past = ended .past ∙ shut .past;
             long = ended .long;
             early = ended .early;
@@ -155,7 +155,7 @@ module _ (n : ℕ) (weights caps marks : List ℕ) (money weight rounds : ℕ) (
 
 -- a cleared array holds the marks before the first round
 module _ (total n : ℕ) (weights caps marks₀ : List ℕ) (asked : Columns n weights caps marks₀ total) (marks : List ℕ) (clear : marks ≡ replicate 256 0)
-  (weight : ℕ) (weight-is : weight ≡ whole (take n weights)) where
+    (weight : ℕ) (weight-is : weight ≡ whole (take n weights)) where
   begin-is : standing n marks total weight 0 ≡ opening total (take n weights)
   unfolding opening
   begin-is =
@@ -169,15 +169,15 @@ module _ (total n : ℕ) (weights caps marks₀ : List ℕ) (asked : Columns n w
   rounds-begin =
       record {
         columns =
-          record {
-            few = asked .few;
-            weights-long = asked .weights-long;
-            caps-long = asked .caps-long;
-            marks-long = rw clear (length-replicate {A = ℕ} 256 0);
-            light = asked .light;
-            low = asked .low;
-            rich = asked .rich;
-          };
+            record {
+              few = asked .few;
+              weights-long = asked .weights-long;
+              caps-long = asked .caps-long;
+              marks-long = rw clear (length-replicate {A = ℕ} 256 0);
+              light = asked .light;
+              low = asked .low;
+              rich = asked .rich;
+            };
         weight-is = begin-sound .weight-is;
         marks-le = begin-sound .marks-le;
         payers = begin-sound .payers;
@@ -189,9 +189,9 @@ module _ (total n : ℕ) (weights caps marks₀ : List ℕ) (asked : Columns n w
   rounds-end after rest ended =
       record {
         is =
-          sym (ended .is (length (take n weights)) (opens-le (take n weights) (take n marks)))
-          ∙ ap (run (length (take n weights)) (take n weights) (take n caps)) begin-is
-          ∙ final-run total (take n weights) (take n caps) (length (take n weights)) (opens-le (take n weights) (opening total (take n weights) .marks));
+            sym (ended .is (length (take n weights)) (opens-le (take n weights) (take n marks)))
+            ∙ ap (run (length (take n weights)) (take n weights) (take n caps)) begin-is
+            ∙ final-run total (take n weights) (take n caps) (length (take n weights)) (opens-le (take n weights) (opening total (take n weights) .marks));
         past = ended .past ∙ rw clear (drop-replicate 256 n (asked .few));
         long = ended .long;
       }

@@ -47,8 +47,8 @@ fill-on n f out i fill l v e low =
       long = length-set out i v ∙ fill .long;
       done = fill-next 0 out i v f (omega (arith, fill .long)) e (fill .done);
       small = below-more (λ (k : ℕ). at (set out i v) k < 2 ^ 32) i
-        (λ k q. rw (getD-set-other out i k v 0 (omega arith)) (fill .small k q))
-        (rw (getD-set-same out i v 0 (omega (arith, fill .long))) low);
+          (λ k q. rw (getD-set-other out i k v 0 (omega arith)) (fill .small k q))
+          (rw (getD-set-same out i v 0 (omega (arith, fill .long))) low);
     }
 
 module _ (n : ℕ) (f : ℕ → ℕ) (out : List ℕ) (i : ℕ) (fill : Fill n f out i) (q : n ≤ i) where

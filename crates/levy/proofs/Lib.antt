@@ -10,3 +10,4 @@ pub mod Turn
 pub mod Fill
 pub mod Making
 pub mod Again
+pub mod Answers

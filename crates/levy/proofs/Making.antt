@@ -2,7 +2,7 @@
 --     open-split, made-asked, payments-made     payments: what the sharing asks, what the making asks, the column
 --     cut-split, cut-long, cut-small, cut-made     cuts: the same
 --     front-room                                the room lent for columns of n
---     paid-fits                                 after the last round each payment fits its field
+--     payable, cuttable                         what the makers of payments and cuts ask, from the answer of the rounds
 -- Assumes nothing.
 use Prim.Native.Nat.{ℕ, _+_, _-_, _*_, _^_, _≤_, _<_}
 use mathlib.Core.Path.{_≡_, refl, ap, sym, _∙_}
@@ -19,10 +19,10 @@ use Rattle.share.specs.Share.{whole, share, shares}
 use Rattle.share.specs.Split.{Splittable}
 use Rattle.share.proofs.Handing.{front}
 use Rattle.share.proofs.Laws.{shares-at, shares-length, share-le-weight}
-use Rattle.levy.specs.Rounds.{Standing, openWeights, final, paid, payments}
-use Rattle.levy.specs.Asked.{standing, standingOf, markedOnly, Small, Columns, Payable, paidFrom, Made, Room, Cuttable}
+use Rattle.levy.specs.Rounds.{openWeights, final, paid, payments, shortfall}
+use Rattle.levy.specs.Asked.{standingOf, markedOnly, Small, Columns, Finished, Short, Payable, paidFrom, Made, Room, Cuttable}
 use Rattle.levy.specs.declared.Rest.{Rest}
-use Rattle.levy.proofs.Payment.{paid-le-cap}
+use Rattle.levy.proofs.Payment.{paid-le-cap, shortfall-le}
 use Rattle.levy.proofs.Fill.{whole-small}
 
 module _ (n : ℕ) (weights caps marks : List ℕ) (rest : Rest) (first : ℕ) (out : List ℕ) (asked : Payable n weights caps marks rest first out) where
@@ -69,7 +69,7 @@ module _ (n : ℕ) (weights caps marks : List ℕ) (rest : Rest) (first : ℕ) (
           (λ k l. paid-same k (omega (arith, wide)))
 
 module _ (shortfall : ℕ) (compensations : List ℕ) (first : ℕ) (out : List ℕ) (asked : Cuttable shortfall compensations first out)
-  (weights : List ℕ) (same : weights ≡ compensations) where
+    (weights : List ℕ) (same : weights ≡ compensations) where
   pub cut-split : (weights₀ parts : List ℕ) → Room (length compensations) weights₀ parts → Small weights → Splittable weights parts first
   cut-split weights₀ parts room low =
       record {
@@ -94,3 +94,31 @@ module _ (shortfall : ℕ) (compensations : List ℕ) (first : ℕ) (out : List 
 -- the first n of two whole arrays
 pub front-room : (n : ℕ) (xs ys : List ℕ) → n ≤ 256 → length xs ≡ 256 → length ys ≡ 256 → Room n (take n xs) (take n ys)
 front-room n xs ys few long more = record { one-long = sym (front xs n long few); two-long = sym (front ys n more few) }
+
+-- once the rounds have ended nobody pays above its cap, so each payment fits
+pub payable : (total n : ℕ) (weights caps marks₀ marks : List ℕ) (rest : Rest) → Columns n weights caps marks₀ total
+    → Finished total n weights caps marks rest → (first : ℕ) → (0 < n → first < n) → (out : List ℕ) → length out ≡ n
+    → Payable n weights caps marks rest first out
+payable total n weights caps marks₀ marks rest asked ended first turn out long =
+    record {
+      few = asked .few;
+      weights-long = asked .weights-long;
+      caps-long = asked .caps-long;
+      marks-long = ended .long;
+      out-long = long;
+      turn = turn;
+      fits = λ i. rw (ended .is) (omega (arith, paid-le-cap total (take n weights) (take n caps) first i, asked .low i));
+    }
+
+-- and the shortfall is at most the total, which is the compensations together
+pub cuttable : (n : ℕ) (weights caps marks : List ℕ) (rest : Rest) (compensations : List ℕ)
+    → Finished (whole compensations) n weights caps marks rest → (x : ℕ) → Short rest x → length compensations ≤ 256
+    → (first : ℕ) → (0 < length compensations → first < length compensations) → (out : List ℕ) → length out ≡ length compensations
+    → Cuttable x compensations first out
+cuttable n weights caps marks rest compensations ended x short few first turn out long =
+    record {
+      few = few;
+      out-long = long;
+      turn = turn;
+      covered = rw (short n marks, ended .is) (shortfall-le (whole compensations) (take n weights) (take n caps));
+    }

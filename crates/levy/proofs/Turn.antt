@@ -57,9 +57,10 @@ module _ (n : ℕ) (weights caps marks₀ : List ℕ) (money weight rounds : ℕ
       }
 
   pub products : (i : ℕ) → i < n → (at caps i * weight < 2 ^ 63) × (money * at weights i < 2 ^ 63)
-  products i l =
-      ( product 44000000 140800000000 (2 ^ 63) (omega (arith, asked .columns .low i, getD-take n caps i 0 l)) (asked .heavy) tt
-      , product 6400000000 550000000 (2 ^ 63) (asked .columns .rich) (omega (arith, asked .columns .light i, getD-take n weights i 0 l)) tt )
+  products i l = (
+    product 44000000 140800000000 (2 ^ 63) (omega (arith, asked .columns .low i, getD-take n caps i 0 l)) (asked .heavy) tt,
+    product 6400000000 550000000 (2 ^ 63) (asked .columns .rich) (omega (arith, asked .columns .light i, getD-take n weights i 0 l)) tt,
+  )
 
   where-small : (xs : List ℕ) (b i : ℕ) → ((k : ℕ) → at xs k ≤ b) → sumWhere i hit (at xs) ≤ b * i
   unfolding sumWhere
@@ -82,15 +83,23 @@ module _ (n : ℕ) (weights caps marks₀ : List ℕ) (money weight rounds : ℕ
 
     pub caps-fit : (t : Bool) (r : ℕ) → r ≡ cond t (at caps i) 0 → p + r < 2 ^ 64
     caps-fit t r e =
-        omega
-        (arith, turn .caps-are, asked .columns .few, where-small (take n caps) 44000000 i (asked .columns .low),
-          counted-le t (at caps i) r 44000000 (omega (arith, asked .columns .low i, getD-take n caps i 0 l)) e)
+        omega (
+          arith,
+          turn .caps-are,
+          asked .columns .few,
+          where-small (take n caps) 44000000 i (asked .columns .low),
+          counted-le t (at caps i) r 44000000 (omega (arith, asked .columns .low i, getD-take n caps i 0 l)) e,
+        )
 
     pub weights-fit : (t : Bool) (r : ℕ) → r ≡ cond t (at weights i) 0 → g + r < 2 ^ 64
     weights-fit t r e =
-        omega
-        (arith, turn .weights-are, asked .columns .few, where-small (take n weights) 550000000 i (asked .columns .light),
-          counted-le t (at weights i) r 550000000 (omega (arith, asked .columns .light i, getD-take n weights i 0 l)) e)
+        omega (
+          arith,
+          turn .weights-are,
+          asked .columns .few,
+          where-small (take n weights) 550000000 i (asked .columns .light),
+          counted-le t (at weights i) r 550000000 (omega (arith, asked .columns .light i, getD-take n weights i 0 l)) e,
+        )
 
     sum-step : (xs : List ℕ) (t : Bool) → t ≡ hit i → (r : ℕ) → r ≡ cond t (at xs i) 0 → (sum : ℕ)
         → sum ≡ sumWhere i hit (at (take n xs)) → sum + r ≡ sumWhere (i + 1) hit (at (take n xs))
@@ -110,8 +119,8 @@ module _ (n : ℕ) (weights caps marks₀ : List ℕ) (money weight rounds : ℕ
           weights-are = sum-step weights t e s s-is g (turn .weights-are);
           long = length-set marks i m ∙ turn .long;
           done =
-            fill-next 0 marks i m (λ k. cond (hit k) (suc rounds) (at (take n marks₀) k)) (omega (arith, turn .long, asked .columns .few))
-            (rw (← e, getD-take n marks₀ i 0 l, ← (turn .still i (omega arith)), ← (add-one rounds)) m-is) (turn .done);
+              fill-next 0 marks i m (λ k. cond (hit k) (suc rounds) (at (take n marks₀) k)) (omega (arith, turn .long, asked .columns .few))
+              (rw (← e, getD-take n marks₀ i 0 l, ← (turn .still i (omega arith)), ← (add-one rounds)) m-is) (turn .done);
           past = drop-set-lt n marks i m l ∙ turn .past;
           still = λ k q. getD-set-other marks i k m 0 (omega arith) ∙ turn .still k (omega arith);
         }
@@ -121,9 +130,9 @@ module _ (n : ℕ) (weights caps marks₀ : List ℕ) (money weight rounds : ℕ
   turn-end marks p g i turn q =
       record {
         marks-are =
-          unfold next in table-is 0 (take n marks) (length (take n weights)) (λ k. cond (hit k) (suc rounds) (at (take n marks₀) k))
-          (omega (arith, wide, length-take-le n marks (omega (arith, turn .long, asked .columns .few))))
-          (λ k l. getD-take n marks k 0 (omega (arith, wide)) ∙ turn .done k (omega (arith, wide)));
+            unfold next in table-is 0 (take n marks) (length (take n weights)) (λ k. cond (hit k) (suc rounds) (at (take n marks₀) k))
+            (omega (arith, wide, length-take-le n marks (omega (arith, turn .long, asked .columns .few))))
+            (λ k l. getD-take n marks k 0 (omega (arith, wide)) ∙ turn .done k (omega (arith, wide)));
         past = turn .past;
         long = turn .long;
         caps-are = turn .caps-are ∙ ap (λ (m : ℕ). sumWhere m hit (at (take n caps))) ended ∙ sym (closed-is (take n weights) (take n caps) st (take n caps));
@@ -132,7 +141,9 @@ module _ (n : ℕ) (weights caps marks₀ : List ℕ) (money weight rounds : ℕ
     where
       st : Standing
       st = standing n marks₀ money weight rounds
+
       wide : length (take n weights) ≡ n
       wide = length-take-le n weights (omega (arith, asked .columns .weights-long, asked .columns .few))
+
       ended : i ≡ length (take n weights)
       ended = omega (arith, wide, turn .within)

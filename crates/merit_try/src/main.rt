@@ -18,7 +18,16 @@ fn show_calls() {
     let bids2 = [400u32, 400];
     let mut called1 = [0u32, 0];
     let mut called2 = [0u32, 0];
-    let beyond = merit::calls(100, 0, &widths1, &widths2, &bids1, &bids2, &mut called1, &mut called2);
+    let beyond = merit::calls(
+        100,
+        0,
+        &widths1,
+        &widths2,
+        &bids1,
+        &bids2,
+        &mut called1,
+        &mut called2,
+    );
     show(called1[0], called1[1]);
     show(beyond, merit::price(&bids1, &called1));
 }
@@ -31,7 +40,10 @@ fn show_fen() {
 // Paid energy in both tiers at 100 MW.
 fn show_paid(metered: Kwh) {
     let base = units::half(100);
-    show(pay::paid1(base, 100, metered).0, pay::paid2(base, 100, metered).0);
+    show(
+        pay::paid1(base, 100, metered).0,
+        pay::paid2(base, 100, metered).0,
+    );
 }
 
 fn main() {

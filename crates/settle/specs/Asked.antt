@@ -1,5 +1,5 @@
 -- What the engine's parts ask of their callers. Assumes nothing.
-use Prim.Native.Nat.{ℕ, _≤_, _<_}
+use Prim.Native.Nat.{ℕ, _*_, _≤_, _<_}
 use mathlib.Core.Path.{_≡_}
 use mathlib.Core.List.{List}
 use mathlib.Core.Bool.{Bool, cond}
@@ -75,3 +75,10 @@ widthAt second s k i = widthIn second (countingRow s k i)
 
 abbrev pub bidAt : Bool → List ℕ → List ℕ → ℕ → ℕ
 bidAt second s k i = bidIn second (countingRow s k i)
+
+-- what the ranges of an accepted row give the code that works on it
+pub record Ranged (r : Row) : Type 0 where
+  pub capacity : r .capacity ≤ 2000
+  pub metered : r .metered .0 ≤ r .capacity * 275
+  pub bid1 : r .bid1 .0 ≤ 320
+  pub bid2 : r .bid2 .0 ≤ 750

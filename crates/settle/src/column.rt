@@ -6,20 +6,20 @@ use units::Kwh;
 use units::Li;
 use units::half;
 ghost use mathlib.Core.Path.{_≡_};
-ghost use Prim.Native.Nat.{_<_, _≤_};
+ghost use Prim.Native.Nat.{_*_, _<_, _≤_};
 ghost use lib.ListN.{length, take};
 ghost use Rattle.columns.specs.Table.{table};
 ghost use Rattle.files.specs.Counting.{countingRow};
 ghost use Rattle.pay.specs.Pay.{compensation};
 ghost use Rattle.levy.specs.Weight.{cap};
 ghost use Rattle.settle.specs.Settlement.{baseline, compensationsOf, weightsOf, capsOf};
-ghost use Rattle.settle.specs.Asked.{Read, widthIn, bidIn, widthAt, bidAt};
+ghost use Rattle.settle.specs.Asked.{Read, Ranged, widthIn, bidIn, widthAt, bidAt};
 
 // The row that counts at a position.
 fn row_at(interval: &[u8], correction: &[u8], n: usize, i: usize, sources: &[u16; 256]) -> Row
     requires { ⌜ Read (now interval) (now correction) n (now sources) ⌝ }
     requires { ⌜ i < n ⌝ }
-    ensures { λ r. ⌜ r ≡ countingRow (now (interval .entry)) (now (correction .entry)) i ⌝ }
+    ensures { λ r. ⌜ (r ≡ countingRow (now (interval .entry)) (now (correction .entry)) i) × Ranged r ⌝ }
 {
     counting_row(interval, correction, n, i, sources[i])
 }
@@ -113,7 +113,7 @@ pub fn compensations(
 
 // A row's cap, as a number that fits a column.
 fn cap_of(row: Row, tariff: Hao) -> u32
-    requires { ⌜ (row .metered .0 ≤ 550000) × (tariff .0 ≤ 10000) ⌝ }
+    requires { ⌜ (row .capacity ≤ 2000) × (row .metered .0 ≤ row .capacity * 275) × (tariff .0 ≤ 10000) ⌝ }
     ensures { λ r. ⌜ r ≡ cap (baseline row) (tariff .0) row ⌝ }
 {
     let most = levy::cap(half(row.capacity), tariff, row);

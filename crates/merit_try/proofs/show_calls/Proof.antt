@@ -58,12 +58,12 @@ calls-requires : tie.Need-calls-requires
 calls-requires c κs =
     record {
       columns =
-        record {
-          in1 = pair-ready 2500 5000 200 200 (omega arith) (omega arith) (omega arith) (omega arith);
-          in2 = pair-ready 0 0 400 400 (omega arith) (omega arith) (omega arith) (omega arith);
-          level = refl;
-          inside = λ l. omega arith;
-        };
+          record {
+            in1 = pair-ready 2500 5000 200 200 (omega arith) (omega arith) (omega arith) (omega arith);
+            in2 = pair-ready 0 0 400 400 (omega arith) (omega arith) (omega arith) (omega arith);
+            level = refl;
+            inside = λ l. omega arith;
+          };
       room1 = refl;
       room2 = refl;
     }

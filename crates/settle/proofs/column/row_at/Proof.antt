@@ -1,3 +1,4 @@
+use Rattle.settle.proofs.Filled.{ranged}
 use borrow.Author.Needs.{needs}
 use Rattle.settle.proofs.column.row_at.Statement.{statement}
 use Rattle.settle.proofs.column.row_at.Tie as tie
@@ -20,7 +21,9 @@ counting-row-requires c κs =
 
 -- src/column.rt:19:1
 returns : tie.Need-returns
-returns c = search needs
+returns c =
+    let p = c .before .before .before .before .pre in
+    (c .counting-row .ensures, ranged _ _ _ _ (c .counting-row .ensures) _ _ (p .0) (p .1))
 
 pub row-at-spec : {M : Type 1} → statement M
 row-at-spec =

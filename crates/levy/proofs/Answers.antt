@@ -1,0 +1,49 @@
+-- Two results that one contract allows are equal, for each public function of the crate.
+--     pays-unique, weight-unique, cap-unique      of a row; weight-unique serves `thermal_weight` too
+--     rounds-unique         marks and what is left
+--     shortfall-unique
+--     payments-unique, cuts-unique      the columns
+-- Assumes nothing.
+use Prim.Native.Nat.{ℕ}
+use mathlib.Core.Path.{_≡_, ap, sym, _∙_}
+use mathlib.Core.Bool.{Bool}
+use mathlib.Core.List.{List, [], _++_}
+use lib.ListN.{take, drop, take-append-drop}
+use Rattle.units.specs.declared.Kwh.{Kwh}
+use Rattle.units.specs.declared.Fen.{Fen}
+use Rattle.files.specs.declared.Row.{Row}
+use Rattle.share.specs.Share.{shares}
+use Rattle.levy.specs.Weight.{payer, cap}
+use Rattle.levy.specs.Rounds.{Standing, payments}
+use Rattle.levy.specs.Asked.{standingOf, Finished, Short}
+use Rattle.levy.specs.declared.Rest.{Rest}
+
+pub pays-unique : (base : ℕ) (r : Row) (s t : Bool) → s ≡ payer base r → t ≡ payer base r → s ≡ t
+pays-unique base r s t p q = p ∙ sym q
+
+-- w is the weight of a row, or what a thermal unit's energy counts for
+pub weight-unique : (w : ℕ) (a b : Kwh) → a .0 ≡ w → b .0 ≡ w → a ≡ b
+weight-unique w a b p q = ap (λ (x : ℕ). record { 0 = x }) (p ∙ sym q)
+
+pub cap-unique : (base tariff : ℕ) (r : Row) (a b : Fen) → a .0 ≡ cap base tariff r → b .0 ≡ cap base tariff r → a ≡ b
+cap-unique base tariff r a b p q = ap (λ (x : ℕ). record { 0 = x }) (p ∙ sym q)
+
+pub rounds-unique : (total n : ℕ) (weights caps : List ℕ) (a b : List ℕ) (r s : Rest) → Finished total n weights caps a r
+    → Finished total n weights caps b s → (a ≡ b) × (r ≡ s)
+rounds-unique total n weights caps a b r s p q = (
+  sym (take-append-drop n a) ∙ rw (ap (λ (st : Standing). st .marks) same, p .past ∙ sym (q .past)) (take-append-drop n b),
+  ap (λ (st : Standing). record { money = st .money; weight = st .weight; rounds = st .rounds }) same,
+)
+  where
+    same : standingOf n a r ≡ standingOf n b s
+    same = p .is ∙ sym (q .is)
+
+pub shortfall-unique : (r : Rest) (x y : ℕ) → Short r x → Short r y → x ≡ y
+shortfall-unique r x y p q = p 0 [] ∙ sym (q 0 [])
+
+pub payments-unique : (ws cs : List ℕ) (st : Standing) (first : ℕ) (a b : List ℕ) → a ≡ payments ws cs st first → b ≡ payments ws cs st first → a ≡ b
+payments-unique ws cs st first a b p q = p ∙ sym q
+
+pub cuts-unique : (shortfall : ℕ) (compensations : List ℕ) (first : ℕ) (a b : List ℕ) → a ≡ shares shortfall compensations first
+    → b ≡ shares shortfall compensations first → a ≡ b
+cuts-unique shortfall compensations first a b p q = p ∙ sym q

@@ -1,0 +1,109 @@
+use Prim.Native.Nat.{ℕ, _<_}
+use borrow.Fn.Kinds.{In}
+use borrow.Fn.PlainCycle.{Measures, is, falls, and}
+use Rattle.levy.proofs.closing.redistribute.Reads as redistribute
+use Rattle.levy.proofs.closing.redistribute.Kinds as redistribute-kinds
+use Rattle.levy.proofs.closing.+redistribute.Lts-redistribute as redistribute-lts
+use Rattle.levy.proofs.closing.close_round.Reads as close-round-reads
+use Rattle.levy.proofs.closing.+redistribute.{statement}
+use Rattle.levy.proofs.closing.+redistribute.Tie.{close}
+use borrow.Author.Needs.{needs}
+use lib.ListN.{take}
+use Rattle.levy.specs.Rounds.{opens}
+use Rattle.levy.proofs.Again.{round-asked, caps-in, weights-in, count-in, opens-less, ready-again, stopped, went-on}
+
+abbrev μ-redistribute : Measures 4 redistribute-kinds.ps ℕ
+μ-redistribute κs a =
+    opens (take (a .1 .1 .1 .0) (a .1 .1 .1 .1 .0 .now)) (take (a .1 .1 .1 .0) (a .1 .1 .1 .1 .1 .1 .0 .now))
+
+abbrev redistribute-at : ℕ → In 4 redistribute-kinds.ps
+redistribute-at t =
+    and 4 redistribute-kinds.ps (is 4 redistribute-kinds.ps μ-redistribute t) redistribute.Pre
+
+abbrev redistribute-below : ℕ → In 4 redistribute-kinds.ps
+redistribute-below t =
+    and
+    4
+    redistribute-kinds.ps
+    (falls 4 redistribute-kinds.ps _<_ μ-redistribute t)
+    redistribute.Pre
+
+-- src/lib.rt:180:9
+redistribute-close-round-requires : (t : ℕ) → redistribute-lts.Need-close-round-requires (
+  close-round-reads.Asked,
+  close-round-reads.Learnt,
+  redistribute-below t,
+  redistribute.Post,
+) (redistribute-at t) redistribute.Post
+redistribute-close-round-requires t c κs = search round-asked
+
+-- src/lib.rt:183:9
+redistribute-returns : (t : ℕ) → redistribute-lts.Need-returns (
+  close-round-reads.Asked,
+  close-round-reads.Learnt,
+  redistribute-below t,
+  redistribute.Post,
+) (redistribute-at t) redistribute.Post
+redistribute-returns t c = search stopped
+
+-- src/lib.rt:186:9
+redistribute-sub-redistribute : (t : ℕ) → redistribute-lts.Need-sub-redistribute (
+  close-round-reads.Asked,
+  close-round-reads.Learnt,
+  redistribute-below t,
+  redistribute.Post,
+) (redistribute-at t) redistribute.Post
+redistribute-sub-redistribute t c = search caps-in
+
+-- src/lib.rt:187:9
+redistribute-sub-redistribute-2 : (t : ℕ) → redistribute-lts.Need-sub-redistribute-2 (
+  close-round-reads.Asked,
+  close-round-reads.Learnt,
+  redistribute-below t,
+  redistribute.Post,
+) (redistribute-at t) redistribute.Post
+redistribute-sub-redistribute-2 t c = search weights-in
+
+-- src/lib.rt:188:9
+redistribute-add-redistribute : (t : ℕ) → redistribute-lts.Need-add-redistribute (
+  close-round-reads.Asked,
+  close-round-reads.Learnt,
+  redistribute-below t,
+  redistribute.Post,
+) (redistribute-at t) redistribute.Post
+redistribute-add-redistribute t c = record { fits = search count-in }
+
+-- src/lib.rt:185:5
+redistribute-redistribute-requires : (t : ℕ) → redistribute-lts.Need-redistribute-requires (
+  close-round-reads.Asked,
+  close-round-reads.Learnt,
+  redistribute-below t,
+  redistribute.Post,
+) (redistribute-at t) redistribute.Post
+redistribute-redistribute-requires t c κs = (search opens-less, search ready-again)
+
+-- src/lib.rt:166:1
+redistribute-returns-2 : (t : ℕ) → redistribute-lts.Need-returns-2 (
+  close-round-reads.Asked,
+  close-round-reads.Learnt,
+  redistribute-below t,
+  redistribute.Post,
+) (redistribute-at t) redistribute.Post
+redistribute-returns-2 t c = search went-on
+
+pub +redistribute-spec : {M : Type 1} → statement M
++redistribute-spec = close μ-redistribute λ t. redistribute-lts.spec (
+  close-round-reads.Asked,
+  close-round-reads.Learnt,
+  redistribute-below t,
+  redistribute.Post,
+)
+    (redistribute-at t)
+    redistribute.Post
+    (redistribute-close-round-requires t)
+    (redistribute-returns t)
+    (redistribute-sub-redistribute t)
+    (redistribute-sub-redistribute-2 t)
+    (redistribute-add-redistribute t)
+    (redistribute-redistribute-requires t)
+    (redistribute-returns-2 t)

@@ -1,0 +1,162 @@
+// Payments once the rounds have ended, and cuts (01, Rounds; Article 32). The one sharing rule makes the fen of both.
+use crate::Rest;
+use crate::closing::counted;
+use crate::closing::wide;
+ghost use mathlib.Core.Path.{_≡_};
+ghost use mathlib.Core.Bool.{cond};
+ghost use Prim.Native.Nat.{_^_, _≤_, _<_};
+ghost use lib.Dec.{eqb};
+ghost use lib.ListN.{length, take};
+ghost use Rattle.columns.specs.Table.{table};
+ghost use Rattle.share.specs.Share.{shares};
+ghost use Rattle.levy.specs.Rounds.{openWeights, payments};
+ghost use Rattle.levy.specs.Asked.{standingOf, Small, markedOnly, Payable, paidFrom, Made, Room, Cuttable};
+
+// The column of open weights.
+fn open_weights(n: usize, weights: &[u32; 256], marks: &[u16; 256], still: &mut [u64])
+    requires { ⌜ (n ≤ 256) × (length (now weights) ≡ 256) × (length (now still) ≡ n) ⌝ }
+    ensures { λ _. ⌜ (now (still .exit) ≡ openWeights (take n (now (weights .entry))) (markedOnly n (now (marks .entry))))
+        × Small (now (still .exit)) ⌝ }
+{
+    let mut i = 0;
+    while i < n {
+        still[i] = counted(marks[i] == 0, weights[i]);
+        i += 1;
+    }
+}
+
+// Who closed pays its cap, the others what they were given.
+fn paid_by(mark: u16, part: u64, cap: u32) -> u32
+    requires { ⌜ cond (eqb mark 0) part cap < 2 ^ 32 ⌝ }
+    ensures { λ r. ⌜ r ≡ cond (eqb mark 0) part cap ⌝ }
+{
+    if mark == 0 {
+        return part as u32;
+    }
+    cap
+}
+
+// The column of payments, from the shares of the money that was left.
+fn pay_out(parts: &[u64], caps: &[u32; 256], marks: &[u16; 256], out: &mut [u32])
+    requires { ⌜ Made (now caps) (now marks) (now parts) (now out) ⌝ }
+    ensures { λ _. ⌜ now (out .exit) ≡ table (length (now (out .entry)))
+        (paidFrom (now (caps .entry)) (now (marks .entry)) (now (parts .entry))) ⌝ }
+{
+    let n = out.len();
+    let mut i = 0;
+    while i < n {
+        out[i] = paid_by(marks[i], parts[i], caps[i]);
+        i += 1;
+    }
+}
+
+// Open weights, shares, payments; two columns of room are lent.
+fn pay_open(
+    n: usize,
+    rest: Rest,
+    weights: &[u32; 256],
+    caps: &[u32; 256],
+    marks: &[u16; 256],
+    first: usize,
+    still: &mut [u64],
+    parts: &mut [u64],
+    out: &mut [u32],
+)
+    requires { ⌜ Payable n (now weights) (now caps) (now marks) rest first (now out) × Room n (now still) (now parts) ⌝ }
+    ensures { λ _. ⌜ now (out .exit) ≡ payments (take n (now (weights .entry))) (take n (now (caps .entry)))
+        (standingOf n (now (marks .entry)) rest) first ⌝ }
+{
+    open_weights(n, weights, marks, still);
+    share::split(rest.money, still, first, parts);
+    pay_out(parts, caps, marks, out);
+}
+
+// What each position pays once the rounds have ended. Fen are made here, once.
+pub fn payments(
+    n: usize,
+    rest: Rest,
+    weights: &[u32; 256],
+    caps: &[u32; 256],
+    marks: &[u16; 256],
+    first: usize,
+    out: &mut [u32],
+)
+    requires { ⌜ Payable n (now weights) (now caps) (now marks) rest first (now out) ⌝ }
+    ensures { λ _. ⌜ now (out .exit) ≡ payments (take n (now (weights .entry))) (take n (now (caps .entry)))
+        (standingOf n (now (marks .entry)) rest) first ⌝ }
+{
+    let mut still = [0u64; 256];
+    let mut parts = [0u64; 256];
+    pay_open(
+        n,
+        rest,
+        weights,
+        caps,
+        marks,
+        first,
+        &mut still[..n],
+        &mut parts[..n],
+        out,
+    );
+}
+
+// A column with more room for each figure.
+fn widen(from: &[u32], to: &mut [u64])
+    requires { ⌜ length (now to) ≡ length (now from) ⌝ }
+    ensures { λ _. ⌜ (now (to .exit) ≡ now (from .entry)) × Small (now (to .exit)) ⌝ }
+{
+    let n = to.len();
+    let mut i = 0;
+    while i < n {
+        to[i] = wide(from[i]);
+        i += 1;
+    }
+}
+
+// A column with less room, where each figure still fits.
+fn narrow(from: &[u64], to: &mut [u32])
+    requires { ⌜ (length (now to) ≡ length (now from)) × Small (now from) ⌝ }
+    ensures { λ _. ⌜ now (to .exit) ≡ now (from .entry) ⌝ }
+{
+    let n = to.len();
+    let mut i = 0;
+    while i < n {
+        to[i] = from[i] as u32;
+        i += 1;
+    }
+}
+
+// Compensations with room, shares, cuts; two columns of room are lent.
+fn cut_over(
+    shortfall: u64,
+    compensations: &[u32],
+    first: usize,
+    weights: &mut [u64],
+    parts: &mut [u64],
+    out: &mut [u32],
+)
+    requires { ⌜ Cuttable shortfall (now compensations) first (now out) × Room (length (now compensations)) (now weights) (now parts) ⌝ }
+    ensures { λ _. ⌜ now (out .exit) ≡ shares shortfall (now (compensations .entry)) first ⌝ }
+{
+    widen(compensations, weights);
+    share::split(shortfall, weights, first, parts);
+    narrow(parts, out);
+}
+
+// The shortfall shared as cuts over the compensations.
+pub fn cuts(shortfall: u64, compensations: &[u32], first: usize, out: &mut [u32])
+    requires { ⌜ Cuttable shortfall (now compensations) first (now out) ⌝ }
+    ensures { λ _. ⌜ now (out .exit) ≡ shares shortfall (now (compensations .entry)) first ⌝ }
+{
+    let n = compensations.len();
+    let mut weights = [0u64; 256];
+    let mut parts = [0u64; 256];
+    cut_over(
+        shortfall,
+        compensations,
+        first,
+        &mut weights[..n],
+        &mut parts[..n],
+        out,
+    );
+}
