@@ -1,3 +1,6 @@
+pub mod Cleared
 pub mod Filled
 pub mod Figures
+pub mod Sizes
+pub mod Stated
 pub mod Written
