@@ -1,4 +1,5 @@
 pub mod Cleared
+pub mod Collected
 pub mod Filled
 pub mod Figures
 pub mod Sizes

@@ -136,3 +136,10 @@ pub record Levied (s k : List ℕ) (n : ℕ) (h : Head) (m : Market) (called1 ca
   pub total-is : total ≡ whole pay
   pub ended : standingFrom marks r ≡ levied pay weights caps
   pub paid-is : paid ≡ payments weights caps (standingFrom marks r) firstTurn
+
+-- how far a settlement has come when everybody's compensation is known
+pub record Compensated (s k : List ℕ) (n : ℕ) (sources : List ℕ) (h : Head) (m : Market) (called1 called2 pay : List ℕ) : Type 0 where
+  pub read : Read s k n sources
+  pub head-is : h ≡ headAt s
+  pub cleared : Clears (h .need .0) (bandsOf n (countingRow s k)) m called1 called2
+  pub pay-is : pay ≡ compensationsOf n (countingRow s k) called1 called2 (m .price1) (m .price2)

@@ -1,6 +1,8 @@
 // The stages of a settlement, one after the other: calls, compensations, rounds, payments, cuts, the statement.
 // Each works on columns that its caller lends, so that no stage keeps anything.
 use crate::column::bands;
+use crate::column::compensations;
+use crate::column::weigh;
 use crate::write::put_statement;
 use files::Head;
 use levy::Rest;
@@ -18,7 +20,7 @@ ghost use Rattle.merit.specs.Band.{bandsOf};
 ghost use Rattle.statement.specs.Statement.{lineStart};
 ghost use Rattle.settle.specs.Answer.{statementOf};
 ghost use Rattle.merit.specs.Ready.{bandsIn, Ready};
-ghost use Rattle.settle.specs.Asked.{Read, Clears, Scratch, headFrom, Levied};
+ghost use Rattle.settle.specs.Asked.{Read, Clears, Scratch, headFrom, Levied, Compensated};
 
 // What the calls come to: the need beyond all bands, and a price for each tier.
 pub struct Market {
@@ -197,6 +199,118 @@ fn state(
         caps,
         paid,
         marks,
+        statement,
+    );
+}
+
+// A column of zeros for closing rounds and for sources.
+fn blank_marks() -> [u16; 256]
+    ensures { λ r. ⌜ length r ≡ 256 ⌝ }
+{
+    [0; 256]
+}
+
+// Weights and caps, the rounds, payments, and all that follows.
+fn collect(
+    interval: &[u8],
+    correction: &[u8],
+    n: usize,
+    sources: &[u16; 256],
+    head: Head,
+    market: Market,
+    called1: &[u32],
+    called2: &[u32],
+    pay: &[u32],
+    paid: &mut [u32],
+    cut: &mut [u32],
+    statement: &mut [u8],
+)
+    requires { ⌜ Compensated (now interval) (now correction) n (now sources) head market (now called1) (now called2) (now pay) ⌝ }
+    requires { ⌜ (length (now paid) ≡ n) × (length (now cut) ≡ n) × (lineStart n ≤ length (now statement)) ⌝ }
+    ensures { λ r. ⌜ now (statement .exit) ≡ put (now (statement .entry)) 0 (statementOf (now (interval .entry)) (now (correction .entry))) ⌝ }
+{
+    let mut weights = blank();
+    let mut caps = blank();
+    let mut marks = blank_marks();
+    let tariff = head.tariff;
+    weigh(
+        interval,
+        correction,
+        n,
+        sources,
+        tariff,
+        &mut weights,
+        &mut caps,
+    );
+    let total = total_of(pay);
+    let rest = levy::rounds(total, n, &weights, &caps, &mut marks);
+    levy::payments(n, rest, &weights, &caps, &marks, 0, paid);
+    state(
+        interval,
+        correction,
+        n,
+        head,
+        market,
+        called1,
+        called2,
+        pay,
+        &weights[..n],
+        &caps[..n],
+        paid,
+        &marks[..n],
+        total,
+        rest,
+        cut,
+        statement,
+    );
+}
+
+// All stages, on columns that the caller lends.
+fn stages(
+    interval: &[u8],
+    correction: &[u8],
+    n: usize,
+    sources: &[u16; 256],
+    called1: &mut [u32],
+    called2: &mut [u32],
+    pay: &mut [u32],
+    paid: &mut [u32],
+    cut: &mut [u32],
+    statement: &mut [u8],
+)
+    requires { ⌜ Read (now interval) (now correction) n (now sources) ⌝ }
+    requires { ⌜ Scratch n (now called1) (now called2) (now pay) (now paid) ⌝ }
+    requires { ⌜ (length (now cut) ≡ n) × (lineStart n ≤ length (now statement)) ⌝ }
+    ensures { λ r. ⌜ now (statement .exit) ≡ put (now (statement .entry)) 0 (statementOf (now (interval .entry)) (now (correction .entry))) ⌝ }
+{
+    let head = files::head_at(interval);
+    let need = head.need.0;
+    let market = clear_all(interval, correction, n, sources, need, called1, called2);
+    let price1 = market.price1;
+    let price2 = market.price2;
+    compensations(
+        interval,
+        correction,
+        n,
+        sources,
+        price1,
+        price2,
+        called1,
+        called2,
+        pay,
+    );
+    collect(
+        interval,
+        correction,
+        n,
+        sources,
+        head,
+        market,
+        called1,
+        called2,
+        pay,
+        paid,
+        cut,
         statement,
     );
 }
