@@ -1,3 +1,4 @@
+pub mod Answered
 pub mod Cleared
 pub mod Collected
 pub mod Filled

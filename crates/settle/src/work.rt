@@ -5,6 +5,7 @@ use crate::column::compensations;
 use crate::column::weigh;
 use crate::write::put_statement;
 use files::Head;
+use files::Verdict;
 use levy::Rest;
 use statement::StatementHead;
 use units::Fen;
@@ -16,6 +17,7 @@ ghost use lib.ListN.{length};
 ghost use Rattle.columns.specs.Buffer.{put};
 ghost use Rattle.share.specs.Share.{whole};
 ghost use Rattle.files.specs.Counting.{countingRow};
+ghost use Rattle.files.specs.Fault.{verdictOf};
 ghost use Rattle.merit.specs.Band.{bandsOf};
 ghost use Rattle.statement.specs.Statement.{lineStart};
 ghost use Rattle.settle.specs.Answer.{statementOf};
@@ -311,6 +313,33 @@ fn stages(
         pay,
         paid,
         cut,
+        statement,
+    );
+}
+
+// The statement of an accepted pair of n rows, into a buffer with room for it.
+pub fn work(interval: &[u8], correction: &[u8], n: usize, statement: &mut [u8])
+    requires { ⌜ verdictOf (now interval) (now correction) ≡ Verdict.Accepted n ⌝ }
+    requires { ⌜ lineStart n ≤ length (now statement) ⌝ }
+    ensures { λ r. ⌜ now (statement .exit) ≡ put (now (statement .entry)) 0 (statementOf (now (interval .entry)) (now (correction .entry))) ⌝ }
+{
+    let mut sources = blank_marks();
+    files::sources(interval, correction, n, &mut sources);
+    let mut called1 = blank();
+    let mut called2 = blank();
+    let mut pay = blank();
+    let mut paid = blank();
+    let mut cut = blank();
+    stages(
+        interval,
+        correction,
+        n,
+        &sources,
+        &mut called1[..n],
+        &mut called2[..n],
+        &mut pay[..n],
+        &mut paid[..n],
+        &mut cut[..n],
         statement,
     );
 }
