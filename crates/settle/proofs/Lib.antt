@@ -1,3 +1,4 @@
 pub mod Filled
 pub mod Figures
 pub mod Written
+pub mod Sizes
