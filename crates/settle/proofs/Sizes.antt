@@ -4,7 +4,7 @@
 --   bands-narrow1, bands-narrow2     no band is wider than 250,000 kWh
 --   bids-low1, bids-low2             bids are at most 320 and 750 li
 --   price1-low, price2-low           and so are the prices
---   bands-ready                      the bands are such as the walk asks for
+--   bands-ready1, bands-ready2       each tier's bands are such as the walk asks for
 --   pay-small, total-rich            a row is paid at most 16,600,000 fen, all together at most 4,249,600,000
 --   weights-light, caps-low          a weight is at most 750,000, a cap at most 27,500,000 fen
 --   pay-length, weights-length, caps-length     these columns have a number for each row
@@ -13,12 +13,12 @@
 --   accepted-rows-ranged, accepted-sized, accepted-head-fits, accepted-line-fits     the same of an accepted pair of files
 -- Assumes nothing.
 use Prim.Native.Nat.{ℕ, _*_, _^_, _≤_, _<_}
-use mathlib.Core.Path.{_≡_, ap, sym, _∙_}
+use mathlib.Core.Path.{_≡_, refl, sym, _∙_}
 use mathlib.Core.Logic.{⊎-elim}
 use mathlib.Core.List.{List}
 use native.Mathlib.Omega.{arith}
+use lib.Dec.{ltb}
 use lib.ListN.{length}
-use Rattle.columns.specs.Sum.{sumTo}
 use Rattle.columns.specs.Table.{at, table, Below}
 use Rattle.columns.proofs.Sum.{lt-or-le, sum-bound, count-le}
 use Rattle.columns.proofs.Table.{table-length, table-at, table-past}
@@ -116,6 +116,26 @@ module _ (n : ℕ) (row : ℕ → Row) where
     pub price2-low : (cs : List ℕ) → price (bandsOf n row .bids2) cs ≤ 750
     price2-low cs = price-le (bandsOf n row .bids2) cs 750 bids-low2
 
+    -- both tiers' columns as the walk asks for them
+    module _ (few : n ≤ 256) where
+      pub bands-ready1 : ReadyIn (bandsOf n row .widths1) (bandsOf n row .bids1)
+      bands-ready1 =
+          record {
+            few = omega (arith, widths1-length);
+            long = bids1-length ∙ sym widths1-length;
+            narrow = bands-narrow1;
+            low = λ i. omega (arith, bids-low1 i);
+          }
+
+      pub bands-ready2 : ReadyIn (bandsOf n row .widths2) (bandsOf n row .bids2)
+      bands-ready2 =
+          record {
+            few = omega (arith, widths2-length);
+            long = bids2-length ∙ sym widths2-length;
+            narrow = bands-narrow2;
+            low = λ i. omega (arith, bids-low2 i);
+          }
+
     pub weights-light : (i : ℕ) → at (weightsOf n row) i ≤ 750000
     unfolding weightsOf
     weights-light =
@@ -138,3 +158,100 @@ module _ (n : ℕ) (row : ℕ → Row) where
       pub total-rich : n ≤ 256 → whole (compensationsOf n row c1 c2 p1 p2) ≤ 4249600000
       total-rich few =
           omega (arith, few, whole-most (compensationsOf n row c1 c2 p1 p2) n 16600000 (pay-length c1 c2 p1 p2) pay-small)
+
+-- ---- the figures of a statement
+
+pub record Sized (need n : ℕ) (f : Figures) : Type 0 where
+  pub price1 : f .price1 ≤ 320
+  pub price2 : f .price2 ≤ 750
+  pub total : f .total ≤ 4249600000
+  pub shortfall : f .shortfall ≤ f .total
+  pub rounds : f .rounds ≤ n
+  pub uncovered : f .uncovered ≤ need
+  pub called1 : (i : ℕ) → at (f .columns .called1) i ≤ 250000
+  pub called2 : (i : ℕ) → at (f .columns .called2) i ≤ 250000
+  pub compensations : (i : ℕ) → at (f .columns .compensations) i ≤ 16600000
+  pub cuts : (i : ℕ) → at (f .columns .cuts) i ≤ at (f .columns .compensations) i
+  pub weights : (i : ℕ) → at (f .columns .weights) i ≤ 750000
+  pub caps : (i : ℕ) → at (f .columns .caps) i ≤ 27500000
+  pub paid : (i : ℕ) → at (f .columns .paid) i ≤ at (f .columns .caps) i
+  pub closing : (i : ℕ) → at (f .columns .closing) i ≤ f .rounds
+
+-- every column has a number for each row
+pub record Long (n : ℕ) (c : Columns) : Type 0 where
+  pub called1 : length (c .called1) ≡ n
+  pub called2 : length (c .called2) ≡ n
+  pub compensations : length (c .compensations) ≡ n
+  pub cuts : length (c .cuts) ≡ n
+  pub weights : length (c .weights) ≡ n
+  pub caps : length (c .caps) ≡ n
+  pub paid : length (c .paid) ≡ n
+  pub closing : length (c .closing) ≡ n
+
+-- rounds number at most the weights
+rounds-few : (total : ℕ) (ws cs : List ℕ) → final total ws cs .rounds ≤ length ws
+rounds-few total ws cs = omega (arith, rounds-count total ws cs, some)
+  where
+    some : payers ws ≤ length ws
+    some = unfold payers in count-le (length ws) (λ i. ltb 0 (at ws i))
+
+module _ (h : Head) (n : ℕ) (row : ℕ → Row) where
+  abbrev bands : Bands
+  bands = bandsOf n row
+
+  abbrev need : ℕ
+  need = h .need .0
+
+  called-length1 : length (calls need bands 0 one) ≡ n
+  called-length1 = calls-length need bands 0 one ∙ widths1-length n row
+
+  called-length2 : length (calls need bands 0 two) ≡ n
+  called-length2 = calls-length need bands 0 two ∙ widths1-length n row
+
+  pub figures-long : Long n (figures h n row .columns)
+  unfolding figures levied
+  figures-long =
+      let pay = figures h n row .columns .compensations in
+      let ws = weightsOf n row in
+      let cs = capsOf (h .tariff .0) n row in
+      record {
+        called1 = called-length1;
+        called2 = called-length2;
+        compensations = pay-length n row _ _ _ _;
+        cuts = cuts-length (whole pay) ws cs pay 0 ∙ pay-length n row _ _ _ _;
+        weights = weights-length n row;
+        caps = caps-length n row (h .tariff .0);
+        paid = payments-length ws cs (final (whole pay) ws cs) 0 ∙ weights-length n row;
+        closing = final-sound (whole pay) ws cs .long ∙ weights-length n row;
+      }
+
+  module _ (head : HeadRanges h) (few : n ≤ 256) (ok : (i : ℕ) → i < n → RowRanges (row i)) where
+    pub figures-sized : Sized need n (figures h n row)
+    unfolding figures levied
+    figures-sized =
+        let c1 = calls need bands 0 one in
+        let c2 = calls need bands 0 two in
+        let p1 = price1-low n row ok c1 in
+        let p2 = price2-low n row ok c2 in
+        let pay = figures h n row .columns .compensations in
+        let ws = weightsOf n row in
+        let cs = capsOf (h .tariff .0) n row in
+        record {
+          price1 = p1;
+          price2 = p2;
+          total = total-rich n row ok c1 c2 _ _ p1 p2 few;
+          shortfall = shortfall-le (whole pay) ws cs;
+          rounds = omega (arith, rounds-few (whole pay) ws cs, weights-length n row);
+          uncovered = uncovered-le;
+          called1 = λ i. omega (arith, calls-at need bands 0 one i, called-le need bands 0 one i, bands-narrow1 n row ok i);
+          called2 = λ i. omega (arith, calls-at need bands 0 two i, called-le need bands 0 two i, bands-narrow2 n row ok i);
+          compensations = pay-small n row ok c1 c2 _ _ p1 p2;
+          cuts = cut-le (whole pay) ws cs pay 0 refl;
+          weights = weights-light n row ok;
+          caps = caps-low n row ok (h .tariff .0) (head .tariff-high);
+          paid = payment-le-cap (whole pay) ws cs 0;
+          closing = marks-rounds (whole pay) ws cs;
+        }
+      where
+        uncovered-le : uncovered need bands ≤ need
+        uncovered-le = unfold uncovered in omega arith
