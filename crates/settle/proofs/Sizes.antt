@@ -12,7 +12,7 @@
 --   head-fits, line-fits             so the statement's head and lines fit their fields
 --   accepted-rows-ranged, accepted-sized, accepted-head-fits, accepted-line-fits     the same of an accepted pair of files
 -- Assumes nothing.
-use Prim.Native.Nat.{ℕ, _*_, _^_, _≤_, _<_}
+use Prim.Native.Nat.{ℕ, _+_, _*_, _≤_, _<_}
 use mathlib.Core.Path.{_≡_, refl, sym, _∙_}
 use mathlib.Core.Logic.{⊎-elim}
 use mathlib.Core.List.{List}
@@ -22,16 +22,17 @@ use lib.ListN.{length}
 use Rattle.columns.specs.Table.{at, table, Below}
 use Rattle.columns.proofs.Sum.{lt-or-le, sum-bound, count-le}
 use Rattle.columns.proofs.Table.{table-length, table-at, table-past}
+use Rattle.columns.proofs.Reading.{number-bound}
 use Rattle.share.specs.Share.{whole}
-use Rattle.files.specs.Layout.{headAt, rowAt}
+use Rattle.files.specs.Layout.{rowStart, headAt, rowAt}
 use Rattle.files.specs.Fault.{verdictOf}
 use Rattle.files.specs.Counting.{countingRow}
 use Rattle.files.specs.declared.Head.{Head}
 use Rattle.files.specs.declared.Row.{Row}
 use Rattle.files.specs.declared.Verdict.the-variants.{Accepted}
 use Rattle.files.proofs.Ranges.{HeadRanges, RowRanges}
-use Rattle.files.proofs.Laws.{accepted-head, accepted-few, accepted-ranges}
-use Rattle.merit.specs.Band.{Tier, one, two, Bands, width1, width2, bandsOf}
+use Rattle.files.proofs.Laws.{accepted-head, accepted-few, accepted-ranges, counting-id}
+use Rattle.merit.specs.Band.{one, two, Bands, width1, width2, bandsOf}
 use Rattle.merit.specs.Call.{calls, uncovered}
 use Rattle.merit.specs.Price.{price}
 use Rattle.merit.specs.Walk.{ReadyIn}
@@ -39,7 +40,7 @@ use Rattle.merit.proofs.Laws.{width1-le, width2-le, calls-length, calls-at, cal
 use Rattle.pay.specs.Pay.{compensation}
 use Rattle.pay.proofs.Laws.{compensation-most}
 use Rattle.levy.specs.Weight.{weight, cap}
-use Rattle.levy.specs.Rounds.{Standing, payers, final, payments, shortfall, cuts}
+use Rattle.levy.specs.Rounds.{payers, final}
 use Rattle.levy.proofs.Row.{weight-most, cap-most}
 use Rattle.levy.proofs.Step.{final-sound}
 use Rattle.levy.proofs.Count.{rounds-count, marks-rounds}
@@ -48,6 +49,7 @@ use Rattle.levy.proofs.Cut.{cuts-length, cut-le}
 use Rattle.statement.proofs.Laws.{HeadFits, LineFits}
 use Rattle.settle.specs.Settlement.{baseline, compensationsOf, weightsOf, capsOf, Columns, Figures, levied, figures}
 use Rattle.settle.specs.Statement.{statementHead, lineOf}
+use Rattle.settle.specs.Promise.{Bytes}
 
 -- terms of at most m: so is every number of the table
 table-most : (n m : ℕ) (f : ℕ → ℕ) → Below n (λ i. f i ≤ m) → (i : ℕ) → at (table n f) i ≤ m
@@ -255,3 +257,57 @@ module _ (h : Head) (n : ℕ) (row : ℕ → Row) where
       where
         uncovered-le : uncovered need bands ≤ need
         uncovered-le = unfold uncovered in omega arith
+
+    pub head-fits : HeadFits (statementHead h n (figures h n row))
+    unfolding statementHead
+    head-fits =
+        let f = figures-sized in
+        record {
+          day = omega (arith, head .day);
+          quarter = omega (arith, head .quarter);
+          price1 = omega (arith, f .price1);
+          price2 = omega (arith, f .price2);
+          total = omega (arith, f .total);
+          shortfall = omega (arith, f .total, f .shortfall);
+          rounds = omega (arith, f .rounds);
+          uncovered = omega (arith, f .uncovered, head .need);
+          rows = omega arith;
+        }
+
+    pub line-fits : (id i : ℕ) → id < 65536 → LineFits (lineOf id (figures h n row .columns) i)
+    unfolding lineOf
+    line-fits id i low =
+        let f = figures-sized in
+        record {
+          id = omega arith;
+          called1 = omega (arith, f .called1 i);
+          called2 = omega (arith, f .called2 i);
+          compensation = omega (arith, f .compensations i);
+          cut = omega (arith, f .compensations i, f .cuts i);
+          weight = omega (arith, f .weights i);
+          cap = omega (arith, f .caps i);
+          paid = omega (arith, f .caps i, f .paid i);
+          closing = omega (arith, f .rounds, f .closing i);
+        }
+
+-- ---- an accepted pair of files
+
+module _ (s k : List ℕ) (n : ℕ) (h : verdictOf s k ≡ Accepted n) where
+  pub accepted-rows-ranged : (i : ℕ) → i < n → RowRanges (countingRow s k i)
+  accepted-rows-ranged = accepted-ranges s k n h
+
+  pub accepted-sized : Sized (headAt s .need .0) n (figures (headAt s) n (countingRow s k))
+  accepted-sized =
+      figures-sized (headAt s) n (countingRow s k) (accepted-head s k n h) (accepted-few s k n h) accepted-rows-ranged
+
+  pub accepted-head-fits : HeadFits (statementHead (headAt s) n (figures (headAt s) n (countingRow s k)))
+  accepted-head-fits =
+      head-fits (headAt s) n (countingRow s k) (accepted-head s k n h) (accepted-few s k n h) accepted-rows-ranged
+
+  pub accepted-line-fits : Bytes s → (i : ℕ) → LineFits (lineOf (countingRow s k i .id) (figures (headAt s) n (countingRow s k) .columns) i)
+  accepted-line-fits bytes i =
+      line-fits (headAt s) n (countingRow s k) (accepted-head s k n h) (accepted-few s k n h) accepted-rows-ranged (countingRow s k i .id) i
+      (omega (arith, counting-id s k i, low))
+    where
+      low : rowAt s (rowStart i) .id < 65536
+      low = unfold rowAt in omega (arith, number-bound 2 s (rowStart i + 2) bytes)

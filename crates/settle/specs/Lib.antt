@@ -3,3 +3,4 @@ pub mod Statement
 pub mod Answer
 pub mod Asked
 pub mod Table
+pub mod Promise
