@@ -2,3 +2,4 @@ pub mod Filled
 pub mod Figures
 pub mod Written
 pub mod Sizes
+pub mod Demand1
