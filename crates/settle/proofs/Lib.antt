@@ -3,3 +3,4 @@ pub mod Figures
 pub mod Written
 pub mod Sizes
 pub mod Demand1
+pub mod Demand2
