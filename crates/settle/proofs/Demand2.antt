@@ -21,7 +21,7 @@ use Rattle.statement.specs.Statement.{lineStart, statementHeadAt, statementHead
 use Rattle.statement.specs.declared.Line.{Line}
 use Rattle.statement.specs.declared.StatementHead.{StatementHead}
 use Rattle.statement.proofs.Laws.{LineFits, head-read, statement-read}
-use Rattle.settle.specs.Settlement.{Columns, Figures, figures}
+use Rattle.settle.specs.Settlement.{Figures, figures}
 use Rattle.settle.specs.Statement.{statementHead, lineOf, linesOf, statementBytes}
 use Rattle.settle.specs.Answer.{statementOf, answerOf, bufferAfter, numberOf}
 use Rattle.settle.specs.Promise.{Bytes, line, figuresAt}
@@ -87,23 +87,24 @@ module _ (s k out : List ℕ) (h : numberOf (answerOf s k (length out)) ≡ 0) w
           rounds = f .rounds;
           uncovered = f .uncovered;
           columns = record {
-            called1 = column (f .columns .called1) (λ l. l .called1 .0) (long .called1) (λ i l. ap (λ (x : Line). x .called1 .0) (statement-read-line i l)) j;
-            called2 = column (f .columns .called2) (λ l. l .called2 .0) (long .called2) (λ i l. ap (λ (x : Line). x .called2 .0) (statement-read-line i l)) j;
-            compensations = column (f .columns .compensations) (λ l. l .compensation .0) (long .compensations) (λ i l. ap (λ (x : Line). x .compensation .0) (statement-read-line i l)) j;
-            cuts = column (f .columns .cuts) (λ l. l .cut .0) (long .cuts) (λ i l. ap (λ (x : Line). x .cut .0) (statement-read-line i l)) j;
-            weights = column (f .columns .weights) (λ l. l .weight .0) (long .weights) (λ i l. ap (λ (x : Line). x .weight .0) (statement-read-line i l)) j;
-            caps = column (f .columns .caps) (λ l. l .cap .0) (long .caps) (λ i l. ap (λ (x : Line). x .cap .0) (statement-read-line i l)) j;
-            paid = column (f .columns .paid) (λ l. l .paid .0) (long .paid) (λ i l. ap (λ (x : Line). x .paid .0) (statement-read-line i l)) j;
-            closing = column (f .columns .closing) (λ l. l .closing) (long .closing) (λ i l. ap (λ (x : Line). x .closing) (statement-read-line i l)) j;
+            called1 = column (f .columns .called1) (λ l. l .called1 .0) (long .called1) (λ i. refl) j;
+            called2 = column (f .columns .called2) (λ l. l .called2 .0) (long .called2) (λ i. refl) j;
+            compensations = column (f .columns .compensations) (λ l. l .compensation .0) (long .compensations) (λ i. refl) j;
+            cuts = column (f .columns .cuts) (λ l. l .cut .0) (long .cuts) (λ i. refl) j;
+            weights = column (f .columns .weights) (λ l. l .weight .0) (long .weights) (λ i. refl) j;
+            caps = column (f .columns .caps) (λ l. l .cap .0) (long .caps) (λ i. refl) j;
+            paid = column (f .columns .paid) (λ l. l .paid .0) (long .paid) (λ i. refl) j;
+            closing = column (f .columns .closing) (λ l. l .closing) (long .closing) (λ i. refl) j;
           };
         })
       where
         long : Long n (f .columns)
         long = figures-long (headAt s) n (countingRow s k)
 
-        column : (xs : List ℕ) (field : Line → ℕ) → length xs ≡ n → Below n (λ i. field (line (bufferAfter s k out) i) ≡ at xs i)
+        column : (xs : List ℕ) (field : Line → ℕ) → length xs ≡ n → ((i : ℕ) → field (lineOf (countingRow s k i .id) (f .columns) i) ≡ at xs i)
             → table n (λ i. field (line (bufferAfter s k out) i)) ≡ xs
-        column xs field e same = column-read n xs (λ i. field (line (bufferAfter s k out) i)) e same
+        column xs field e is =
+            column-read n xs (λ i. field (line (bufferAfter s k out) i)) e (λ i l. ap field (statement-read-line i l) ∙ is i)
 
 pub settle-unique : (s k out : List ℕ) (r₁ r₂ : Answer) (b₁ b₂ : List ℕ)
     → r₁ ≡ answerOf s k (length out) → b₁ ≡ bufferAfter s k out → r₂ ≡ answerOf s k (length out) → b₂ ≡ bufferAfter s k out
