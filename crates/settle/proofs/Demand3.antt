@@ -31,9 +31,11 @@ use Rattle.columns.specs.Table.{at}
 use Rattle.columns.proofs.Sum.{sum-same, sum-add}
 use Rattle.share.specs.Share.{whole}
 use Rattle.files.specs.Layout.{headAt, rowCount}
+use Rattle.files.specs.Fault.{verdictOf}
 use Rattle.files.specs.Counting.{countingRow}
 use Rattle.files.specs.declared.Head.{Head}
 use Rattle.files.specs.declared.Row.{Row}
+use Rattle.files.specs.declared.Verdict.the-variants.{Accepted}
 use Rattle.levy.specs.Rounds.{Standing, payers, final, paid, payments, shortfall, cuts}
 use Rattle.levy.specs.Capped.{marked, inside, outside, capsOf, leftBy, weightsBeside, Capped}
 use Rattle.levy.proofs.Step.{sound-caps, final-sound}
@@ -107,3 +109,143 @@ module _ (total : ℕ) (ws cs : List ℕ) where
     unfolding leftBy
     open-left turn i some z =
         omega (arith, pays-whole, paid-total total ws cs first turn, shortfall-none total ws cs i some z)
+
+-- ---- the figures of any head and rows
+
+module _ (h : Head) (n : ℕ) (row : ℕ → Row) where
+  abbrev f : Figures
+  f = figures h n row
+
+  abbrev pay : List ℕ
+  pay = f .columns .compensations
+
+  abbrev ws : List ℕ
+  ws = f .columns .weights
+
+  abbrev cs : List ℕ
+  cs = f .columns .caps
+
+  -- the rounds that the closing column and the shortfall come from
+  marks-are : f .columns .closing ≡ final (whole pay) ws cs .marks
+  unfolding figures levied
+  marks-are = refl
+
+  pub total-is : f .total ≡ whole pay
+  unfolding figures
+  total-is = refl
+
+  pub paid-is-kept : whole (f .columns .paid) ≡ sumTo (length pay) (kept f)
+  unfolding figures levied
+  paid-is-kept = balance (whole pay) ws cs pay 0 refl (λ p. p) (λ p. p)
+
+  pub cut-within : (i : ℕ) → at (f .columns .cuts) i ≤ at pay i
+  unfolding figures levied
+  cut-within = cut-le (whole pay) ws cs pay 0 refl
+
+  pub within-cap : (i : ℕ) → at (f .columns .paid) i ≤ at cs i
+  unfolding figures levied
+  within-cap = payment-le-cap (whole pay) ws cs 0
+
+  pub capped-pays-cap : (i : ℕ) → CappedPayer f i → at (f .columns .paid) i ≡ at cs i
+  unfolding figures levied
+  capped-pays-cap i p = pays-at (whole pay) ws cs 0 i ∙ paid-closed ws cs (final (whole pay) ws cs) 0 i (p .1)
+
+  pub no-energy-no-pay : (i : ℕ) → at ws i ≡ 0 → at (f .columns .paid) i ≡ 0
+  unfolding figures levied
+  no-energy-no-pay i z =
+      pays-at (whole pay) ws cs 0 i ∙ paid-none (whole pay) ws cs (final (whole pay) ws cs) (final-sound (whole pay) ws cs) 0 i z
+
+  pub open-share-left : (i : ℕ) → OpenPayer f i → sumWhere (length ws) (outside ws (capped f)) (at (f .columns .paid)) ≡ leftOver f
+  unfolding figures levied
+  open-share-left i p = open-left (whole pay) ws cs 0 (λ q. q) i (p .0) (p .1)
+
+  pub rate-over : (i : ℕ) → OpenPayer f i → at (f .columns .paid) i * openEnergy f < leftOver f * at ws i + openEnergy f
+  unfolding figures levied
+  rate-over i p =
+      rw (left-money (whole pay) ws cs, beside-weight (whole pay) ws cs, pays-at (whole pay) ws cs 0 i)
+      (open-rate-over (whole pay) ws cs 0 i (p .1) (p .0))
+
+  pub rate-short : (i : ℕ) → OpenPayer f i → leftOver f * at ws i < at (f .columns .paid) i * openEnergy f + openEnergy f
+  unfolding figures levied
+  rate-short i p =
+      rw (left-money (whole pay) ws cs, beside-weight (whole pay) ws cs, pays-at (whole pay) ws cs 0 i)
+      (open-rate-short (whole pay) ws cs 0 i (p .1) (p .0))
+
+  pub open-below-cap : (i : ℕ) → OpenPayer f i → leftOver f * at ws i < at cs i * openEnergy f
+  unfolding figures levied
+  open-below-cap i p =
+      rw (left-money (whole pay) ws cs, beside-weight (whole pay) ws cs) (open-owe (whole pay) ws cs i (p .1) (p .0))
+
+  pub capped-at-cap : (i : ℕ) → CappedPayer f i → at cs i * openEnergy f ≤ leftOver f * at ws i
+  unfolding figures levied
+  capped-at-cap i p = rw (left-money (whole pay) ws cs, beside-weight (whole pay) ws cs) (capped-owe (whole pay) ws cs i (p .1))
+
+  pub all-capped-covered : AllCapped f → cappedCaps f ≤ f .total
+  unfolding figures levied
+  all-capped-covered all = closed-caps (whole pay) ws cs
+
+  pub capped-set : Capped (f .total) ws cs (capped f)
+  unfolding figures levied
+  capped-set = final-capped (whole pay) ws cs
+
+  pub one-capped-set : (p : ℕ → Bool) → Capped (f .total) ws cs p → (i : ℕ) → 0 < at ws i → p i ≡ capped f i
+  unfolding figures levied
+  one-capped-set = capped-unique (whole pay) ws cs
+
+  pub cut-only-if-all-capped : (j : ℕ) → 0 < at (f .columns .cuts) j → AllCapped f
+  unfolding figures levied
+  cut-only-if-all-capped = cut-capped (whole pay) ws cs pay 0
+
+  pub shortfall-is-cut : whole (f .columns .cuts) ≡ f .shortfall
+  unfolding figures levied
+  shortfall-is-cut = cuts-total (whole pay) ws cs pay 0 refl (λ p. p)
+
+  pub cut-exactly : AllCapped f → whole (f .columns .cuts) ≡ f .total - cappedCaps f
+  unfolding figures levied
+  cut-exactly all = shortfall-is-cut ∙ all-capped (whole pay) ws cs all
+
+  pub rounds-are-closings : f .rounds ≡ maxTo (length ws) (at (f .columns .closing))
+  unfolding figures levied
+  rounds-are-closings = rounds-max (whole pay) ws cs
+
+  pub somebody-closes : (r : ℕ) → 0 < r → r ≤ f .rounds → (i : ℕ) × (i < length ws) × (at (f .columns .closing) i ≡ r)
+  unfolding figures levied
+  somebody-closes = round-somebody (whole pay) ws cs
+
+  pub rounds-at-most-payers : f .rounds ≤ payers ws
+  unfolding figures levied
+  rounds-at-most-payers = rounds-count (whole pay) ws cs
+
+  pub demand3 : Demand3 (figures h n row)
+  demand3 =
+      record {
+        total-is = total-is;
+        paid-is-kept = paid-is-kept;
+        cut-within = cut-within;
+        within-cap = within-cap;
+        capped-pays-cap = capped-pays-cap;
+        no-energy-no-pay = no-energy-no-pay;
+        open-share-left = open-share-left;
+        rate-over = rate-over;
+        rate-short = rate-short;
+        open-below-cap = open-below-cap;
+        capped-at-cap = capped-at-cap;
+        all-capped-covered = all-capped-covered;
+        capped-set = capped-set;
+        one-capped-set = one-capped-set;
+        cut-only-if-all-capped = cut-only-if-all-capped;
+        cut-exactly = cut-exactly;
+        shortfall-is-cut = shortfall-is-cut;
+        rounds-are-closings = rounds-are-closings;
+        somebody-closes = somebody-closes;
+        rounds-at-most-payers = rounds-at-most-payers;
+      }
+
+-- ---- an accepted pair of files, and the bytes of its statement
+
+pub accepted-demand3 : (s k : List ℕ) (n : ℕ) → verdictOf s k ≡ Accepted n → Demand3 (figures (headAt s) n (countingRow s k))
+accepted-demand3 s k n h = demand3 (headAt s) n (countingRow s k)
+
+pub statement-demand3 : (s k out : List ℕ) → Bytes s → numberOf (answerOf s k (length out)) ≡ 0 → Demand3 (figuresAt (bufferAfter s k out))
+statement-demand3 s k out bytes h =
+    rw (statement-figures s k out h bytes) (demand3 (headAt s) (rowCount s) (countingRow s k))
