@@ -1,6 +1,9 @@
 -- Demand 1: every pair of files and every buffer is answered, by a statement or by one numbered refusal, in the order of the
 -- checks; a refusal changes nothing.
 --   answered           the answer is a settlement, or a refusal whose number is from 1 to 11
+--   files-refused      what refuses the files refuses them here, whatever the buffer
+--   short-refused      accepted files and a buffer that is too short: 11, place 0
+--   refused-by         and there is no other refusal
 --   refused-first      a refusal with number a and place p: some check gives it, and none before it applies
 --   first-refused      and the other way round: the first check that applies gives its number and place
 --   settled-first      a settlement: no check applies, and the count is that of the statement's bytes
@@ -21,12 +24,13 @@ use mathlib.Core.Bool.{Bool, true, false, not, cond, _&&_}
 use mathlib.Core.List.{List, [], _∷_, _++_}
 use native.Mathlib.Nat.{eq-zero-or-pos}
 use native.Mathlib.Omega.{arith}
-use lib.Dec.{T, leb, ltb, eqb, leb→le}
+use lib.Dec.{leb, ltb, eqb}
 use lib.ListN.{length, getD, take, length-append, List·getD-append}
 use lib.Seq.{getD-at}
-use borrow.Author.Tests.{le-ltb, ltb-false, eq-eqb, ne-eqb, eqb-true, eqb-false}
+use borrow.Author.Tests.{lt-ltb, le-ltb, ltb-true, ltb-false, leb-true, eq-eqb, ne-eqb, eqb-true, eqb-false}
 use Rattle.columns.specs.Buffer.{put}
 use Rattle.columns.specs.Table.{at, table}
+use Rattle.columns.proofs.First.{left-true, right-true}
 use Rattle.columns.proofs.Sum.{lt-or-le}
 use Rattle.columns.proofs.Table.{table-length}
 use Rattle.columns.proofs.Buffer.{put-length, put-after, take-put}
@@ -98,11 +102,12 @@ module _ (xs : List Refusal) (r : Refusal) where
       (λ (l : length xs ≤ e .at).
       let q : e .at ≡ length xs = omega (arith, e .inside, longer) in
       let here : r ≡ getD (xs ++ (r ∷ [])) (e .at) noRefusal = rw q (sym final) in
-      inr
-      (λ i m. ap (λ (x : Refusal). x .applies) (sym (front i m)) ∙ e .earlier i (omega arith),
-      ap (λ (x : Refusal). x .applies) here ∙ e .applies,
-      ap (λ (x : Refusal). x .number) here ∙ e .number,
-      ap (λ (x : Refusal). x .place) here ∙ e .place))
+      inr (
+        λ i m. ap (λ (x : Refusal). x .applies) (sym (front i m)) ∙ e .earlier i (omega arith),
+        ap (λ (x : Refusal). x .applies) here ∙ e .applies,
+        ap (λ (x : Refusal). x .number) here ∙ e .number,
+        ap (λ (x : Refusal). x .place) here ∙ e .place,
+      ))
       (lt-or-le (e .at) (length xs))
 
   none-more : NoneApplies xs → r .applies ≡ false → NoneApplies (xs ++ (r ∷ []))
@@ -123,56 +128,43 @@ abbrev upTo : ℕ → List Refusal → Bool
 upTo m [] = true
 upTo m (r ∷ rs) = leb (r .number) m && upTo m rs
 
-and-left : (a b : Bool) → T (a && b) → T a
-and-left true b t = tt
-and-left false b t = t
+up-append : (m : ℕ) (xs ys : List Refusal) → upTo m xs ≡ true → upTo m ys ≡ true → upTo m (xs ++ ys) ≡ true
+up-append m [] ys e f = f
+up-append m (x ∷ xs) ys e f =
+    rw (left-true (leb (x .number) m) (upTo m xs) e) (up-append m xs ys (right-true (leb (x .number) m) (upTo m xs) e) f)
 
-and-right : (a b : Bool) → T (a && b) → T b
-and-right true b t = t
-and-right false b t = absurd t
-
-both : (a b : Bool) → T a → T b → T (a && b)
-both true b s t = t
-both false b s t = s
-
-up-append : (m : ℕ) (xs ys : List Refusal) → T (upTo m xs) → T (upTo m ys) → T (upTo m (xs ++ ys))
-up-append m [] ys s t = t
-up-append m (x ∷ xs) ys s t =
-    both (leb (x .number) m) (upTo m (xs ++ ys)) (and-left (leb (x .number) m) (upTo m xs) s)
-    (up-append m xs ys (and-right (leb (x .number) m) (upTo m xs) s) t)
-
-up-rows : (left : ℕ) (s : List ℕ) (k place last : ℕ) → T (upTo 10 (rowsOrder s k left place last))
+up-rows : (left : ℕ) (s : List ℕ) (k place last : ℕ) → upTo 10 (rowsOrder s k left place last) ≡ true
 unfolding rowsOrder
-up-rows zero s k place last = tt
+up-rows zero s k place last = refl
 up-rows (suc left) s k place last = up-rows left s (k + 21) (place + 1) (rowAt s k .id)
 
-up-eights : (rs : List Refusal) → T (upTo 10 (eights rs))
+up-eights : (rs : List Refusal) → upTo 10 (eights rs) ≡ true
 unfolding eights
-up-eights [] = tt
+up-eights [] = refl
 up-eights (r ∷ rs) = up-eights rs
 
-up-names : (left : ℕ) (s c : List ℕ) (k place : ℕ) → T (upTo 10 (namesOrder s c k left place))
+up-names : (left : ℕ) (s c : List ℕ) (k place : ℕ) → upTo 10 (namesOrder s c k left place) ≡ true
 unfolding namesOrder
-up-names zero s c k place = tt
+up-names zero s c k place = refl
 up-names (suc left) s c k place = up-names left s c (k + 21) (place + 1)
 
-up-file : (s k : List ℕ) → T (upTo 10 (fileOrder s k))
+up-file : (s k : List ℕ) → upTo 10 (fileOrder s k) ≡ true
 unfolding fileOrder presentOrder
 up-file s k =
     up-append 10 (placed 0 (headChecks s) ++ rowsOrder s 15 (rowCount s) 1 0) (cond (eqb (length k) 0) [] (presentOrder s k))
     (up-rows (rowCount s) s 15 1 0) (pair (eqb (length k) 0))
   where
-    pair : (t : Bool) → T (upTo 10 (cond t [] (presentOrder s k)))
-    pair true = tt
+    pair : (t : Bool) → upTo 10 (cond t [] (presentOrder s k)) ≡ true
+    pair true = refl
     pair false =
         up-append 10 (eights (rowsOrder k 9 (correctionCount k) 1 0))
         (refusal (not (sameTime s k)) 9 0 ∷ namesOrder s k 9 (correctionCount k) 1)
         (up-eights (rowsOrder k 9 (correctionCount k) 1 0)) (up-names (correctionCount k) s k 9 1)
 
-up-at : (m : ℕ) (rs : List Refusal) → T (upTo m rs) → (i : ℕ) → getD rs i noRefusal .number ≤ m
-up-at m [] t i = zero-le
-up-at m (r ∷ rs) t zero = leb→le (r .number) m (and-left (leb (r .number) m) (upTo m rs) t)
-up-at m (r ∷ rs) t (suc i) = up-at m rs (and-right (leb (r .number) m) (upTo m rs) t) i
+up-at : (m : ℕ) (rs : List Refusal) → upTo m rs ≡ true → (i : ℕ) → getD rs i noRefusal .number ≤ m
+up-at m [] e i = zero-le
+up-at m (r ∷ rs) e zero = leb-true (r .number) m (left-true (leb (r .number) m) (upTo m rs) e)
+up-at m (r ∷ rs) e (suc i) = up-at m rs (right-true (leb (r .number) m) (upTo m rs) e) i
 
 -- ---- the answer, by its fault
 
@@ -249,30 +241,50 @@ module _ (s k : List ℕ) (room : ℕ) where
           (q, ap (λ (f : Fault). f .number) g, ap (λ (f : Fault). f .place) g)
       go false q = let g : none ≡ fault a p = rw q at e in absurd (h (sym (ap (λ (f : Fault). f .number) g)))
 
-  pub refused-first : (a p : ℕ) → answerOf s k room ≡ Refused a p → Earliest (settleOrder s k room) a p
-  unfolding settleOrder
-  refused-first a p h =
+  -- the files' refusal is the engine's, whatever the buffer
+  pub files-refused : (a p : ℕ) → verdictOf s k ≡ Refuses a p → answerOf s k room ≡ Refused a p
+  unfolding verdictOf
+  files-refused a p h =
+      let g = refused-of (rowCount s) a p (fileFault s k) h in
+      answer-no a p (files-first (λ z. g .1 (ap (λ (x : Fault). x .number) (sym (g .0)) ∙ z)) ∙ g .0) (g .1)
+
+  -- 11: accepted files and a buffer that is too short
+  pub short-refused : (n : ℕ) → verdictOf s k ≡ Accepted n → room < lineStart n → answerOf s k room ≡ Refused 11 0
+  unfolding verdictOf
+  short-refused n h l =
+      let g = accepted-of (rowCount s) n (fileFault s k) h in
+      let lacks : room < lineStart (rowCount s) = omega (arith, g .1) in
+      answer-no 11 0 (buffer-next (g .0) ∙ rw (lt-ltb room (lineStart (rowCount s)) lacks)) (λ q. omega arith)
+
+  -- and there is no other refusal
+  pub refused-by : (a p : ℕ) → answerOf s k room ≡ Refused a p
+      → (verdictOf s k ≡ Refuses a p) ⊎ ((verdictOf s k ≡ Accepted (rowCount s)) × (room < lineStart (rowCount s)) × (11 ≡ a) × (0 ≡ p))
+  refused-by a p h =
       let g = refused-fault a p h in
       ⊎-elim
       (λ (z : fileFault s k .number ≡ 0).
       let w = short-refuses a p (sym (buffer-next z) ∙ g .0) (g .1) in
-      rw (← w .1, ← w .2)
-      (final-earliest (fileOrder s k) (refusal short 11 0) (file-accepted s k (rowCount s) (file-yes z)) (w .0)))
-      (λ (up : 0 < fileFault s k .number).
-      let e : fileFault s k ≡ fault a p = sym (files-first (λ z. omega arith)) ∙ g .0 in
-      front-earliest (fileOrder s k) (refusal short 11 0) a p (file-refused s k a p (file-no a p e (g .1))))
+      inr (file-yes z, ltb-true room (lineStart (rowCount s)) (w .0), w .1, w .2))
+      (λ (up : 0 < fileFault s k .number). inl (file-no a p (sym (files-first (λ z. omega arith)) ∙ g .0) (g .1)))
       (eq-zero-or-pos (fileFault s k .number))
 
+  pub refused-first : (a p : ℕ) → answerOf s k room ≡ Refused a p → Earliest (settleOrder s k room) a p
+  unfolding settleOrder
+  refused-first a p h =
+      ⊎-elim
+      (λ (v : verdictOf s k ≡ Refuses a p). front-earliest (fileOrder s k) (refusal short 11 0) a p (file-refused s k a p v))
+      (λ (w : (verdictOf s k ≡ Accepted (rowCount s)) × (room < lineStart (rowCount s)) × (11 ≡ a) × (0 ≡ p)).
+      rw (← w .2, ← w .3)
+      (final-earliest (fileOrder s k) (refusal short 11 0) (file-accepted s k (rowCount s) (w .0)) (lt-ltb room (lineStart (rowCount s)) (w .1))))
+      (refused-by a p h)
+
   pub first-refused : (a p : ℕ) → Earliest (settleOrder s k room) a p → answerOf s k room ≡ Refused a p
-  unfolding settleOrder verdictOf
+  unfolding settleOrder
   first-refused a p e =
       ⊎-elim
-      (λ (f : Earliest (fileOrder s k) a p).
-      let g = refused-of (rowCount s) a p (fileFault s k) (refused-file s k a p f) in
-      answer-no a p (files-first (λ z. g .1 (ap (λ (x : Fault). x .number) (sym (g .0)) ∙ z)) ∙ g .0) (g .1))
+      (λ (f : Earliest (fileOrder s k) a p). files-refused a p (refused-file s k a p f))
       (λ (w : NoneApplies (fileOrder s k) × (short ≡ true) × (11 ≡ a) × (0 ≡ p)).
-      let z = accepted-of (rowCount s) (rowCount s) (fileFault s k) (accepted-file s k (w .0)) .0 in
-      rw (← w .2, ← w .3) (answer-no 11 0 (buffer-next z ∙ rw (w .1)) (λ q. omega arith)))
+      rw (← w .2, ← w .3) (short-refused (rowCount s) (accepted-file s k (w .0)) (ltb-true room (lineStart (rowCount s)) (w .1))))
       (earliest-either (fileOrder s k) (refusal short 11 0) a p e)
 
   pub settled-accepted : numberOf (answerOf s k room) ≡ 0 → verdictOf s k ≡ Accepted (rowCount s)
@@ -300,10 +312,11 @@ module _ (s k : List ℕ) (room : ℕ) where
   pub settled-first : (c : ℕ) → answerOf s k room ≡ Settled c → NoneApplies (settleOrder s k room) × (c ≡ lineStart (rowCount s))
   unfolding settleOrder
   settled-first c h =
-      let z : numberOf (answerOf s k room) ≡ 0 = ap numberOf h in
-      (none-more (fileOrder s k) (refusal short 11 0) (file-accepted s k (rowCount s) (settled-accepted z))
-      (le-ltb room (lineStart (rowCount s)) (settled-room z)),
-      sym (settled-fault c h .1))
+      let z : numberOf (answerOf s k room) ≡ 0 = ap numberOf h in (
+        none-more (fileOrder s k) (refusal short 11 0) (file-accepted s k (rowCount s) (settled-accepted z))
+            (le-ltb room (lineStart (rowCount s)) (settled-room z)),
+        sym (settled-fault c h .1),
+      )
 
   pub first-settled : NoneApplies (settleOrder s k room) → answerOf s k room ≡ Settled (lineStart (rowCount s))
   unfolding settleOrder

@@ -17,7 +17,7 @@
 --   demand3, accepted-demand3, statement-demand3     all of it: of figures, of an accepted pair, of a statement's bytes
 -- Nothing is asked of the rows: the sentences hold of any. Assumes nothing.
 use Prim.Native.Nat.{ℕ, zero, suc, _+_, _-_, _*_, _≤_, _<_}
-use mathlib.Core.Path.{_≡_, refl, ap, sym, _∙_, subst}
+use mathlib.Core.Path.{_≡_, refl, ap, sym, _∙_}
 use mathlib.Core.Logic.{⊎-elim}
 use mathlib.Core.Bool.{Bool, true, false, cond, not, _&&_}
 use mathlib.Core.List.{List}
@@ -36,18 +36,17 @@ use Rattle.files.specs.Counting.{countingRow}
 use Rattle.files.specs.declared.Head.{Head}
 use Rattle.files.specs.declared.Row.{Row}
 use Rattle.files.specs.declared.Verdict.the-variants.{Accepted}
-use Rattle.levy.specs.Rounds.{Standing, payers, final, paid, payments, shortfall, cuts}
+use Rattle.levy.specs.Rounds.{Standing, payers, final, paid, payments}
 use Rattle.levy.specs.Capped.{marked, inside, outside, capsOf, leftBy, weightsBeside, Capped}
 use Rattle.levy.proofs.Step.{sound-caps, final-sound}
 use Rattle.levy.proofs.Rate.{capped-owe, open-owe}
 use Rattle.levy.proofs.Count.{rounds-count, round-somebody, rounds-max}
 use Rattle.levy.proofs.Payment.{payments-length, payments-at, paid-none, paid-closed, paid-total, payment-le-cap, open-rate-over, open-rate-short, all-capped, shortfall-none, closed-caps}
-use Rattle.levy.proofs.Cut.{cut-le, cut-capped, cuts-total, cuts-length, balance}
+use Rattle.levy.proofs.Cut.{cut-le, cut-capped, cuts-total, balance}
 use Rattle.levy.proofs.Unique.{final-capped, capped-unique}
-use Rattle.settle.specs.Settlement.{compensationsOf, weightsOf, capsOf as capsFor, Figures, levied, figures}
+use Rattle.settle.specs.Settlement.{Figures, levied, figures}
 use Rattle.settle.specs.Answer.{answerOf, bufferAfter, numberOf}
 use Rattle.settle.specs.Promise.{Bytes, figuresAt, capped, CappedPayer, OpenPayer, AllCapped, cappedCaps, leftOver, openEnergy, kept, Demand3}
-use Rattle.settle.proofs.Sizes.{weights-length, pay-length}
 use Rattle.settle.proofs.Demand2.{statement-figures}
 
 -- ---- what the set of those that closed leaves, in the terms of the last round
@@ -124,11 +123,6 @@ module _ (h : Head) (n : ℕ) (row : ℕ → Row) where
 
   abbrev cs : List ℕ
   cs = f .columns .caps
-
-  -- the rounds that the closing column and the shortfall come from
-  marks-are : f .columns .closing ≡ final (whole pay) ws cs .marks
-  unfolding figures levied
-  marks-are = refl
 
   pub total-is : f .total ≡ whole pay
   unfolding figures
