@@ -7,6 +7,8 @@
 --     called-met           nor is a band before which the need is met
 --     called-full          a band is called in full if the need lasts for all of its order
 --     calls-order          a band is called for more than 0 only if every cheaper band is called in full
+--     lower-bid            a lower bid is an earlier order, whatever the tiers
+--     tier-first           at one bid tier 1 is earlier than tier 2
 --     called-group         the bands of one order are together called for what is due
 --     calls-sum            all calls of both tiers, and the uncovered need, add up to the need
 --     price-none           the price is 0 if nobody is called
@@ -37,7 +39,7 @@ use Rattle.files.specs.declared.Row.{Row}
 use Rattle.merit.specs.Band.{Tier, one, two, Bands, width1, width2, widths, bids, rows, orderOf, orderAt}
 use Rattle.merit.specs.Call.{cheaper, group, due, called, calls, uncovered}
 use Rattle.merit.specs.Price.{price}
-use Rattle.merit.specs.Walk.{Called}
+use Rattle.merit.specs.Ready.{Called}
 use Rattle.merit.proofs.Steps.{whole-table, width1-none, width1-is, width2-none, width2-is}
 use Rattle.merit.proofs.Groups.{cond-next, cond-le, group-length, group-at, group-past, group-le, group-here, group-not, groups-apart, groups-sum, cheaper-next, cheaper-tier, cheaper-rise, cheaper-zero, cheaper-all}
 
@@ -54,6 +56,15 @@ shares-all a ws first h inside =
         unfold whole in
         (ap (λ (n : ℕ). sumTo n (at (shares a ws first))) (shares-length a ws first)
         ∙ sum-same (length ws) (at (shares a ws first)) (share a ws first) (λ i l. shares-at a ws first i))
+
+pub lower-bid : (b : Bands) (t u : Tier) (i j : ℕ) → at (bids b u) j < at (bids b t) i → orderAt b u j < orderAt b t i
+lower-bid b one one i j l = omega arith
+lower-bid b one two i j l = omega arith
+lower-bid b two one i j l = omega arith
+lower-bid b two two i j l = omega arith
+
+pub tier-first : (b : Bands) (i j : ℕ) → at (bids b one) i ≡ at (bids b two) j → orderAt b one i < orderAt b two j
+tier-first b i j e = omega arith
 
 module _ (need : ℕ) (b : Bands) (first : ℕ) where
   due-le : (t : Tier) (k : ℕ) → due need b t k ≤ whole (group b t k)

@@ -19,7 +19,8 @@ use Rattle.share.proofs.Laws.{shares-are-weights}
 use Rattle.share.proofs.Handing.{front}
 use Rattle.merit.specs.Band.{Tier, one, two, Bands, widths, bids, rows, orderOf, orderAt}
 use Rattle.merit.specs.Call.{group}
-use Rattle.merit.specs.Walk.{bandsIn, ReadyIn, Columns, Ready, Room, Blank, uncalled, tierOf, memberIn, groupIn, partsIn, parts}
+use Rattle.merit.specs.Ready.{bandsIn, ReadyIn, Columns, Ready}
+use Rattle.merit.specs.Walk.{Room, Blank, uncalled, tierOf, memberIn, groupIn, partsIn, parts}
 use Rattle.merit.proofs.Steps.{whole-table}
 use Rattle.merit.proofs.Groups.{cond-le}
 

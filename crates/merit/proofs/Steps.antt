@@ -20,7 +20,8 @@ use Rattle.files.specs.declared.Row.{Row}
 use Rattle.share.specs.Share.{whole}
 use Rattle.merit.specs.Band.{Tier, one, two, width1, width2, orderOf}
 use Rattle.merit.specs.Price.{price}
-use Rattle.merit.specs.Walk.{bandsIn, ReadyIn, past, tierFor, sooner, nextIn, nextOrder, memberIn, groupIn, more}
+use Rattle.merit.specs.Ready.{bandsIn, ReadyIn}
+use Rattle.merit.specs.Walk.{past, tierFor, sooner, nextIn, nextOrder, memberIn, groupIn, more}
 
 module _ (r : Row) where
   pub width1-none : (r .offered ≡ 1 → ⊥) → 0 ≡ width1 r

@@ -28,7 +28,8 @@ use Rattle.share.specs.Share.{whole, share, shares}
 use Rattle.share.proofs.Laws.{shares-at, shares-length}
 use Rattle.merit.specs.Band.{Tier, one, two, Bands, widths, bids, rows, orderOf, orderAt}
 use Rattle.merit.specs.Call.{cheaper, group, due, called, calls, uncovered}
-use Rattle.merit.specs.Walk.{Columns, Called, Blank, Roomy, past, tierOf, nextOrder, partsIn, parts, more, uncalled}
+use Rattle.merit.specs.Ready.{Columns, Called}
+use Rattle.merit.specs.Walk.{Blank, Roomy, past, tierOf, nextOrder, partsIn, parts, more, uncalled}
 use Rattle.merit.proofs.Groups.{cond-next, cond-le, group-length, tier-even, tier-odd, even-apart, odd-apart, order-tier, cheaper-next, cheaper-rise, cheaper-skip, cheaper-zero, cheaper-le, cheaper-all}
 use Rattle.merit.proofs.Laws.{shares-all, called-le, called-zero-width, called-past, called-met, called-part}
 use Rattle.merit.proofs.Next.{next-from, next-within, next-empty}

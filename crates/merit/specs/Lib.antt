@@ -1,4 +1,5 @@
 pub mod Band
 pub mod Call
 pub mod Price
+pub mod Ready
 pub mod Walk

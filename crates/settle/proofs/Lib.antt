@@ -1,7 +1,10 @@
+pub mod Cleared
+pub mod Collected
 pub mod Filled
 pub mod Figures
-pub mod Written
 pub mod Sizes
+pub mod Stated
+pub mod Written
 pub mod Demand1
 pub mod Demand2
 pub mod Demand3

@@ -35,7 +35,7 @@ use Rattle.files.proofs.Laws.{accepted-head, accepted-few, accepted-ranges, cou
 use Rattle.merit.specs.Band.{one, two, Bands, width1, width2, bandsOf}
 use Rattle.merit.specs.Call.{calls, uncovered}
 use Rattle.merit.specs.Price.{price}
-use Rattle.merit.specs.Walk.{ReadyIn}
+use Rattle.merit.specs.Ready.{ReadyIn}
 use Rattle.merit.proofs.Laws.{width1-le, width2-le, calls-length, calls-at, called-le, price-le}
 use Rattle.pay.specs.Pay.{compensation}
 use Rattle.pay.proofs.Laws.{compensation-most}

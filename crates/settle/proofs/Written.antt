@@ -3,6 +3,7 @@
 --   lines-more    a turn puts one line more
 --   lines-long    the buffer keeps its length
 --   lines-all     after the last turn all lines are put
+--   statement-put  the head, and lines behind it, are one run
 --   line-made     a line made of its fields, its money read off the columns
 -- Assumes nothing.
 use mathlib.Core.Path.{_≡_, sym, ap, _∙_}
@@ -15,9 +16,10 @@ use Rattle.columns.specs.Table.{at, table}
 use Rattle.columns.proofs.Buffer.{put-length, put-none, put-put}
 use Rattle.columns.proofs.Table.{table-next, table-length}
 use Rattle.units.specs.declared.Fen.{Fen}
-use Rattle.statement.specs.Statement.{lineBytes, linesBytes}
+use Rattle.statement.specs.Statement.{statementHeadBytes, lineBytes, linesBytes}
+use Rattle.statement.specs.declared.StatementHead.{StatementHead}
 use Rattle.statement.specs.declared.Line.{Line}
-use Rattle.statement.proofs.Laws.{lines-joined, lines-length, line-length}
+use Rattle.statement.proofs.Laws.{head-length, lines-joined, lines-length, line-length}
 use Rattle.settle.specs.Settlement.{Columns}
 use Rattle.settle.specs.Statement.{lineOf, linesOf}
 
@@ -82,3 +84,9 @@ line-made id i c compensation cut cap paid e₁ e₂ e₃ e₄ =
       paid = record { 0 = e₄ j };
       closing = at (c .closing) i;
     }
+
+pub statement-put : (h : StatementHead) (l mid out bytes lines : List ℕ) → bytes ≡ statementHeadBytes h → mid ≡ put l 0 bytes → out ≡ put mid 35 lines
+    → 35 ≤ length l → out ≡ put l 0 (statementHeadBytes h ++ lines)
+statement-put h l mid out bytes lines spelled first then long =
+    then
+    ∙ rw (first, spelled) (put-put l 0 35 (statementHeadBytes h) lines (omega (arith, head-length h)) (omega arith))

@@ -6,6 +6,7 @@ use statement::StatementHead;
 use units::Fen;
 use units::Kwh;
 ghost use mathlib.Core.Path.{_≡_};
+ghost use mathlib.Core.List.{_++_};
 ghost use lib.ListN.{length};
 ghost use Rattle.columns.specs.Buffer.{put};
 ghost use Rattle.statement.specs.Statement.{statementHeadBytes, linesBytes};
@@ -82,4 +83,36 @@ pub fn put_lines(
         put_bytes(out, 35 + i * 34, &statement::encode_line(line));
         i += 1;
     }
+}
+
+// Puts the whole statement, head first.
+pub fn put_statement(
+    interval: &[u8],
+    head: StatementHead,
+    called1: &[u32],
+    called2: &[u32],
+    compensations: &[u32],
+    cuts: &[u32],
+    weights: &[u32],
+    caps: &[u32],
+    paid: &[u32],
+    closing: &[u16],
+    out: &mut [u8],
+)
+    requires { ⌜ Lines (length (now interval)) (columns (now called1) (now called2) (now compensations) (now cuts) (now weights) (now caps) (now paid) (now closing)) (length (now out)) ⌝ }
+    ensures { λ r. ⌜ now (out .exit) ≡ put (now (out .entry)) 0 (statementHeadBytes head ++ linesBytes (linesOf (length (now (called1 .entry))) (idAt (now (interval .entry))) (columns (now (called1 .entry)) (now (called2 .entry)) (now (compensations .entry)) (now (cuts .entry)) (now (weights .entry)) (now (caps .entry)) (now (paid .entry)) (now (closing .entry))))) ⌝ }
+{
+    put_bytes(out, 0, &statement::encode_statement_head(head));
+    put_lines(
+        interval,
+        called1,
+        called2,
+        compensations,
+        cuts,
+        weights,
+        caps,
+        paid,
+        closing,
+        out,
+    );
 }

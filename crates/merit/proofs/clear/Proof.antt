@@ -1,13 +1,11 @@
-use borrow.Author.Needs.{needs}
+-- `merit::clear` meets its contract. Assumes nothing.
 use Prim.Native.Nat.{_-_}
-use mathlib.Core.Path.{refl}
 use lib.ListN.{length}
+use borrow.Author.Needs.{needs}
 use Rattle.columns.proofs.Fill.{Reached, reached-none, reached-next, reached-all}
 use Rattle.merit.specs.Walk.{uncalled}
 use Rattle.merit.proofs.clear.Statement.{statement}
 use Rattle.merit.proofs.clear.Tie as tie
-use Rattle.merit.proofs.clear.Reads as reads
-use Rattle.merit.proofs.clear.Lts as lts
 
 abbrev Inv-loop : tie.InvT-loop
 Inv-loop out₀ i₀ out i = Reached 0 uncalled out₀ out i
@@ -15,36 +13,28 @@ Inv-loop out₀ i₀ out i = Reached 0 uncalled out₀ out i
 abbrev μ-loop : tie.MeasureT-loop
 μ-loop out₀ i₀ out i = length out₀ - i
 
--- src/lib.rt:155:5
 loop-holds : tie.Need-loop-holds Inv-loop μ-loop
 loop-holds c = search reached-none
 
--- src/lib.rt:156:9
 mul-out : tie.Need-mul-out Inv-loop μ-loop
 mul-out c = search needs
 
--- src/lib.rt:156:9
 slice-write-out : tie.Need-slice-write-out Inv-loop μ-loop
 slice-write-out c = search needs
 
--- src/lib.rt:157:9
 add-i : tie.Need-add-i Inv-loop μ-loop
 add-i c = search needs
 
--- src/lib.rt:155:5
 loop-less : tie.Need-loop-less Inv-loop μ-loop
 loop-less c = search needs
 
--- src/lib.rt:155:5
 loop-again : tie.Need-loop-again Inv-loop μ-loop
 unfolding uncalled
-loop-again c = search (reached-next, refl)
+loop-again c = search reached-next
 
--- src/lib.rt:151:1
 same-length : tie.Need-same-length Inv-loop μ-loop
 same-length c = search needs
 
--- src/lib.rt:151:1
 returns : tie.Need-returns Inv-loop μ-loop
 returns c = search reached-all
 

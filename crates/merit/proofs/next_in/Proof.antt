@@ -1,16 +1,13 @@
-use borrow.Author.Needs.{needs}
+-- `merit::next_in` meets its contract. Assumes nothing.
 use Prim.Native.Nat.{_-_, _≤_}
 use mathlib.Core.Path.{_≡_}
 use native.Mathlib.Omega.{arith}
 use lib.ListN.{length}
+use borrow.Author.Needs.{needs}
 use Rattle.merit.specs.Walk.{tierFor, nextIn}
 use Rattle.merit.proofs.Steps.{low-bid, next-in-none, next-in-more, next-in-all}
 use Rattle.merit.proofs.next_in.Statement.{statement}
 use Rattle.merit.proofs.next_in.Tie as tie
-use Rattle.merit.proofs.next_in.Reads as reads
-use Rattle.merit.proofs.next_in.Lts as lts
-use Rattle.merit.proofs.order_of.Reads as order-of-reads
-use Rattle.merit.proofs.sooner.Reads as sooner-reads
 
 abbrev Inv-loop : tie.InvT-loop
 Inv-loop tier from best widths bids next₀ i₀ next i = (i ≤ length widths) × (next ≡ nextIn (tierFor tier) from best widths bids i)
@@ -18,47 +15,36 @@ Inv-loop tier from best widths bids next₀ i₀ next i = (i ≤ length widths) 
 abbrev μ-loop : tie.MeasureT-loop
 μ-loop tier from best widths bids next₀ i₀ next i = length widths - i
 
--- src/lib.rt:86:5
 loop-holds : tie.Need-loop-holds Inv-loop μ-loop
 loop-holds c = (omega arith, search next-in-none)
 
--- src/lib.rt:87:35
 mul-sooner : tie.Need-mul-sooner Inv-loop μ-loop
 mul-sooner c = search needs
 
--- src/lib.rt:87:35
 shared-slice-read-sooner : tie.Need-shared-slice-read-sooner Inv-loop μ-loop
 shared-slice-read-sooner c = search needs
 
--- src/lib.rt:87:61
 mul-order-of : tie.Need-mul-order-of Inv-loop μ-loop
 mul-order-of c = search needs
 
--- src/lib.rt:87:61
 shared-slice-read-order-of : tie.Need-shared-slice-read-order-of Inv-loop μ-loop
 shared-slice-read-order-of c = search needs
 
--- src/lib.rt:87:46
 order-of-requires : tie.Need-order-of-requires Inv-loop μ-loop
 order-of-requires c κs = search low-bid
 
--- src/lib.rt:87:9
 sooner-requires : tie.Need-sooner-requires Inv-loop μ-loop
 sooner-requires c κs = search needs
 
--- src/lib.rt:88:9
 add-i : tie.Need-add-i Inv-loop μ-loop
 add-i c = search needs
 
--- src/lib.rt:86:5
 loop-less : tie.Need-loop-less Inv-loop μ-loop
 loop-less c = search needs
 
--- src/lib.rt:86:5
 loop-again : tie.Need-loop-again Inv-loop μ-loop
 loop-again c = (omega arith, search next-in-more)
 
--- src/lib.rt:80:1
 returns : tie.Need-returns Inv-loop μ-loop
 returns c = search next-in-all
 

@@ -1,28 +1,22 @@
+-- `merit::order_of` meets its contract. Assumes nothing.
 use native.Mathlib.Omega.{arith}
-use Rattle.merit.proofs.Steps.{order-one, order-two}
 use borrow.Author.Needs.{needs}
+use Rattle.merit.proofs.Steps.{order-one, order-two}
 use Rattle.merit.proofs.order_of.Statement.{statement}
 use Rattle.merit.proofs.order_of.Tie as tie
-use Rattle.merit.proofs.order_of.Reads as reads
-use Rattle.merit.proofs.order_of.Lts as lts
 
--- src/lib.rt:58:16
 mul-result : tie.Need-mul-result
 mul-result c = search needs
 
--- src/lib.rt:58:9
 returns : tie.Need-returns
 returns c = (search order-one, omega arith)
 
--- src/lib.rt:60:5
 mul-result-2 : tie.Need-mul-result-2
 mul-result-2 c = search needs
 
--- src/lib.rt:60:5
 add-result : tie.Need-add-result
 add-result c = search needs
 
--- src/lib.rt:53:1
 returns-2 : tie.Need-returns-2
 returns-2 c = (search order-two, omega arith)
 

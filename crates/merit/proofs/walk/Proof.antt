@@ -1,19 +1,16 @@
-use borrow.Author.Needs.{needs}
+-- `merit::walk` meets its contract. Assumes nothing.
 use Prim.Native.Nat.{_-_, _<_}
-use native.Mathlib.Omega.{arith}
-use lib.ListN.{length}
-use Rattle.merit.specs.Walk.{bandsIn, past}
-use Rattle.merit.proofs.Next.{next-less}
-use Rattle.merit.proofs.Walking.{Walked, Turned, blank-room1, blank-room2, walked-first, turned-first, part-fits, roomy, turned-few, turned-next, walked-next, Ended, end-past, end-met}
 use mathlib.Core.Logic.{⊎-elim}
 use mathlib.Core.Path.{sym, _∙_}
+use native.Mathlib.Omega.{arith}
+use lib.ListN.{length}
+use borrow.Author.Needs.{needs}
+use Rattle.merit.specs.Ready.{bandsIn}
+use Rattle.merit.specs.Walk.{past}
+use Rattle.merit.proofs.Next.{next-less}
+use Rattle.merit.proofs.Walking.{Walked, Turned, blank-room1, blank-room2, walked-first, turned-first, part-fits, roomy, turned-few, turned-next, walked-next, Ended, end-past, end-met}
 use Rattle.merit.proofs.walk.Statement.{statement}
 use Rattle.merit.proofs.walk.Tie as tie
-use Rattle.merit.proofs.walk.Reads as reads
-use Rattle.merit.proofs.walk.Lts as lts
-use Rattle.merit.proofs.call_band.Reads as call-band-reads
-use Rattle.merit.proofs.next_order.Reads as next-order-reads
-use Rattle.merit.proofs.parts_at.Reads as parts-at-reads
 
 abbrev Inv-loop : tie.InvT-loop
 Inv-loop need first widths1 widths2 bids1 bids2 called1₀ called2₀ parts left₀ order i₀ called1 called2 left i = Turned need (bandsIn widths1 widths2 bids1 bids2) first order i left called1 called2 parts
@@ -27,63 +24,48 @@ Inv-walk need first widths1 widths2 bids1 bids2 called1₀ called2₀ parts₀ l
 abbrev μ-walk : tie.MeasureT-walk
 μ-walk need first widths1 widths2 bids1 bids2 called1₀ called2₀ parts₀ left₀ order₀ called1 called2 parts left order = past - order
 
--- src/lib.rt:232:9
 next-order-requires : tie.Need-next-order-requires Inv-loop μ-loop Inv-walk μ-walk
 next-order-requires c κs = search needs
 
--- src/lib.rt:233:5
 walk-holds : tie.Need-walk-holds Inv-loop μ-loop Inv-walk μ-walk
 walk-holds c = search walked-first
 
--- src/lib.rt:234:9
 parts-at-requires : tie.Need-parts-at-requires Inv-loop μ-loop Inv-walk μ-walk
 parts-at-requires c κs = search needs
 
--- src/lib.rt:236:9
 loop-holds : tie.Need-loop-holds Inv-loop μ-loop Inv-walk μ-walk
 loop-holds c = search turned-first
 
--- src/lib.rt:237:24
 mul-part : tie.Need-mul-part Inv-loop μ-loop Inv-walk μ-walk
 mul-part c = search needs
 
--- src/lib.rt:237:24
 slice-read-part : tie.Need-slice-read-part Inv-loop μ-loop Inv-walk μ-walk
 slice-read-part c = search needs
 
--- src/lib.rt:238:13
 call-band-requires : tie.Need-call-band-requires Inv-loop μ-loop Inv-walk μ-walk
 call-band-requires c κs = search roomy
 
--- src/lib.rt:239:13
 sub-left : tie.Need-sub-left Inv-loop μ-loop Inv-walk μ-walk
 sub-left c = search part-fits
 
--- src/lib.rt:243:13
 add-i : tie.Need-add-i Inv-loop μ-loop Inv-walk μ-walk
 add-i c = let h : c .before .before .before .before .before .before .before .before .before .before .loop .i < 256 = search turned-few in omega arith
 
--- src/lib.rt:236:9
 loop-less : tie.Need-loop-less Inv-loop μ-loop Inv-walk μ-walk
 loop-less c = search needs
 
--- src/lib.rt:236:9
 loop-again : tie.Need-loop-again Inv-loop μ-loop Inv-walk μ-walk
 loop-again c = search turned-next
 
--- src/lib.rt:245:28
 add-next-order : tie.Need-add-next-order Inv-loop μ-loop Inv-walk μ-walk
 add-next-order c = search needs
 
--- src/lib.rt:245:9
 next-order-requires-2 : tie.Need-next-order-requires-2 Inv-loop μ-loop Inv-walk μ-walk
 next-order-requires-2 c κs = search needs
 
--- src/lib.rt:233:5
 walk-less : tie.Need-walk-less Inv-loop μ-loop Inv-walk μ-walk
 walk-less c = search next-less
 
--- src/lib.rt:233:5
 walk-again : tie.Need-walk-again Inv-loop μ-loop Inv-walk μ-walk
 walk-again c = walked-next _ _ _ (c .before .before .before .before .before .before .before .before .before .before .before .before .before .before .before .before .before .pre .0) _ _ _ _ _ _ (c .before .before .loop .inv) _ (c .before .before .before .before .before .before .before .walk-test .taken) (c .before .loop-test .left) (c .next-order2 .ensures)
 
@@ -95,23 +77,18 @@ ended :
     (c .walk-test .called1) (c .walk-test .called2) (c .walk-test .parts))
 ended c = ⊎-elim (λ w. search end-past) (λ w. search end-met) (c .walk-test .came)
 
--- src/lib.rt:247:5
 cast-result : tie.Need-cast-result Inv-loop μ-loop Inv-walk μ-walk
 cast-result c = omega (arith, ended (c .before) .small)
 
--- src/lib.rt:217:1
 same-length : tie.Need-same-length Inv-loop μ-loop Inv-walk μ-walk
 same-length c = ended (c .before) .room1 ∙ sym (blank-room1 _ _ _ _ (c .before .before .before .before .before .before .before .before .before .before .before .pre .1))
 
--- src/lib.rt:217:1
 same-length-2 : tie.Need-same-length-2 Inv-loop μ-loop Inv-walk μ-walk
 same-length-2 c = ended (c .before) .room2 ∙ sym (blank-room2 _ _ _ _ (c .before .before .before .before .before .before .before .before .before .before .before .pre .1))
 
--- src/lib.rt:217:1
 same-length-3 : tie.Need-same-length-3 Inv-loop μ-loop Inv-walk μ-walk
 same-length-3 c = ended (c .before) .room ∙ sym (c .before .before .before .before .before .before .before .before .before .before .before .pre .1 .room)
 
--- src/lib.rt:217:1
 returns : tie.Need-returns Inv-loop μ-loop Inv-walk μ-walk
 returns c = ended (c .before) .called
 

@@ -5,14 +5,9 @@ use mathlib.Core.List.{List, [], _∷_}
 use native.Mathlib.Omega.{arith}
 use borrow.Author.Needs.{needs}
 use Rattle.columns.specs.Table.{at}
-use Rattle.merit.specs.Walk.{ReadyIn}
+use Rattle.merit.specs.Ready.{ReadyIn}
 use Rattle.merit_try.proofs.show_calls.Statement.{statement}
 use Rattle.merit_try.proofs.show_calls.Tie as tie
-use Rattle.merit_try.proofs.show_calls.Reads as reads
-use Rattle.merit_try.proofs.show_calls.Lts as lts
-use Rattle.merit.proofs.calls.Reads as calls-reads
-use Rattle.merit.proofs.price.Reads as price-reads
-use Rattle.merit_try.proofs.show.Reads as show-reads
 
 pair-at : (x y m : ℕ) → x ≤ m → y ≤ m → (i : ℕ) → at (x ∷ y ∷ []) i ≤ m
 pair-at x y m h k zero = h
@@ -29,31 +24,24 @@ pair-ready w x a b h k l m =
       low = λ i. omega (arith, pair-at a b 65535 l m i);
     }
 
--- src/main.rt:21:39
 slice-aggregate-calls : tie.Need-slice-aggregate-calls
 slice-aggregate-calls c = search needs
 
--- src/main.rt:21:49
 slice-aggregate-calls-2 : tie.Need-slice-aggregate-calls-2
 slice-aggregate-calls-2 c = search needs
 
--- src/main.rt:21:59
 slice-aggregate-calls-3 : tie.Need-slice-aggregate-calls-3
 slice-aggregate-calls-3 c = search needs
 
--- src/main.rt:21:67
 slice-aggregate-calls-4 : tie.Need-slice-aggregate-calls-4
 slice-aggregate-calls-4 c = search needs
 
--- src/main.rt:21:75
 slice-aggregate-calls-5 : tie.Need-slice-aggregate-calls-5
 slice-aggregate-calls-5 c = search needs
 
--- src/main.rt:21:89
 slice-aggregate-calls-6 : tie.Need-slice-aggregate-calls-6
 slice-aggregate-calls-6 c = search needs
 
--- src/main.rt:21:9
 calls-requires : tie.Need-calls-requires
 calls-requires c κs =
     record {
@@ -68,35 +56,27 @@ calls-requires c κs =
       room2 = refl;
     }
 
--- src/main.rt:22:10
 array-read-show : tie.Need-array-read-show
 array-read-show c = search needs
 
--- src/main.rt:22:22
 array-read-show-2 : tie.Need-array-read-show-2
 array-read-show-2 c = search needs
 
--- src/main.rt:22:5
 show-requires : tie.Need-show-requires
 show-requires c κs = search needs
 
--- src/main.rt:23:31
 slice-aggregate-price : tie.Need-slice-aggregate-price
 slice-aggregate-price c = search needs
 
--- src/main.rt:23:39
 slice-aggregate-price-2 : tie.Need-slice-aggregate-price-2
 slice-aggregate-price-2 c = search needs
 
--- src/main.rt:23:18
 price-requires : tie.Need-price-requires
 price-requires c κs = search needs
 
--- src/main.rt:23:5
 show-requires-2 : tie.Need-show-requires-2
 show-requires-2 c κs = search needs
 
--- src/main.rt:14:1
 returns : tie.Need-returns
 returns c = search needs
 
