@@ -6,3 +6,6 @@ pub mod Figures
 pub mod Sizes
 pub mod Stated
 pub mod Written
+pub mod Demand1
+pub mod Demand2
+pub mod Demand3

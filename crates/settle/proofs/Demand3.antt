@@ -1,0 +1,245 @@
+-- Demand 3, sentence by sentence, of the figures of any head and any rows; so of every accepted pair of files; and of the
+-- figures read back from the bytes of its statement. The sentences are the fields of `Demand3` (specs/Promise.antt).
+--   paid-is-kept              What payers pay equals what receivers keep, to the fen.
+--     cut-within              (Nobody is cut by more than it is due, so that what it keeps is a plain difference.)
+--   within-cap                No payer exceeds its cap.
+--   open-share-left           Of the payers with corrected energy, those not capped share what the caps leave ..
+--   rate-over, rate-short     .. at one rate for each corrected kWh, rounded by less than a fen, up or down.
+--   open-below-cap            At that rate, before rounding, each of them owes less than its cap ..
+--   capped-at-cap             .. and each capped one at least its cap.
+--   all-capped-covered        If all are capped, their caps together don't exceed the compensation.
+--   capped-set                The capped payers have this property ..
+--   one-capped-set            .. and only one set of payers has it.
+--   cut-only-if-all-capped    Receivers are cut only if all are capped ..
+--   cut-exactly               .. by exactly what those caps fail to cover.
+--   rounds-at-most-payers     Rounds in which somebody closes number at most those payers ..
+--     rounds-are-closings, somebody-closes    .. and the rounds told are those.
+--   demand3, accepted-demand3, statement-demand3     all of it: of figures, of an accepted pair, of a statement's bytes
+-- Nothing is asked of the rows: the sentences hold of any. Assumes nothing.
+use Prim.Native.Nat.{ℕ, zero, suc, _+_, _-_, _*_, _≤_, _<_}
+use mathlib.Core.Path.{_≡_, refl, ap, sym, _∙_}
+use mathlib.Core.Logic.{⊎-elim}
+use mathlib.Core.Bool.{Bool, true, false, cond, not, _&&_}
+use mathlib.Core.List.{List}
+use native.Mathlib.Nat.{eq-zero-or-pos}
+use native.Mathlib.Omega.{arith}
+use lib.Dec.{ltb, eqb}
+use lib.ListN.{length}
+use borrow.Author.Tests.{lt-ltb, eq-eqb, ne-eqb}
+use Rattle.columns.specs.Sum.{sumTo, sumWhere, maxTo}
+use Rattle.columns.specs.Table.{at}
+use Rattle.columns.proofs.Sum.{sum-same, sum-add}
+use Rattle.share.specs.Share.{whole}
+use Rattle.files.specs.Layout.{headAt, rowCount}
+use Rattle.files.specs.Fault.{verdictOf}
+use Rattle.files.specs.Counting.{countingRow}
+use Rattle.files.specs.declared.Head.{Head}
+use Rattle.files.specs.declared.Row.{Row}
+use Rattle.files.specs.declared.Verdict.the-variants.{Accepted}
+use Rattle.levy.specs.Rounds.{Standing, payers, final, paid, payments}
+use Rattle.levy.specs.Capped.{marked, inside, outside, capsOf, leftBy, weightsBeside, Capped}
+use Rattle.levy.proofs.Step.{sound-caps, final-sound}
+use Rattle.levy.proofs.Rate.{capped-owe, open-owe}
+use Rattle.levy.proofs.Count.{rounds-count, round-somebody, rounds-max}
+use Rattle.levy.proofs.Payment.{payments-length, payments-at, paid-none, paid-closed, paid-total, payment-le-cap, open-rate-over, open-rate-short, all-capped, shortfall-none, closed-caps}
+use Rattle.levy.proofs.Cut.{cut-le, cut-capped, cuts-total, balance}
+use Rattle.levy.proofs.Unique.{final-capped, capped-unique}
+use Rattle.settle.specs.Settlement.{Figures, levied, figures}
+use Rattle.settle.specs.Answer.{answerOf, bufferAfter, numberOf}
+use Rattle.settle.specs.Promise.{Bytes, figuresAt, capped, CappedPayer, OpenPayer, AllCapped, cappedCaps, leftOver, openEnergy, kept, Demand3}
+use Rattle.settle.proofs.Demand2.{statement-figures}
+
+-- ---- what the set of those that closed leaves, in the terms of the last round
+
+module _ (total : ℕ) (ws cs : List ℕ) where
+  abbrev end : Standing
+  end = final total ws cs
+
+  abbrev closers : ℕ → Bool
+  closers = marked (end .marks)
+
+  left-money : leftBy total ws cs closers ≡ end .money
+  unfolding leftBy
+  left-money = omega (arith, sound-caps total ws cs end (final-sound total ws cs))
+
+  beside-weight : weightsBeside ws closers ≡ end .weight
+  unfolding weightsBeside sumWhere
+  beside-weight =
+      sum-same (length ws) (λ i. cond (outside ws closers i) (at ws i) 0) (λ i. cond (eqb (at (end .marks) i) 0) (at ws i) 0)
+      (λ i l. still (at ws i) (eqb (at (end .marks) i) 0))
+      ∙ sym (final-sound total ws cs .weight-is)
+    where
+      still : (w : ℕ) (t : Bool) → cond (ltb 0 w && not (not t)) w 0 ≡ cond t w 0
+      still zero true = refl
+      still zero false = refl
+      still (suc w) true = rw (lt-ltb 0 (suc w) (omega arith))
+      still (suc w) false = rw (lt-ltb 0 (suc w) (omega arith))
+
+  module _ (first : ℕ) where
+    abbrev pays : List ℕ
+    pays = payments ws cs end first
+
+    pays-at : (i : ℕ) → at pays i ≡ paid ws cs end first i
+    pays-at = payments-at total ws cs end (final-sound total ws cs) first
+
+    -- who pays: a capped payer its cap, an open one what it pays, anybody else nothing
+    pays-parts : (i : ℕ) → at pays i ≡ cond (inside ws closers i) (at cs i) 0 + cond (outside ws closers i) (at pays i) 0
+    pays-parts i =
+        ⊎-elim
+        (λ (z : at ws i ≡ 0).
+        let nothing : at pays i ≡ 0 = pays-at i ∙ paid-none total ws cs end (final-sound total ws cs) first i z in
+        rw (nothing, z) refl)
+        (λ (some : 0 < at ws i). ⊎-elim
+        (λ (z : at (end .marks) i ≡ 0). rw (lt-ltb 0 (at ws i) some, eq-eqb (at (end .marks) i) 0 z) (omega arith))
+        (λ (up : 0 < at (end .marks) i).
+        rw (lt-ltb 0 (at ws i) some, ne-eqb (at (end .marks) i) 0 (omega arith)) (omega (arith, pays-at i, paid-closed ws cs end first i up)))
+        (eq-zero-or-pos (at (end .marks) i)))
+        (eq-zero-or-pos (at ws i))
+
+    pays-whole : whole pays ≡ capsOf ws cs closers + sumWhere (length ws) (outside ws closers) (at pays)
+    unfolding whole capsOf sumWhere
+    pays-whole =
+        ap (λ (n : ℕ). sumTo n (at pays)) (payments-length ws cs end first)
+        ∙ sum-same (length ws) (at pays) (λ i. cond (inside ws closers i) (at cs i) 0 + cond (outside ws closers i) (at pays i) 0) (λ i l. pays-parts i)
+        ∙ sum-add (length ws) (λ i. cond (inside ws closers i) (at cs i) 0) (λ i. cond (outside ws closers i) (at pays i) 0)
+
+    open-left : (0 < length ws → first < length ws) → (i : ℕ) → 0 < at ws i → at (end .marks) i ≡ 0
+        → sumWhere (length ws) (outside ws closers) (at pays) ≡ leftBy total ws cs closers
+    unfolding leftBy
+    open-left turn i some z =
+        omega (arith, pays-whole, paid-total total ws cs first turn, shortfall-none total ws cs i some z)
+
+-- ---- the figures of any head and rows
+
+module _ (h : Head) (n : ℕ) (row : ℕ → Row) where
+  abbrev f : Figures
+  f = figures h n row
+
+  abbrev pay : List ℕ
+  pay = f .columns .compensations
+
+  abbrev ws : List ℕ
+  ws = f .columns .weights
+
+  abbrev cs : List ℕ
+  cs = f .columns .caps
+
+  pub total-is : f .total ≡ whole pay
+  unfolding figures
+  total-is = refl
+
+  pub paid-is-kept : whole (f .columns .paid) ≡ sumTo (length pay) (kept f)
+  unfolding figures levied
+  paid-is-kept = balance (whole pay) ws cs pay 0 refl (λ p. p) (λ p. p)
+
+  pub cut-within : (i : ℕ) → at (f .columns .cuts) i ≤ at pay i
+  unfolding figures levied
+  cut-within = cut-le (whole pay) ws cs pay 0 refl
+
+  pub within-cap : (i : ℕ) → at (f .columns .paid) i ≤ at cs i
+  unfolding figures levied
+  within-cap = payment-le-cap (whole pay) ws cs 0
+
+  pub capped-pays-cap : (i : ℕ) → CappedPayer f i → at (f .columns .paid) i ≡ at cs i
+  unfolding figures levied
+  capped-pays-cap i p = pays-at (whole pay) ws cs 0 i ∙ paid-closed ws cs (final (whole pay) ws cs) 0 i (p .1)
+
+  pub no-energy-no-pay : (i : ℕ) → at ws i ≡ 0 → at (f .columns .paid) i ≡ 0
+  unfolding figures levied
+  no-energy-no-pay i z =
+      pays-at (whole pay) ws cs 0 i ∙ paid-none (whole pay) ws cs (final (whole pay) ws cs) (final-sound (whole pay) ws cs) 0 i z
+
+  pub open-share-left : (i : ℕ) → OpenPayer f i → sumWhere (length ws) (outside ws (capped f)) (at (f .columns .paid)) ≡ leftOver f
+  unfolding figures levied
+  open-share-left i p = open-left (whole pay) ws cs 0 (λ q. q) i (p .0) (p .1)
+
+  pub rate-over : (i : ℕ) → OpenPayer f i → at (f .columns .paid) i * openEnergy f < leftOver f * at ws i + openEnergy f
+  unfolding figures levied
+  rate-over i p =
+      rw (left-money (whole pay) ws cs, beside-weight (whole pay) ws cs, pays-at (whole pay) ws cs 0 i)
+      (open-rate-over (whole pay) ws cs 0 i (p .1) (p .0))
+
+  pub rate-short : (i : ℕ) → OpenPayer f i → leftOver f * at ws i < at (f .columns .paid) i * openEnergy f + openEnergy f
+  unfolding figures levied
+  rate-short i p =
+      rw (left-money (whole pay) ws cs, beside-weight (whole pay) ws cs, pays-at (whole pay) ws cs 0 i)
+      (open-rate-short (whole pay) ws cs 0 i (p .1) (p .0))
+
+  pub open-below-cap : (i : ℕ) → OpenPayer f i → leftOver f * at ws i < at cs i * openEnergy f
+  unfolding figures levied
+  open-below-cap i p =
+      rw (left-money (whole pay) ws cs, beside-weight (whole pay) ws cs) (open-owe (whole pay) ws cs i (p .1) (p .0))
+
+  pub capped-at-cap : (i : ℕ) → CappedPayer f i → at cs i * openEnergy f ≤ leftOver f * at ws i
+  unfolding figures levied
+  capped-at-cap i p = rw (left-money (whole pay) ws cs, beside-weight (whole pay) ws cs) (capped-owe (whole pay) ws cs i (p .1))
+
+  pub all-capped-covered : AllCapped f → cappedCaps f ≤ f .total
+  unfolding figures levied
+  all-capped-covered all = closed-caps (whole pay) ws cs
+
+  pub capped-set : Capped (f .total) ws cs (capped f)
+  unfolding figures levied
+  capped-set = final-capped (whole pay) ws cs
+
+  pub one-capped-set : (p : ℕ → Bool) → Capped (f .total) ws cs p → (i : ℕ) → 0 < at ws i → p i ≡ capped f i
+  unfolding figures levied
+  one-capped-set = capped-unique (whole pay) ws cs
+
+  pub cut-only-if-all-capped : (j : ℕ) → 0 < at (f .columns .cuts) j → AllCapped f
+  unfolding figures levied
+  cut-only-if-all-capped = cut-capped (whole pay) ws cs pay 0
+
+  pub shortfall-is-cut : whole (f .columns .cuts) ≡ f .shortfall
+  unfolding figures levied
+  shortfall-is-cut = cuts-total (whole pay) ws cs pay 0 refl (λ p. p)
+
+  pub cut-exactly : AllCapped f → whole (f .columns .cuts) ≡ f .total - cappedCaps f
+  unfolding figures levied
+  cut-exactly all = shortfall-is-cut ∙ all-capped (whole pay) ws cs all
+
+  pub rounds-are-closings : f .rounds ≡ maxTo (length ws) (at (f .columns .closing))
+  unfolding figures levied
+  rounds-are-closings = rounds-max (whole pay) ws cs
+
+  pub somebody-closes : (r : ℕ) → 0 < r → r ≤ f .rounds → (i : ℕ) × (i < length ws) × (at (f .columns .closing) i ≡ r)
+  unfolding figures levied
+  somebody-closes = round-somebody (whole pay) ws cs
+
+  pub rounds-at-most-payers : f .rounds ≤ payers ws
+  unfolding figures levied
+  rounds-at-most-payers = rounds-count (whole pay) ws cs
+
+  pub demand3 : Demand3 (figures h n row)
+  demand3 =
+      record {
+        total-is = total-is;
+        paid-is-kept = paid-is-kept;
+        cut-within = cut-within;
+        within-cap = within-cap;
+        capped-pays-cap = capped-pays-cap;
+        no-energy-no-pay = no-energy-no-pay;
+        open-share-left = open-share-left;
+        rate-over = rate-over;
+        rate-short = rate-short;
+        open-below-cap = open-below-cap;
+        capped-at-cap = capped-at-cap;
+        all-capped-covered = all-capped-covered;
+        capped-set = capped-set;
+        one-capped-set = one-capped-set;
+        cut-only-if-all-capped = cut-only-if-all-capped;
+        cut-exactly = cut-exactly;
+        shortfall-is-cut = shortfall-is-cut;
+        rounds-are-closings = rounds-are-closings;
+        somebody-closes = somebody-closes;
+        rounds-at-most-payers = rounds-at-most-payers;
+      }
+
+-- ---- an accepted pair of files, and the bytes of its statement
+
+pub accepted-demand3 : (s k : List ℕ) (n : ℕ) → verdictOf s k ≡ Accepted n → Demand3 (figures (headAt s) n (countingRow s k))
+accepted-demand3 s k n h = demand3 (headAt s) n (countingRow s k)
+
+pub statement-demand3 : (s k out : List ℕ) → Bytes s → numberOf (answerOf s k (length out)) ≡ 0 → Demand3 (figuresAt (bufferAfter s k out))
+statement-demand3 s k out bytes h =
+    rw (statement-figures s k out h bytes) (demand3 (headAt s) (rowCount s) (countingRow s k))
