@@ -13,12 +13,12 @@
 -- Assumes nothing.
 use mathlib.Core.Path.{_≡_, refl, sym, ap, _∙_}
 use mathlib.Core.List.{List, [], _∷_, _++_, append-assoc, append-nil}
-use Prim.Native.Nat.{ℕ, zero, suc, _+_, _-_, _≤_, _<_}
+use Prim.Native.Nat.{ℕ, _+_, _-_, _≤_, _<_}
 use native.Mathlib.Nat.{add-zero, zero-add, add-assoc}
 use native.Mathlib.Numerals.{add-one}
 use native.Mathlib.Omega.{arith}
 use lib.ListN.{length, getD, take, drop, set, length-append, length-take, length-drop, take-append-drop, List·getD-append}
-use lib.Seq.{length-take-le, take-suc, take-at, drop-at, drop-drop, drop-append-add, set-split, getD-take, getD-drop, getD-append-add, take-all, drop-length}
+use lib.Seq.{length-take-le, take-suc, take-at, drop-at, drop-drop, set-split, getD-take, getD-drop, getD-append-add, take-all, drop-length}
 use Rattle.columns.specs.Buffer.{put}
 
 module _ {A : Type 0} where

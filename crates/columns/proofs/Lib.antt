@@ -9,4 +9,3 @@ pub mod Buffer
 pub mod Reading
 pub mod Choice
 pub mod First
-pub mod Passed

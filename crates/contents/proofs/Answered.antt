@@ -8,13 +8,13 @@
 --   read-few, read-long   the same of a file that is accepted
 --   read-refused, read-done     the reader's result, by the file's answer
 -- Assumes nothing.
-use mathlib.Core.Path.{_≡_, refl, sym, ap, _∙_}
+use mathlib.Core.Path.{_≡_, refl, sym, _∙_}
 use mathlib.Core.Bool.{Bool, true, false, not, cond}
-use mathlib.Core.List.{List, _++_}
+use mathlib.Core.List.{List}
 use Prim.Native.Nat.{ℕ, _+_, _*_, _≤_, _<_}
 use native.Mathlib.Omega.{arith}
 use borrow.Author.Tests.{not-true, not-false, lt-ltb, le-ltb, eq-eqb, ne-eqb, ltb-false}
-use lib.Dec.{ltb, eqb}
+use lib.Dec.{ltb}
 use lib.ListN.{length, take}
 use Rattle.columns.specs.Buffer.{put}
 use Rattle.columns.proofs.Buffer.{put-put}
@@ -24,14 +24,13 @@ use Rattle.files.specs.Fault.{Fault, fault, none, orElse, intervalFault, verdic
 use Rattle.files.specs.declared.Head.{Head}
 use Rattle.files.specs.declared.Verdict.{Verdict}
 use Rattle.files.specs.declared.Verdict.the-variants.{Accepted, Refused}
-use Rattle.files.proofs.Answer.{or-first, or-next, or-none, verdict-yes, verdict-no, accepted-of, refused-of}
+use Rattle.files.proofs.Answer.{or-first, or-next, or-none, verdict-no, accepted-of, refused-of}
 use Rattle.contents.specs.Content.{zeroContents, contentsOf, readingOf, rowsBytes, contentsBytes, listFault, contentsFault, writerFault, writtenOf, writtenBuffer}
 use Rattle.contents.specs.declared.Contents.{Contents}
 use Rattle.contents.specs.declared.Reading.{Reading}
 use Rattle.contents.specs.declared.Written.the-variants as written
 use Rattle.contents.proofs.Record.{head-length, rows-few}
 use Rattle.contents.proofs.RoundTrip.{contents-none, head-of, few}
-use Rattle.contents.proofs.Refusal.{HeadNone}
 
 -- the fault of the rows of contents, and of a buffer for so many rows
 abbrev rowsOf : Contents → Fault

@@ -12,7 +12,6 @@ use Rattle.columns.specs.Table.{table}
 use Rattle.files.specs.Layout.{headAt, headBytes, rowAt, rowBytes}
 use Rattle.files.specs.Range.{headOk, statusOk, notOffering, offering, rowTests, rowOk}
 use Rattle.files.specs.Fault.{fault, none, orElse, headFault, rowFault, rowsFault, intervalFault}
-use Rattle.files.specs.declared.Head.{Head}
 use Rattle.files.specs.declared.Row.{Row}
 use Rattle.contents.specs.Content.{zeroRow, contentsOf, rowsBytes, contentsBytes, listFault, contentsFault, writerFault}
 use Rattle.contents.specs.declared.Contents.{Contents}

@@ -7,25 +7,23 @@
 --   rows-few                  a head in its ranges has at most 256 rows
 -- Assumes nothing.
 use mathlib.Core.Path.{_≡_, refl, sym, ap, _∙_}
-use mathlib.Core.Logic.{⊎-elim}
-use mathlib.Core.Bool.{Bool, true, false, cond, _&&_, _||_}
+use mathlib.Core.Bool.{true}
 use mathlib.Core.List.{List, [], _∷_, _++_}
-use Prim.Native.Nat.{ℕ, zero, suc, _+_, _*_, _^_, _≤_, _<_}
+use Prim.Native.Nat.{ℕ, suc, _+_, _^_, _≤_, _<_}
 use native.Mathlib.Nat.{add-assoc, add-zero}
 use native.Mathlib.Omega.{arith}
-use borrow.Author.Tests.{leb-true, eqb-true}
-use lib.Dec.{leb, eqb, lit<}
+use borrow.Author.Tests.{eqb-true}
+use lib.Dec.{eqb}
 use lib.ListN.{length, getD, take, drop, length-drop}
 use lib.Seq.{drop-drop, take-add, getD-drop}
 use Rattle.columns.specs.Number.{numberAt, numberBytes}
 use Rattle.columns.proofs.Number.{number-drop, number-is, number-write}
-use Rattle.columns.specs.Test.{within}
-use Rattle.columns.proofs.Passed.{both, either, within-ends, each}
-use Rattle.units.specs.Load.{half}
-use Rattle.files.specs.Range.{lowest1, highest1, lowest2, highest2, dayOk, quarterOk, headOk, statusOk, notOffering, offering, rowTests, rowOk}
+use Rattle.columns.proofs.First.{left-true, right-true}
+use Rattle.files.specs.Range.{headOk, rowOk}
 use Rattle.files.specs.Layout.{marked, letterH, letterR, headAt, headBytes, rowAt, rowBytes}
 use Rattle.files.specs.declared.Head.{Head}
 use Rattle.files.specs.declared.Row.{Row}
+use Rattle.files.proofs.Ranges.{head-ranges, row-ranges}
 
 pub head-length : (h : Head) → length (headBytes h) ≡ 15
 unfolding headBytes numberBytes
@@ -34,42 +32,6 @@ head-length h = refl
 pub row-length : (r : Row) → length (rowBytes r) ≡ 21
 unfolding rowBytes numberBytes
 row-length r = refl
-
--- what the ranges of status and of an offer bound
-status-low : (r : Row) → statusOk r ≡ true → r .status ≤ 3
-unfolding statusOk
-status-low r e = leb-true (r .status) 3 (both (leb (r .status) 3) (eqb (r .kind) 1 || (eqb (r .status) 0 || eqb (r .status) 3)) e .0)
-
-record Offer (r : Row) : Type 0 where
-  offered : r .offered ≤ 1
-  minimum : r .minimum .0 ≤ r .capacity * 125
-  bid1 : r .bid1 .0 ≤ 320
-  bid2 : r .bid2 .0 ≤ 750
-
-silent : (r : Row) → notOffering r ≡ true → Offer r
-unfolding notOffering
-silent r e =
-    let p = each (eqb (r .offered) 0 ∷ eqb (r .minimum .0) 0 ∷ eqb (r .bid1 .0) 0 ∷ eqb (r .bid2 .0) 0 ∷ []) e in
-    record {
-      offered = omega (arith, eqb-true (r .offered) 0 (p 0));
-      minimum = omega (arith, eqb-true (r .minimum .0) 0 (p 1));
-      bid1 = omega (arith, eqb-true (r .bid1 .0) 0 (p 2));
-      bid2 = omega (arith, eqb-true (r .bid2 .0) 0 (p 3));
-    }
-
-offers : (r : Row) → offering r ≡ true → Offer r
-unfolding offering
-offers r e =
-    let p = each (eqb (r .offered) 1 ∷ eqb (r .kind) 1 ∷ leb (r .minimum .0) (half (r .capacity)) ∷ within lowest1 highest1 (r .bid1 .0) ∷ within lowest2 highest2 (r .bid2 .0) ∷ []) e in
-    record {
-      offered = omega (arith, eqb-true (r .offered) 1 (p 0));
-      minimum = leb-true (r .minimum .0) (half (r .capacity)) (p 2);
-      bid1 = within-ends lowest1 highest1 (r .bid1 .0) (p 3) .1;
-      bid2 = within-ends lowest2 highest2 (r .bid2 .0) (p 4) .1;
-    }
-
-offer-low : (r : Row) → notOffering r || offering r ≡ true → Offer r
-offer-low r e = ⊎-elim (silent r) (offers r) (either (notOffering r) (offering r) e)
 
 -- every field fits the width that it has in a file
 pub record HeadFits (h : Head) : Type 0 where
@@ -130,8 +92,8 @@ mark-first : (s : List ℕ) (n : ℕ) (letter : ℕ) → 2 + n ≤ length s → 
 mark-first [] n letter h m = absurd (omega arith)
 mark-first (x ∷ []) n letter h m = absurd (omega arith)
 mark-first (x ∷ y ∷ s) n letter h m =
-    let p = both (eqb x 80) (eqb y letter) m in
-    rw (eqb-true x 80 (p .0), eqb-true y letter (p .1))
+    rw
+    (eqb-true x 80 (left-true (eqb x 80) (eqb y letter) m), eqb-true y letter (right-true (eqb x 80) (eqb y letter) m))
 
 pub mark-shift : (s : List ℕ) (n k letter : ℕ) → marked (drop n s) k letter ≡ marked s (n + k) letter
 mark-shift s n k letter = rw (getD-drop n s k 0, getD-drop n s (k + 1) 0, add-assoc n k 1)
@@ -185,37 +147,17 @@ row-write s k small h m =
     let mark : marked (drop k s) 0 letterR ≡ true = mark-shift s k 0 letterR ∙ rw (add-zero k) m in
     rw (← row) (first-row (drop k s) (λ i. rw (getD-drop k s i 0) (small (k + i))) (rw length-drop (omega arith)) mark)
 
--- the tests of a head, as its definition lists them
-abbrev headTests : Head → List Bool
-headTests h =
-    dayOk (h .day) ∷ quarterOk (h .quarter) ∷ within 1 10000 (h .tariff .0) ∷ leb (h .need .0) 64000000 ∷ leb (h .rows) 256 ∷ []
-
 pub head-fits : (h : Head) → headOk h ≡ true → HeadFits h
-unfolding headOk
 head-fits h e =
-    let p = each (headTests h) e in
-    let t : h .tariff .0 ≤ 10000 = within-ends 1 10000 (h .tariff .0) (p 2) .1 in
-    record {
-      day = omega (arith, leb-true (h .day) 36524 (p 0));
-      quarter = omega (arith, leb-true (h .quarter) 95 (p 1));
-      tariff = omega arith;
-      need = omega (arith, leb-true (h .need .0) 64000000 (p 3));
-      rows = omega (arith, leb-true (h .rows) 256 (p 4));
-    }
+    let r = head-ranges h e in
+    record { day = omega arith; quarter = omega arith; tariff = omega arith; need = omega arith; rows = omega arith }
 
 pub rows-few : (h : Head) → headOk h ≡ true → h .rows ≤ 256
-unfolding headOk
-rows-few h e = leb-true (h .rows) 256 (each (headTests h) e 4)
+rows-few h e = head-ranges h e .rows
 
 pub row-fits : (r : Row) → rowOk r ≡ true → r .id < 256 ^ 2 → RowFits r
-unfolding rowOk rowTests
 row-fits r e i =
-    let p = each (rowTests r) e in
-    let kind : r .kind ≤ 3 = within-ends 1 3 (r .kind) (p 1) .1 in
-    let capacity : r .capacity ≤ 2000 = within-ends 1 2000 (r .capacity) (p 2) .1 in
-    let metered : r .metered .0 ≤ r .capacity * 275 = leb-true (r .metered .0) (r .capacity * 275) (p 3) in
-    let status : r .status ≤ 3 = status-low r (p 4) in
-    let offer = offer-low r (p 5) in
+    let q = row-ranges r e in
     record {
       id = i;
       kind = omega arith;

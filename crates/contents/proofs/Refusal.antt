@@ -1,24 +1,23 @@
 -- The first fault of rows: what it says when there is none, and that a file's rows and a list's rows have the same one.
---   rows-valid    a file's rows without fault have the right marks and pass their ranges
 --   list-valid    a list's rows without fault pass their ranges
 --   rows-agree    rows of a file with the right marks have the fault that the same rows have in a list
 --   head-none     a head without fault: long enough, marked, within its ranges, and the file as long as it says
 -- Assumes nothing.
-use mathlib.Core.Path.{_≡_, refl, sym, ap, _∙_}
-use mathlib.Core.Bool.{Bool, true, false, not, cond}
-use mathlib.Core.List.{List, [], _∷_}
-use Prim.Native.Nat.{ℕ, zero, suc, _+_, _*_, _≤_, _<_}
+use mathlib.Core.Path.{_≡_, refl, _∙_}
+use mathlib.Core.Bool.{true}
+use mathlib.Core.List.{List}
+use Prim.Native.Nat.{ℕ, zero, suc, _+_, _≤_, _<_}
 use native.Mathlib.Nat.{add-zero}
 use native.Mathlib.Omega.{arith}
-use borrow.Author.Tests.{not-false, ltb-false, eqb-true, eqb-false}
-use lib.Dec.{ltb, leb, eqb, lit<}
+use borrow.Author.Tests.{not-false, ltb-false, eqb-true}
+use lib.Dec.{eqb, lit<}
 use lib.ListN.{length, getD}
 use Rattle.columns.specs.Table.{Below}
 use Rattle.columns.specs.Test.{firstOf}
 use Rattle.columns.proofs.First.{none-applies}
 use Rattle.files.specs.Layout.{marked, letterH, letterR, rowStart, headAt, rowAt, rowCount}
 use Rattle.files.specs.Range.{headOk, rowOk}
-use Rattle.files.specs.Fault.{fault, check, headChecks, headFault, rowChecks, rowFault, rowsFault}
+use Rattle.files.specs.Fault.{fault, headChecks, headFault, rowChecks, rowFault, rowsFault}
 use Rattle.files.specs.declared.Row.{Row}
 use Rattle.files.proofs.Answer.{or-none}
 use Rattle.files.proofs.Walked.{noCheck}
@@ -27,29 +26,10 @@ use Rattle.contents.specs.Content.{zeroRow, listFault}
 pub row-none : (r : Row) (last : ℕ) → firstOf (rowChecks r last) ≡ 0 → rowOk r ≡ true
 row-none r last e = not-false (rowOk r) (none-applies noCheck (rowChecks r last) tt e 0 (lit< tt))
 
-mark-none : (s : List ℕ) (k last : ℕ) → rowFault s k last ≡ 0 → (marked s k letterR ≡ true) × (rowOk (rowAt s k) ≡ true)
-unfolding rowFault
-mark-none s k last e =
-    let p = none-applies noCheck (check (not (marked s k letterR)) 5 ∷ rowChecks (rowAt s k) last) tt e in
-    (not-false (marked s k letterR) (p 0 (lit< tt)), not-false (rowOk (rowAt s k)) (p 1 (lit< tt)))
-
 -- a fact of the first position and of each later one
 front : (P : ℕ → Type 0) (n : ℕ) → P 0 → Below n (λ j. P (suc j)) → Below (suc n) P
 front P n first later zero l = first
 front P n first later (suc j) l = later j (omega arith)
-
-pub rows-valid : (s : List ℕ) (k left place last : ℕ) → rowsFault s k left place last .number ≡ 0
-    → Below left (λ j. (marked s (k + j * 21) letterR ≡ true) × (rowOk (rowAt s (k + j * 21)) ≡ true))
-unfolding rowsFault
-rows-valid s k zero place last e = λ j l. absurd (omega arith)
-rows-valid s k (suc left) place last e =
-    let p = or-none (fault (rowFault s k last) place) (rowsFault s (k + 21) left (place + 1) (rowAt s k .id)) e in
-    let here : k + 0 * 21 ≡ k = omega arith in
-    front (λ j. (marked s (k + j * 21) letterR ≡ true) × (rowOk (rowAt s (k + j * 21)) ≡ true)) left
-    (rw here (mark-none s k last (p .0)))
-    (λ j l.
-    let there : k + suc j * 21 ≡ k + 21 + j * 21 = omega arith in
-    rw there (rows-valid s (k + 21) left (place + 1) (rowAt s k .id) (p .1) j l))
 
 pub list-valid : (rs : List Row) (i left last : ℕ) → listFault rs i left last .number ≡ 0
     → Below left (λ j. rowOk (getD rs (i + j) zeroRow) ≡ true)

@@ -10,25 +10,25 @@
 use mathlib.Core.Path.{_≡_, refl, sym, ap, _∙_}
 use mathlib.Core.Bool.{Bool, true, false, cond}
 use mathlib.Core.Logic.{⊎-elim}
-use mathlib.Core.List.{List, _++_}
-use Prim.Native.Nat.{ℕ, zero, suc, _+_, _*_, _^_, _≤_, _<_}
+use mathlib.Core.List.{List}
+use Prim.Native.Nat.{ℕ, _*_, _^_, _≤_, _<_}
 use native.Mathlib.Nat.{zero-add}
 use native.Mathlib.Omega.{arith}
 use borrow.Author.Tests.{lt-ltb, le-ltb, eq-eqb}
-use lib.Dec.{ltb, eqb}
-use lib.ListN.{length, getD, take, drop}
+use lib.Dec.{ltb}
+use lib.ListN.{length, getD, take}
 use lib.Seq.{length-take-le, getD-take, take-add, take-all}
 use Rattle.columns.specs.Table.{table, Below}
 use Rattle.columns.specs.Buffer.{put}
 use Rattle.columns.proofs.Sum.{lt-or-le}
 use Rattle.columns.proofs.Table.{table-length, table-at, table-is}
-use Rattle.files.specs.Layout.{marked, letterH, letterR, rowStart, headAt, headBytes, rowAt, rowCount}
-use Rattle.files.specs.Range.{headOk, rowOk}
-use Rattle.files.specs.Fault.{Fault, fault, none, orElse, headFault, rowsFault, intervalFault}
+use Rattle.files.specs.Layout.{marked, letterR, rowStart, headAt, rowAt, rowCount}
+use Rattle.files.specs.Range.{headOk}
+use Rattle.files.specs.Fault.{fault, none, headFault, rowsFault, intervalFault}
 use Rattle.files.specs.declared.Head.{Head}
-use Rattle.files.specs.declared.Row.{Row}
 use Rattle.files.proofs.Answer.{or-none, or-next}
-use Rattle.contents.specs.Content.{zeroRow, zeroContents, contentsOf, readingOf, rowsBytes, contentsBytes, listFault, contentsFault, writerFault, writtenOf, writtenBuffer}
+use Rattle.files.proofs.Sound.{rows-each}
+use Rattle.contents.specs.Content.{zeroRow, contentsOf, readingOf, contentsBytes, listFault, contentsFault, writerFault, writtenOf, writtenBuffer}
 use Rattle.contents.specs.declared.Contents.{Contents}
 use Rattle.contents.specs.declared.Reading.{Reading}
 use Rattle.contents.specs.declared.Written.{Written}
@@ -36,7 +36,7 @@ use Rattle.contents.specs.declared.Written.the-variants.{Bytes}
 use Rattle.contents.proofs.Walk.{fileRow}
 use Rattle.contents.proofs.Record.{head-write, head-fits, row-fits, rows-few}
 use Rattle.contents.proofs.Rows.{contents-length, contents-head, contents-mark, contents-row, contents-row-mark, rows-write}
-use Rattle.contents.proofs.Refusal.{HeadNone, head-none, rows-valid, list-valid, SameRow, rows-agree}
+use Rattle.contents.proofs.Refusal.{HeadNone, head-none, list-valid, rows-agree}
 
 -- What acceptance of a file gives.
 module _ (s : List ℕ) (accepted : intervalFault s .number ≡ 0) where
@@ -51,7 +51,7 @@ module _ (s : List ℕ) (accepted : intervalFault s .number ≡ 0) where
   few = rows-few (headAt s) (head-of .ok)
 
   pub marks : Below (rowCount s) (λ j. marked s (rowStart j) letterR ≡ true)
-  marks j l = rows-valid s 15 (rowCount s) 1 0 (parts .1) j l .0
+  marks j l = rows-each (rowCount s) s 15 1 0 (parts .1) j l .mark
 
   kept : (j : ℕ) → j < rowCount s → getD (table 256 (fileRow s)) j zeroRow ≡ rowAt s (rowStart j)
   kept j l = table-at zeroRow 256 (fileRow s) j (omega (arith, few)) ∙ rw (lt-ltb j (rowCount s) l)

@@ -12,7 +12,7 @@ use mathlib.Core.List.{List, [], _∷_, _++_, append-assoc, append-nil}
 use Prim.Native.Nat.{ℕ, zero, suc, _+_, _*_, _≤_, _<_}
 use native.Mathlib.Omega.{arith}
 use lib.ListN.{length, getD, take, drop, length-append}
-use lib.Seq.{length-take-le, take-add, drop-drop, drop-at, getD-take, take-suc}
+use lib.Seq.{length-take-le, take-add, drop-drop, drop-at, getD-take}
 use Rattle.columns.specs.Number.{numberBytes}
 use Rattle.columns.specs.Table.{table, Below}
 use Rattle.files.specs.Layout.{marked, letterH, letterR, rowStart, headAt, headBytes, rowAt, rowBytes}

@@ -4,10 +4,10 @@
 --   Filled    the rows so far are the file's, and zero rows past them; fill-start, -next, -ends: its steps
 -- Assumes nothing.
 use mathlib.Core.Path.{_≡_, refl, sym, ap, _∙_}
-use mathlib.Core.Bool.{true, false, cond}
+use mathlib.Core.Bool.{cond}
 use mathlib.Core.Logic.{⊎-elim}
-use mathlib.Core.List.{List, [], _∷_, _++_}
-use Prim.Native.Nat.{ℕ, zero, suc, _+_, _-_, _*_, _≤_, _<_}
+use mathlib.Core.List.{List, _++_}
+use Prim.Native.Nat.{ℕ, suc, _+_, _-_, _*_, _≤_, _<_}
 use native.Mathlib.Numerals.{add-one}
 use native.Mathlib.Omega.{arith}
 use lib.Dec.{ltb}
@@ -21,16 +21,15 @@ use Rattle.columns.proofs.Sum.{lt-or-le}
 use Rattle.columns.proofs.Table.{table-length, table-at, table-past, table-is}
 use Rattle.columns.proofs.Table as tables
 use Rattle.columns.proofs.Buffer.{put-length, put-none, put-put}
-use Rattle.files.specs.Layout.{rowStart, headAt, headBytes, rowAt, rowBytes, rowCount}
+use Rattle.files.specs.Layout.{rowStart, headAt, rowAt, rowBytes, rowCount}
 use Rattle.files.specs.Fault.{Fault, fault, orElse, rowChecks, verdict}
 use Rattle.files.specs.declared.Head.{Head}
 use Rattle.files.specs.declared.Row.{Row}
-use Rattle.files.specs.declared.Verdict.{Verdict}
 use Rattle.files.specs.declared.Verdict.the-variants.{Accepted, Refused}
 use Rattle.files.proofs.Answer.{or-first, or-next, verdict-yes, verdict-no}
-use Rattle.contents.specs.Content.{zeroRow, contentsOf, rowsBytes, contentsBytes, listFault}
+use Rattle.contents.specs.Content.{zeroRow, contentsOf, rowsBytes, listFault}
 use Rattle.contents.specs.declared.Contents.{Contents}
-use Rattle.contents.proofs.Record.{head-length, row-length}
+use Rattle.contents.proofs.Record.{row-length}
 use Rattle.contents.proofs.Rows.{rows-append, rows-length, one-row}
 
 pub record Checked (rs : List Row) (count last i : ℕ) : Type 0 where

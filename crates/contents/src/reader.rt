@@ -1,5 +1,7 @@
 // Contents read from the bytes of an interval file.
 use crate::Contents;
+use crate::HEAD;
+use crate::ROW;
 use crate::Reading;
 use files::Head;
 use files::Row;
@@ -16,10 +18,6 @@ ghost use lib.ListN.{length};
 ghost use Rattle.columns.specs.Table.{table};
 ghost use Rattle.files.specs.Layout.{rowStart, rowCount};
 ghost use Rattle.contents.specs.Content.{zeroRow, zeroContents, contentsOf, readingOf};
-
-const HEAD: usize = 15;
-
-const ROW: usize = 21;
 
 fn zero_row() -> Row
     ensures { λ r. ⌜ r ≡ zeroRow ⌝ }

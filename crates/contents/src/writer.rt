@@ -1,5 +1,7 @@
 // Contents written as an interval file, once the refusals 3, 6, 7 and 11 are ruled out.
 use crate::Contents;
+use crate::HEAD;
+use crate::ROW;
 use crate::Written;
 use columns::put_bytes;
 use files::Head;
@@ -14,10 +16,6 @@ ghost use Rattle.columns.specs.Buffer.{put};
 ghost use Rattle.files.specs.Layout.{rowStart, headBytes, rowBytes};
 ghost use Rattle.files.specs.Fault.{verdict};
 ghost use Rattle.contents.specs.Content.{rowsBytes, contentsBytes, listFault, writerFault, writtenOf, writtenBuffer};
-
-const HEAD: usize = 15;
-
-const ROW: usize = 21;
 
 // A head's 15 bytes.
 fn encode_head(h: Head) -> [u8; 15]

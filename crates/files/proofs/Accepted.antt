@@ -7,7 +7,7 @@
 --   accepted-few, theirs-few      at most 256 of either
 --   accepted-names      each of the correction's rows corrects one of the interval's
 -- Assumes nothing.
-use mathlib.Core.Path.{_≡_, refl, sym, ap, _∙_, subst}
+use mathlib.Core.Path.{_≡_, refl, sym, subst}
 use mathlib.Core.Logic.{⊎-elim}
 use Prim.Native.Nat.{ℕ, zero, suc, _+_, _-_, _*_, _≤_, _<_}
 use mathlib.Core.Bool.{Bool, true, false, not, cond, _&&_}
@@ -16,21 +16,18 @@ use native.Mathlib.Nat.{le-of-suc-le-suc}
 use native.Mathlib.Omega.{arith}
 use lib.Dec.{T, eqb, leb, lit<}
 use lib.ListN.{length}
-use borrow.Author.Tests.{not-true, not-false, eq-eqb, ne-eqb, leb-true, eqb-true, eqb-false}
+use borrow.Author.Tests.{not-false, ne-eqb, leb-true, eqb-true}
 use Rattle.columns.specs.Number.{numberAt}
 use Rattle.columns.specs.Test.{within}
 use Rattle.columns.proofs.First.{none-applies, each}
 use Rattle.columns.proofs.Sum.{lt-or-le}
 use Rattle.files.specs.Layout.{marked, letterK, rowAt, rowStart, correctionStart, headAt, correctionHeadAt, rowCount, correctionCount}
 use Rattle.files.specs.Range.{dayOk, quarterOk, headOk, correctionHeadOk}
-use Rattle.files.specs.Fault.{Fault, fault, orElse, none, headChecks, headFault, rowsFault, intervalFault, correctionStarts, asEight, correctionFault, timeFault, corrects, namesFault, presentFault, pairFault, fileFault, verdict, verdictOf}
-use Rattle.files.specs.Walk.{idOf, Rows}
-use Rattle.files.specs.declared.Head.{Head}
-use Rattle.files.specs.declared.CorrectionHead.{CorrectionHead}
-use Rattle.files.specs.declared.Verdict.{Verdict}
-use Rattle.files.specs.declared.Verdict.the-variants.{Accepted, Refused}
+use Rattle.files.specs.Fault.{Fault, fault, orElse, none, headChecks, headFault, rowsFault, intervalFault, correctionStarts, asEight, correctionFault, timeFault, corrects, namesFault, presentFault, pairFault, fileFault, verdictOf}
+use Rattle.files.specs.Walk.{Rows}
+use Rattle.files.specs.declared.Verdict.the-variants.{Accepted}
 use Rattle.files.proofs.Answer.{or-none, accepted-of}
-use Rattle.files.proofs.Walked.{noCheck, head-long}
+use Rattle.files.proofs.Walked.{noCheck}
 use Rattle.files.proofs.Sound.{rows-sound}
 use Rattle.files.proofs.Named.{own-long, own-sound, starts-long}
 

@@ -6,14 +6,13 @@
 --   refused-of            a refusal: its fault has this number and this place, and the number is not 0
 --   skip                  a check that gives its number where it applies, and gave 0: it does not apply
 -- Assumes nothing.
-use mathlib.Core.Path.{_≡_, refl, sym, ap, _∙_}
+use mathlib.Core.Path.{_≡_, refl, _∙_}
 use Prim.Native.Nat.{ℕ, _<_}
 use mathlib.Core.Bool.{Bool, true, false, cond}
 use native.Mathlib.Omega.{arith}
 use lib.Dec.{eqb}
 use borrow.Author.Tests.{eq-eqb, ne-eqb, eqb-true, eqb-false}
 use Rattle.files.specs.Fault.{Fault, fault, orElse, verdict}
-use Rattle.files.specs.declared.Verdict.{Verdict}
 use Rattle.files.specs.declared.Verdict.the-variants.{Accepted, Refused}
 
 pub or-first : (f g : Fault) → (f .number ≡ 0 → ⊥) → orElse f g ≡ f

@@ -5,7 +5,7 @@
 --   accepted-first    acceptance: no check applies
 --   first-accepted    and the other way round, with the head's count of rows
 -- Assumes nothing.
-use mathlib.Core.Path.{_≡_, refl, sym, ap, _∙_, subst}
+use mathlib.Core.Path.{_≡_, refl, sym, ap, _∙_}
 use Prim.Native.Nat.{ℕ, zero, suc, _+_, _<_}
 use mathlib.Core.Bool.{Bool, true, false, not, cond, _&&_}
 use mathlib.Core.List.{List, [], _∷_, _++_}
@@ -13,13 +13,12 @@ use native.Mathlib.Nat.{le-of-suc-le-suc}
 use native.Mathlib.Omega.{arith}
 use lib.Dec.{T, eqb, ltb, ltb→lt}
 use lib.ListN.{length, getD}
-use borrow.Author.Tests.{eq-eqb, ne-eqb, eqb-true, eqb-false}
+use borrow.Author.Tests.{ne-eqb}
 use Rattle.columns.specs.Test.{Check, firstOf}
 use Rattle.columns.proofs.First.{numbered}
 use Rattle.files.specs.Layout.{rowAt, rowCount, correctionCount}
 use Rattle.files.specs.Fault.{Fault, fault, none, orElse, headChecks, headFault, rowChecksAt, rowFault, rowsFault, intervalFault, correctionStarts, asEight, correctionFault, sameTime, timeFault, corrects, namesFault, presentFault, pairFault, fileFault, verdictOf}
 use Rattle.files.specs.Order.{Refusal, refusal, placed, rowsOrder, eights, namesOrder, presentOrder, fileOrder, firstRefusal, noRefusal, Earliest, NoneApplies}
-use Rattle.files.specs.declared.Verdict.{Verdict}
 use Rattle.files.specs.declared.Verdict.the-variants.{Accepted, Refused}
 use Rattle.files.proofs.Answer.{or-first, or-next, verdict-yes, verdict-no, accepted-of, refused-of}
 

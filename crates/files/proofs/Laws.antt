@@ -16,20 +16,20 @@
 --   head-unique, row-unique, correction-head-unique, test-unique, number-unique, check-unique, interval-unique, counting-unique,
 --   sources-unique, counting-row-unique      two results that a contract allows are equal
 -- Assumes nothing.
-use mathlib.Core.Path.{_≡_, refl, sym, ap, _∙_, subst}
-use Prim.Native.Nat.{ℕ, zero, suc, _+_, _*_, _≤_, _<_}
-use mathlib.Core.Bool.{Bool, true, false, not, cond, _&&_}
+use mathlib.Core.Path.{_≡_, refl, sym, _∙_}
+use Prim.Native.Nat.{ℕ, zero, suc, _+_, _*_, _<_}
+use mathlib.Core.Bool.{Bool, true, false, cond}
 use mathlib.Core.List.{List}
-use native.Mathlib.Nat.{le-of-suc-le-suc, zero-add}
+use native.Mathlib.Nat.{le-of-suc-le-suc}
 use native.Mathlib.Omega.{arith}
-use lib.Dec.{T, eqb, ltb}
-use lib.ListN.{length, getD}
-use borrow.Author.Tests.{ltb-true, eqb-true, lt-ltb, le-ltb, eq-eqb}
+use lib.Dec.{eqb, ltb}
+use lib.ListN.{getD}
+use borrow.Author.Tests.{ltb-true, eqb-true, eq-eqb}
 use Rattle.columns.specs.Table.{table}
 use Rattle.columns.specs.Buffer.{put}
 use Rattle.columns.proofs.Table.{table-length, table-at}
 use Rattle.columns.proofs.Buffer.{put-inside}
-use Rattle.columns.proofs.First.{left-true, right-true}
+use Rattle.columns.proofs.First.{right-true}
 use Rattle.files.specs.Layout.{rowAt, rowStart, correctionStart, headAt, correctionHeadAt, rowCount, correctionCount}
 use Rattle.files.specs.Range.{rowOk}
 use Rattle.files.specs.Fault.{findId, sameTerms, corrects, intervalFault, verdict, verdictOf}

@@ -5,14 +5,14 @@
 --   own-refused, alone, paired      1 to 7 first; then nothing more without a correction, else 8 to 10
 -- Assumes nothing.
 use mathlib.Core.Path.{_≡_, refl, sym, ap, _∙_, subst}
-use Prim.Native.Nat.{ℕ, zero, suc, _+_, _-_, _*_, _≤_, _<_}
+use Prim.Native.Nat.{ℕ, suc, _+_, _-_, _*_, _≤_, _<_}
 use mathlib.Core.Bool.{Bool, true, false, not, cond, _&&_}
 use mathlib.Core.List.{List}
 use native.Mathlib.Omega.{arith}
 use lib.Dec.{T, eqb, leb}
 use lib.ListN.{length}
-use borrow.Author.Tests.{not-true, not-false, eq-eqb, ne-eqb, leb-true, eqb-true, lt-ltb, le-ltb, le-leb, lt-leb}
-use Rattle.files.specs.Layout.{marked, letterK, rowAt, rowStart, correctionStart, headAt, correctionHeadAt, rowCount, correctionCount}
+use borrow.Author.Tests.{not-true, not-false, eq-eqb, ne-eqb, eqb-true, lt-ltb, le-ltb, le-leb, lt-leb}
+use Rattle.files.specs.Layout.{marked, letterK, rowAt, rowStart, correctionStart, correctionHeadAt, rowCount, correctionCount}
 use Rattle.files.specs.Fault.{Fault, fault, orElse, none, headFault, rowsFault, intervalFault, correctionStarts, asEight, correctionFault, timeFault, sameTerms, corrects, sameTime, namesFault, presentFault, pairFault, fileFault, verdict, verdictOf}
 use Rattle.files.specs.Range.{correctionHeadOk}
 use Rattle.files.specs.Walk.{idOf, Rows, Under, Sought}
@@ -20,7 +20,7 @@ use Rattle.files.specs.declared.CorrectionHead.{CorrectionHead}
 use Rattle.files.specs.declared.Row.{Row}
 use Rattle.files.specs.declared.Verdict.{Verdict}
 use Rattle.files.specs.declared.Verdict.the-variants.{Accepted, Refused}
-use Rattle.files.proofs.Answer.{or-first, or-next, or-none, verdict-yes, verdict-no, accepted-of, refused-of}
+use Rattle.files.proofs.Answer.{or-first, or-next, or-none, verdict-yes, accepted-of, refused-of}
 use Rattle.files.proofs.Walked.{head-long}
 use Rattle.files.proofs.Sound.{rows-sound}
 use Rattle.files.proofs.Found.{matches, corrects-sought}

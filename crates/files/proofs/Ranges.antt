@@ -2,15 +2,15 @@
 --   head-ranges    a head in its ranges
 --   row-ranges     a row in its ranges
 -- Assumes nothing.
-use mathlib.Core.Path.{_≡_, refl, sym, subst}
+use mathlib.Core.Path.{_≡_, refl}
 use Prim.Native.Nat.{ℕ, _*_, _≤_, _<_}
-use mathlib.Core.Bool.{Bool, true, false, _&&_, _||_}
-use mathlib.Core.List.{List, [], _∷_}
+use mathlib.Core.Bool.{Bool, true, false, _||_}
+use mathlib.Core.List.{[], _∷_}
 use native.Mathlib.Omega.{arith}
-use lib.Dec.{T, leb, eqb, lit<}
+use lib.Dec.{leb, eqb, lit<}
 use lib.ListN.{getD}
 use borrow.Author.Tests.{leb-true, eqb-true}
-use Rattle.units.specs.Load.{half, most}
+use Rattle.units.specs.Load.{half}
 use Rattle.columns.specs.Test.{within}
 use Rattle.columns.proofs.First.{each, left-true, right-true}
 use Rattle.files.specs.Range.{dayOk, quarterOk, lowest1, highest1, lowest2, highest2, headOk, rowTests, rowOk, statusOk, notOffering, offering}

@@ -1,13 +1,14 @@
 -- Rows that passed checks 5 to 7: all in their ranges, with ids that rise strictly.
 --   row-passed    one row with no fault: its mark, its ranges, its id above the one before
+--   rows-each     the same of each of so many rows
 --   rows-sound    n rows with no fault, all inside the file, are `Rows`
 --   row-in        row i of `Rows` lies inside the file
 --   rise          a later row has a larger id
 -- Assumes nothing.
-use mathlib.Core.Path.{_≡_, refl, sym, ap, _∙_}
+use mathlib.Core.Path.{_≡_}
 use Prim.Native.Nat.{ℕ, zero, suc, _+_, _*_, _≤_, _<_}
-use mathlib.Core.Bool.{Bool, true, false, not}
-use mathlib.Core.List.{List, [], _∷_}
+use mathlib.Core.Bool.{true}
+use mathlib.Core.List.{List}
 use native.Mathlib.Nat.{le-of-suc-le-suc}
 use native.Mathlib.Omega.{arith}
 use lib.Dec.{lit<}
@@ -16,7 +17,7 @@ use borrow.Author.Tests.{not-false, leb-false}
 use Rattle.columns.proofs.First.{none-applies}
 use Rattle.files.specs.Layout.{marked, letterR, rowAt}
 use Rattle.files.specs.Range.{rowOk}
-use Rattle.files.specs.Fault.{Fault, fault, rowChecksAt, rowFault, rowsFault}
+use Rattle.files.specs.Fault.{fault, rowChecksAt, rowFault, rowsFault}
 use Rattle.files.specs.Walk.{idOf, Rows}
 use Rattle.files.proofs.Answer.{or-none}
 use Rattle.files.proofs.Walked.{noCheck}
@@ -44,7 +45,7 @@ rows-parts left s k place last h =
     let both = or-none (fault (rowFault s k last) place) (rowsFault s (k + 21) left (place + 1) (rowAt s k .id)) h in
     (row-passed s k last (both .0), both .1)
 
-rows-each : (left : ℕ) (s : List ℕ) (k place last : ℕ) → rowsFault s k left place last .number ≡ 0
+pub rows-each : (left : ℕ) (s : List ℕ) (k place last : ℕ) → rowsFault s k left place last .number ≡ 0
     → (i : ℕ) → i < left → Passed s (k + i * 21) last
 rows-each zero s k place last h i l = absurd (omega arith)
 rows-each (suc left) s k place last h zero l =

@@ -6,31 +6,29 @@
 --   Sourced                                       how far the column of sources has come; sourced-none, -next, -ends: its steps
 --   own-source, their-source, source-in           the row that counts, by its source
 -- Assumes nothing.
-use mathlib.Core.Path.{_≡_, refl, sym, ap, _∙_, subst}
+use mathlib.Core.Path.{_≡_, refl, sym, _∙_}
 use mathlib.Core.Logic.{⊎-elim}
-use Prim.Native.Nat.{ℕ, zero, suc, _+_, _-_, _*_, _≤_, _<_}
+use Prim.Native.Nat.{ℕ, _+_, _-_, _*_, _≤_, _<_}
 use mathlib.Core.Bool.{Bool, true, false, not, cond, _&&_}
-use mathlib.Core.List.{List, [], _∷_, _++_}
-use native.Mathlib.Numerals.{add-one}
-use native.Mathlib.Nat.{zero-add}
+use mathlib.Core.List.{List, [], _∷_}
 use native.Mathlib.Omega.{arith}
-use lib.Dec.{T, eqb, ltb}
+use lib.Dec.{eqb, ltb}
 use lib.ListN.{length, take, drop, set}
-use borrow.Author.Tests.{lt-ltb, le-ltb, ltb-true, ltb-false, eq-eqb, ne-eqb, not-true, not-false}
+use borrow.Author.Tests.{lt-ltb, le-ltb, ltb-true, eq-eqb, ne-eqb, not-false}
 use Rattle.columns.specs.Table.{table}
 use Rattle.columns.specs.Buffer.{put}
 use Rattle.columns.proofs.Table.{table-length, table-next}
 use Rattle.columns.proofs.Buffer.{put-length, put-none, put-put, set-put}
 use Rattle.columns.proofs.Sum.{lt-or-le}
 use Rattle.files.specs.Layout.{rowAt, rowStart, correctionStart, rowCount, correctionCount}
-use Rattle.files.specs.Fault.{findId, fileFault, verdict, verdictOf}
+use Rattle.files.specs.Fault.{findId, fileFault, verdictOf}
 use Rattle.files.specs.Counting.{part, named, countingBytes, inCorrection, sourceOf, countingRow}
 use Rattle.files.specs.Walk.{idOf, Rows, Under, Sought}
 use Rattle.files.specs.declared.Row.{Row}
 use Rattle.files.specs.declared.Verdict.{Verdict}
 use Rattle.files.specs.declared.Verdict.the-variants.{Accepted, Refused}
-use Rattle.files.proofs.Answer.{accepted-of, refused-of}
-use Rattle.files.proofs.Found.{stopped, find-sought}
+use Rattle.files.proofs.Answer.{refused-of}
+use Rattle.files.proofs.Found.{find-sought}
 use Rattle.files.proofs.Accepted.{accepted-none, accepted-count, accepted-rows, accepted-theirs, accepted-few, theirs-few}
 
 pub none-there : (k : List ℕ) (m : ℕ) → Rows k 9 m → length k < 9 → 0 ≡ m

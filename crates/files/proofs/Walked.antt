@@ -5,9 +5,9 @@
 --   Walked                how far the walk over rows has come; walk-none, -next, -stops, -ends: its steps
 --   interval-refused, interval-rows      1 to 4 first, then the rows
 -- Assumes nothing.
-use mathlib.Core.Path.{_≡_, refl, sym, ap, _∙_}
-use Prim.Native.Nat.{ℕ, zero, suc, _+_, _-_, _*_, _≤_, _<_}
-use mathlib.Core.Bool.{Bool, true, false, not, cond}
+use mathlib.Core.Path.{_≡_, sym, ap, _∙_}
+use Prim.Native.Nat.{ℕ, suc, _+_, _-_, _*_, _≤_, _<_}
+use mathlib.Core.Bool.{Bool, true, false, not}
 use mathlib.Core.List.{List}
 use native.Mathlib.Omega.{arith}
 use lib.Dec.{eqb, lit<}
@@ -23,7 +23,7 @@ use Rattle.files.specs.declared.Head.{Head}
 use Rattle.files.specs.declared.Row.{Row}
 use Rattle.files.specs.declared.Verdict.{Verdict}
 use Rattle.files.specs.declared.Verdict.the-variants.{Accepted, Refused}
-use Rattle.files.proofs.Answer.{or-first, or-next, verdict-yes, verdict-no, skip}
+use Rattle.files.proofs.Answer.{or-first, or-next, verdict-yes, verdict-no}
 
 pub unranged : (s : List ℕ) (h : Head) (b : Bool) → h ≡ headAt s → b ≡ headOk h → not b ≡ true → not (headOk (headAt s)) ≡ true
 unranged s h b e f g = rw (← e, ← f) g

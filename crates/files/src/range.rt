@@ -94,7 +94,8 @@ pub fn row_ok(r: Row) -> bool
 pub fn row_checks(r: Row, last: u16) -> usize
     ensures { λ f. ⌜ f ≡ firstOf (rowChecks r last) ⌝ }
 {
-    if !row_ok(r) {
+    let ok = row_ok(r);
+    if !ok {
         return 6;
     }
     if r.id <= last {

@@ -81,11 +81,12 @@ fn rows_verdict(s: &[u8], start: usize, count: usize) -> Verdict
     while i < count {
         let at = start + i * ROW;
         let f = row_fault(s, at, last);
-        i += 1;
+        let next = i + 1;
         if f != 0 {
-            return Verdict::Refused(f, i);
+            return Verdict::Refused(f, next);
         }
         last = id_at(s, at);
+        i = next;
     }
     Verdict::Accepted(count)
 }

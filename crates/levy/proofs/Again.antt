@@ -10,26 +10,24 @@
 --     rounds-begin           what the first call asks
 --     rounds-end             the answer of all rounds
 -- Assumes nothing.
-use Prim.Native.Nat.{ℕ, zero, suc, _+_, _-_, _*_, _^_, _≤_, _<_}
+use Prim.Native.Nat.{ℕ, suc, _+_, _-_, _*_, _^_, _≤_, _<_}
 use mathlib.Core.Path.{_≡_, refl, ap, sym, _∙_, subst}
-use mathlib.Core.Bool.{Bool, true, false, cond, not, _&&_}
+use mathlib.Core.Bool.{cond}
 use mathlib.Core.List.{List, [], _∷_}
 use native.Mathlib.Numerals.{add-one}
 use native.Mathlib.Omega.{arith}
-use lib.Dec.{leb, ltb, eqb}
-use lib.ListN.{length, take, drop, replicate, length-replicate}
-use lib.Seq.{getD-take, length-take-le}
-use Rattle.columns.specs.Sum.{sumTo, countTo, sumWhere}
-use Rattle.columns.specs.Table.{at, table, Below}
+use lib.ListN.{length, take, replicate, length-replicate}
+use lib.Seq.{length-take-le}
+use Rattle.columns.specs.Sum.{countTo, sumWhere}
+use Rattle.columns.specs.Table.{at}
 use Rattle.columns.proofs.Sum.{sum-bound}
 use Rattle.columns.proofs.Table.{table-is}
 use Rattle.columns.proofs.Mask.{count-zero}
 use Rattle.share.specs.Share.{whole}
-use Rattle.levy.specs.Rounds.{Standing, isOpen, opens, closes, closed, next, run, opening, final}
+use Rattle.levy.specs.Rounds.{Standing, opens, closes, closed, next, run, opening}
 use Rattle.levy.specs.Capped.{marked}
-use Rattle.levy.specs.Asked.{standing, standingOf, Columns, Round, Shut, Ready, Ended, Finished}
+use Rattle.levy.specs.Asked.{standing, Columns, Round, Shut, Ready, Ended, Finished}
 use Rattle.levy.specs.declared.Closed.{Closed}
-use Rattle.levy.specs.declared.Rest.{Rest}
 use Rattle.levy.proofs.Arrays.{take-replicate, drop-replicate}
 use Rattle.levy.proofs.Step.{Sound, sound-weight, closed-nobody, closed-somebody, closed-caps-le, closed-weights-le, next-sound, opens-fall, opens-le, run-stop, run-again, final-run, opening-sound}
 
@@ -122,8 +120,9 @@ module _ (n : ℕ) (weights caps marks : List ℕ) (money weight rounds : ℕ) (
       pub count-in : rounds + 1 < 2 ^ 16
       count-in = omega (arith, asked .early)
 
-      pub ready-again : Ready n weights caps after (money - r .caps) (weight - r .weights) (rounds + 1)
-      ready-again =
+      -- whatever the money falls by
+      pub ready-again : (by : ℕ) → Ready n weights caps after (money - by) (weight - r .weights) (rounds + 1)
+      ready-again by =
           record {
             columns =
                 record {

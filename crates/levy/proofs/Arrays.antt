@@ -1,32 +1,17 @@
--- Columns in arrays: clearing one, and the sum of its first n.
---     cleared-none, cleared-next, cleared-end     the loop that clears: before it, one position more, after it
+-- Columns in arrays: the sum of the first n, and a cleared array.
 --     whole-end        the sum of the first n positions is the whole of the column
 --     take-replicate, drop-replicate     the first n of a cleared array, and the rest of it
 -- Assumes nothing.
-use Prim.Native.Nat.{ℕ, zero, suc, _+_, _-_, _≤_, _<_}
+use Prim.Native.Nat.{ℕ, zero, suc, _-_, _≤_}
 use mathlib.Core.Path.{_≡_, refl, ap, sym, _∙_}
-use mathlib.Core.List.{List, [], _∷_}
+use mathlib.Core.List.{List, _∷_}
 use native.Mathlib.Omega.{arith}
-use lib.ListN.{length, getD, take, drop, set, replicate, length-set, length-replicate, getD-replicate}
-use lib.Seq.{getD-take, length-take-le, ext-getD}
+use lib.ListN.{length, take, drop, replicate}
+use lib.Seq.{getD-take, length-take-le}
 use Rattle.columns.specs.Sum.{sumTo}
-use Rattle.columns.specs.Table.{at, Below}
+use Rattle.columns.specs.Table.{at}
 use Rattle.columns.proofs.Sum.{sum-same}
-use Rattle.columns.proofs.Table.{fill-next}
 use Rattle.share.specs.Share.{whole}
-
-pub cleared-none : (marks : List ℕ) → length marks ≡ 256 → (0 ≤ 256) × (length marks ≡ 256) × Below 0 (λ k. getD marks k 0 ≡ 0)
-cleared-none marks long = (omega arith, long, λ k l. absurd (omega arith))
-
-pub cleared-next : (marks : List ℕ) (i : ℕ) → (i ≤ 256) × (length marks ≡ 256) × Below i (λ k. getD marks k 0 ≡ 0) → i < 256
-    → (i + 1 ≤ 256) × (length (set marks i 0) ≡ 256) × Below (i + 1) (λ k. getD (set marks i 0) k 0 ≡ 0)
-cleared-next marks i h l =
-    (omega arith, length-set marks i 0 ∙ h .1, fill-next 0 marks i 0 (λ k. 0) (omega (arith, h .1)) refl (h .2))
-
-pub cleared-end : (marks : List ℕ) (i : ℕ) → (i ≤ 256) × (length marks ≡ 256) × Below i (λ k. getD marks k 0 ≡ 0) → 256 ≤ i
-    → marks ≡ replicate 256 0
-cleared-end marks i h q =
-    ext-getD 0 marks (replicate 256 0) (h .1) (λ k l. h .2 k (omega (arith, h .1)) ∙ sym (getD-replicate 256 k 0 0 (omega (arith, h .1))))
 
 pub whole-end : (n : ℕ) (weights : List ℕ) → n ≤ 256 → length weights ≡ 256 → (sum i : ℕ) → i ≤ n → sum ≡ sumTo i (at weights) → n ≤ i
     → sum ≡ whole (take n weights)

@@ -1,68 +1,69 @@
 -- Loops that fill a column, position by position, with numbers of 32 bits: what holds after i of n positions.
---     Fill                          the loops' invariant: f stands at every position passed
+--     Fill                          the loops' invariant: f stands at every position passed, and each number is small
 --     fill-none, fill-on, fill-end    before the loop, one position more, after it
 --     fill-small                    after it every number is one of 32 bits
---     fill-is, small-at             a filled copy is what was copied
+--     fill-is, fill-clear           a filled copy is what was copied; zeros make a cleared column
+--     small-at                      a number of such a column
 --     open-at, open-end             the column of open weights
---     paid-at                       one payment
+--     part-fits, paid-part, paid-cap, made-at, paid-at     one payment
 --     whole-small                   the sum of such a column fits 64 bits
---     paid-shares, paid-small       from shares and caps to payments
---     cut-small                     a cut is at most its compensation
 -- Assumes nothing.
-use Prim.Native.Nat.{ℕ, zero, suc, _+_, _-_, _*_, _^_, _≤_, _<_}
-use mathlib.Core.Path.{_≡_, refl, ap, sym, _∙_}
+use Prim.Native.Nat.{ℕ, _+_, _^_, _≤_, _<_}
+use mathlib.Core.Path.{_≡_, sym, _∙_}
 use mathlib.Core.Logic.{⊎-elim}
-use mathlib.Core.Bool.{Bool, true, false, cond}
+use mathlib.Core.Bool.{cond}
 use mathlib.Core.List.{List}
 use native.Mathlib.Omega.{arith}
 use lib.Dec.{eqb}
-use lib.ListN.{length, take, set, length-set, List·getD-eq-default}
+use lib.ListN.{length, take, set, replicate, getD-replicate, List·getD-eq-default}
 use lib.Seq.{getD-take, length-take-le, getD-set-other, getD-set-same, ext-getD}
 use borrow.Author.Count.{below-more}
 use borrow.Author.Tests.{eq-eqb, ne-eqb}
-use Rattle.columns.specs.Sum.{sumTo}
 use Rattle.columns.specs.Table.{at, table, Below}
 use Rattle.columns.proofs.Sum.{lt-or-le, sum-bound}
-use Rattle.columns.proofs.Table.{table-is, table-length, table-at, table-same, fill-next}
-use Rattle.share.specs.Share.{whole, share, shares}
-use Rattle.share.proofs.Laws.{shares-at, shares-length, share-le-weight}
-use Rattle.levy.specs.Rounds.{Standing, openWeights, paid, payments}
-use Rattle.levy.specs.Asked.{standing, standingOf, markedOnly, Small, Payable, paidFrom, Made, Cuttable}
-use Rattle.levy.specs.declared.Rest.{Rest}
+use Rattle.columns.proofs.Table.{table-is}
+use Rattle.columns.proofs.Fill.{Reached, reached-none, reached-next, reached-all}
+use Rattle.share.specs.Share.{whole}
+use Rattle.levy.specs.Rounds.{openWeights}
+use Rattle.levy.specs.Asked.{markedOnly, Small, paidFrom, Made}
 
-pub record Fill (n : ℕ) (f : ℕ → ℕ) (out : List ℕ) (i : ℕ) : Type 0 where
-  pub within : i ≤ n
-  pub long : length out ≡ n
-  pub done : Below i (λ k. at out k ≡ f k)
+pub record Fill (f : ℕ → ℕ) (start out : List ℕ) (i : ℕ) : Type 0 where
+  pub reached : Reached 0 f start out i
   pub small : Below i (λ k. at out k < 2 ^ 32)
 
-pub fill-none : (n : ℕ) (f : ℕ → ℕ) (out : List ℕ) → length out ≡ n → Fill n f out 0
-fill-none n f out long =
-    record { within = omega arith; long = long; done = λ k l. absurd (omega arith); small = λ k l. absurd (omega arith) }
+pub fill-none : (f : ℕ → ℕ) (start : List ℕ) → Fill f start start 0
+fill-none f start = record { reached = reached-none 0 f start; small = λ k l. absurd (omega arith) }
 
-pub fill-on : (n : ℕ) (f : ℕ → ℕ) (out : List ℕ) (i : ℕ) → Fill n f out i → i < n → (v : ℕ) → v ≡ f i → v < 2 ^ 32 → Fill n f (set out i v) (i + 1)
-fill-on n f out i fill l v e low =
-    record {
-      within = omega arith;
-      long = length-set out i v ∙ fill .long;
-      done = fill-next 0 out i v f (omega (arith, fill .long)) e (fill .done);
-      small = below-more (λ (k : ℕ). at (set out i v) k < 2 ^ 32) i
-          (λ k q. rw (getD-set-other out i k v 0 (omega arith)) (fill .small k q))
-          (rw (getD-set-same out i v 0 (omega (arith, fill .long))) low);
-    }
+module _ (f : ℕ → ℕ) (start out : List ℕ) (i : ℕ) (fill : Fill f start out i) (n : ℕ) (long : length start ≡ n) where
+  pub fill-on : i < n → (v : ℕ) → v ≡ f i → v < 2 ^ 32 → Fill f start (set out i v) (i + 1)
+  fill-on l v e low =
+      record {
+        reached = reached-next 0 f start out i v (fill .reached) (omega (arith, fill .reached .room)) e;
+        small =
+            below-more (λ (k : ℕ). at (set out i v) k < 2 ^ 32) i
+            (λ k q. rw (getD-set-other out i k v 0 (omega arith)) (fill .small k q))
+            (rw (getD-set-same out i v 0 (omega (arith, fill .reached .room))) low);
+      }
 
-module _ (n : ℕ) (f : ℕ → ℕ) (out : List ℕ) (i : ℕ) (fill : Fill n f out i) (q : n ≤ i) where
-  pub fill-end : out ≡ table n f
-  fill-end = table-is 0 out n f (fill .long) (λ k l. fill .done k (omega arith))
+  pub fill-end : n ≤ i → out ≡ table n f
+  fill-end q = rw (← long) (reached-all 0 f start out i (fill .reached) (omega (arith, fill .reached .room)))
 
-  pub fill-small : Small out
-  fill-small k =
+  pub fill-small : n ≤ i → Small out
+  fill-small q k =
       ⊎-elim (λ (l : k < n). fill .small k (omega arith))
-      (λ (m : n ≤ k). let e : at out k ≡ 0 = List·getD-eq-default out 0 (omega (arith, fill .long)) in omega arith) (lt-or-le k n)
+      (λ (m : n ≤ k). let e : at out k ≡ 0 = List·getD-eq-default out 0 (omega (arith, fill .reached .room)) in omega arith)
+      (lt-or-le k n)
 
 -- what was copied, position by position, is the same column
-pub fill-is : (from to out : List ℕ) (i : ℕ) → Fill (length to) (at from) out i → length to ≤ i → length to ≡ length from → out ≡ from
-fill-is from to out i fill q long = ext-getD 0 out from (fill .long ∙ long) (λ k l. fill .done k (omega (arith, fill .long)))
+pub fill-is : (from to out : List ℕ) (i : ℕ) → Fill (at from) to out i → length to ≤ i → length to ≡ length from → out ≡ from
+fill-is from to out i fill q long =
+    ext-getD 0 out from (fill .reached .room ∙ long) (λ k l. fill .reached .done k (omega (arith, fill .reached .room)))
+
+-- a column of zeros is the cleared column
+pub fill-clear : (start out : List ℕ) (i : ℕ) → Fill (λ k. 0) start out i → length start ≡ 256 → 256 ≤ i → out ≡ replicate 256 0
+fill-clear start out i fill long q =
+    ext-getD 0 out (replicate 256 0) (fill .reached .room ∙ long)
+    (λ k l. fill .reached .done k (omega (arith, fill .reached .room)) ∙ sym (getD-replicate 256 k 0 0 (omega (arith, fill .reached .room))))
 
 pub small-at : (xs : List ℕ) → Small xs → (i : ℕ) → at xs i < 2 ^ 32
 small-at xs low i = low i
@@ -75,12 +76,13 @@ pub open-at : (weights marks : List ℕ) (i v : ℕ) → v ≡ cond (eqb (at mar
 unfolding openAt
 open-at weights marks i v e = e
 
-pub open-end : (n : ℕ) (weights marks out : List ℕ) (i : ℕ) → Fill n (openAt weights marks) out i → n ≤ i → n ≤ 256 → length weights ≡ 256
+pub open-end : (n : ℕ) (weights marks start out : List ℕ) (i : ℕ) → Fill (openAt weights marks) start out i → length start ≡ n → n ≤ i → n ≤ 256
+    → length weights ≡ 256
     → out ≡ openWeights (take n weights) (markedOnly n marks)
 unfolding openWeights openAt
-open-end n weights marks out i fill q few long =
-    table-is 0 out (length (take n weights)) (λ k. cond (eqb (at (take n marks) k) 0) (at (take n weights) k) 0) (fill .long ∙ sym wide)
-    (λ k l. rw (getD-take n weights k 0 (omega (arith, wide)), getD-take n marks k 0 (omega (arith, wide))) (fill .done k (omega (arith, wide))))
+open-end n weights marks start out i fill room q few long =
+    table-is 0 out (length (take n weights)) (λ k. cond (eqb (at (take n marks) k) 0) (at (take n weights) k) 0) (fill .reached .room ∙ room ∙ sym wide)
+    (λ k l. rw (getD-take n weights k 0 (omega (arith, wide)), getD-take n marks k 0 (omega (arith, wide))) (fill .reached .done k (omega (arith, wide))))
   where
     wide : length (take n weights) ≡ n
     wide = length-take-le n weights (omega arith)

@@ -6,24 +6,24 @@
 --     products         both products of the closing test fit
 --     caps-fit, weights-fit     the sums fit
 -- Assumes nothing.
-use Prim.Native.Nat.{ℕ, zero, suc, _+_, _-_, _*_, _^_, _≤_, _<_}
+use Prim.Native.Nat.{ℕ, suc, _+_, _*_, _^_, _≤_, _<_}
 use mathlib.Core.Path.{_≡_, refl, ap, sym, _∙_}
 use mathlib.Core.Bool.{Bool, true, false, cond, _&&_}
 use mathlib.Core.List.{List}
 use native.Mathlib.Numerals.{add-one}
 use native.Mathlib.Omega.{arith}
 use lib.Dec.{leb, ltb, eqb}
-use lib.ListN.{length, take, drop, set, length-take, length-set}
-use lib.Seq.{getD-take, length-take-le, getD-set-other, drop-set-lt, ext-getD}
+use lib.ListN.{length, take, drop, set}
+use lib.Seq.{getD-take, length-take-le, drop-set-lt}
 use Rattle.columns.specs.Sum.{sumTo, sumWhere}
-use Rattle.columns.specs.Table.{at, table, Below}
+use Rattle.columns.specs.Table.{at}
 use Rattle.columns.proofs.Product.{product}
 use Rattle.columns.proofs.Sum.{sum-bound}
-use Rattle.columns.proofs.Table.{table-is, fill-next}
+use Rattle.columns.proofs.Table.{table-is}
+use Rattle.columns.proofs.Fill.{Reached, reached-none, reached-next, reached-now}
 use Rattle.columns.proofs.Mask.{where-next}
-use Rattle.levy.specs.Rounds.{Standing, closes, closed, next}
-use Rattle.levy.specs.Asked.{standing, Columns, Round, Shut}
-use Rattle.levy.specs.declared.Closed.{Closed}
+use Rattle.levy.specs.Rounds.{Standing, closes, next}
+use Rattle.levy.specs.Asked.{standing, Round, Shut}
 use Rattle.levy.proofs.Step.{closed-is}
 
 -- who closes, by position, in the arrays' words
@@ -31,14 +31,17 @@ abbrev pub hits : ℕ → List ℕ → List ℕ → List ℕ → ℕ → ℕ →
 hits n weights caps marks money weight rounds =
     closes (take n weights) (take n caps) (standing n marks money weight rounds)
 
+-- the mark of a position after the round
+abbrev pub marksAfter : ℕ → List ℕ → List ℕ → List ℕ → ℕ → ℕ → ℕ → ℕ → ℕ
+marksAfter n weights caps marks money weight rounds k =
+    cond (hits n weights caps marks money weight rounds k) (suc rounds) (at (take n marks) k)
+
 pub record Turn (n : ℕ) (weights caps marks₀ : List ℕ) (money weight rounds : ℕ) (marks : List ℕ) (p g i : ℕ) : Type 0 where
   pub within : i ≤ n
   pub caps-are : p ≡ sumWhere i (hits n weights caps marks₀ money weight rounds) (at (take n caps))
   pub weights-are : g ≡ sumWhere i (hits n weights caps marks₀ money weight rounds) (at (take n weights))
-  pub long : length marks ≡ 256
-  pub done : Below i (λ k. at marks k ≡ cond (hits n weights caps marks₀ money weight rounds k) (suc rounds) (at (take n marks₀) k))
+  pub reached : Reached 0 (marksAfter n weights caps marks₀ money weight rounds) marks₀ marks i
   pub past : drop n marks ≡ drop n marks₀
-  pub still : (k : ℕ) → i ≤ k → at marks k ≡ at marks₀ k
 
 module _ (n : ℕ) (weights caps marks₀ : List ℕ) (money weight rounds : ℕ) (asked : Round n weights caps marks₀ money weight rounds) where
   abbrev hit : ℕ → Bool
@@ -50,10 +53,8 @@ module _ (n : ℕ) (weights caps marks₀ : List ℕ) (money weight rounds : ℕ
         within = omega arith;
         caps-are = unfold sumWhere sumTo in refl;
         weights-are = unfold sumWhere sumTo in refl;
-        long = asked .columns .marks-long;
-        done = λ k l. absurd (omega arith);
+        reached = reached-none 0 (marksAfter n weights caps marks₀ money weight rounds) marks₀;
         past = refl;
-        still = λ k l. refl;
       }
 
   pub products : (i : ℕ) → i < n → (at caps i * weight < 2 ^ 63) × (money * at weights i < 2 ^ 63)
@@ -71,11 +72,14 @@ module _ (n : ℕ) (weights caps marks₀ : List ℕ) (money weight rounds : ℕ
       each false x l = omega arith
 
   module _ (marks : List ℕ) (p g i : ℕ) (turn : Turn n weights caps marks₀ money weight rounds marks p g i) (l : i < n) where
+    still : at marks i ≡ at marks₀ i
+    still = reached-now 0 (marksAfter n weights caps marks₀ money weight rounds) marks₀ marks i (turn .reached)
+
     -- the test on what the code reads is the test of the definition
     hit-is : (eqb (at marks i) 0 && ltb 0 (at weights i)) && leb (at caps i * weight) (money * at weights i) ≡ hit i
     unfolding closes
     hit-is =
-        rw (turn .still i (omega arith), getD-take n marks₀ i 0 l, getD-take n weights i 0 l, getD-take n caps i 0 l)
+        rw (still, getD-take n marks₀ i 0 l, getD-take n weights i 0 l, getD-take n caps i 0 l)
 
     counted-le : (t : Bool) (x r b : ℕ) → x ≤ b → r ≡ cond t x 0 → r ≤ b
     counted-le true x r b h e = omega arith
@@ -117,12 +121,11 @@ module _ (n : ℕ) (weights caps marks₀ : List ℕ) (money weight rounds : ℕ
           within = omega arith;
           caps-are = sum-step caps t e r r-is p (turn .caps-are);
           weights-are = sum-step weights t e s s-is g (turn .weights-are);
-          long = length-set marks i m ∙ turn .long;
-          done =
-              fill-next 0 marks i m (λ k. cond (hit k) (suc rounds) (at (take n marks₀) k)) (omega (arith, turn .long, asked .columns .few))
-              (rw (← e, getD-take n marks₀ i 0 l, ← (turn .still i (omega arith)), ← (add-one rounds)) m-is) (turn .done);
+          reached =
+              reached-next 0 (marksAfter n weights caps marks₀ money weight rounds) marks₀ marks i m (turn .reached)
+              (omega (arith, turn .reached .room, asked .columns .marks-long, asked .columns .few))
+              (rw (← e, getD-take n marks₀ i 0 l, ← still, ← (add-one rounds)) m-is);
           past = drop-set-lt n marks i m l ∙ turn .past;
-          still = λ k q. getD-set-other marks i k m 0 (omega arith) ∙ turn .still k (omega arith);
         }
 
   pub turn-end : (marks : List ℕ) (p g i : ℕ) → Turn n weights caps marks₀ money weight rounds marks p g i → n ≤ i
@@ -130,17 +133,20 @@ module _ (n : ℕ) (weights caps marks₀ : List ℕ) (money weight rounds : ℕ
   turn-end marks p g i turn q =
       record {
         marks-are =
-            unfold next in table-is 0 (take n marks) (length (take n weights)) (λ k. cond (hit k) (suc rounds) (at (take n marks₀) k))
-            (omega (arith, wide, length-take-le n marks (omega (arith, turn .long, asked .columns .few))))
-            (λ k l. getD-take n marks k 0 (omega (arith, wide)) ∙ turn .done k (omega (arith, wide)));
+            unfold next in table-is 0 (take n marks) (length (take n weights)) (marksAfter n weights caps marks₀ money weight rounds)
+            (omega (arith, wide, length-take-le n marks (omega (arith, long, asked .columns .few))))
+            (λ k l. getD-take n marks k 0 (omega (arith, wide)) ∙ turn .reached .done k (omega (arith, wide)));
         past = turn .past;
-        long = turn .long;
+        long = long;
         caps-are = turn .caps-are ∙ ap (λ (m : ℕ). sumWhere m hit (at (take n caps))) ended ∙ sym (closed-is (take n weights) (take n caps) st (take n caps));
         weights-are = turn .weights-are ∙ ap (λ (m : ℕ). sumWhere m hit (at (take n weights))) ended ∙ sym (closed-is (take n weights) (take n caps) st (take n weights));
       }
     where
       st : Standing
       st = standing n marks₀ money weight rounds
+
+      long : length marks ≡ 256
+      long = turn .reached .room ∙ asked .columns .marks-long
 
       wide : length (take n weights) ≡ n
       wide = length-take-le n weights (omega (arith, asked .columns .weights-long, asked .columns .few))

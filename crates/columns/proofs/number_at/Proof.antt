@@ -1,12 +1,9 @@
+-- `columns::number_at` meets its contract: the loop has read the bytes above i. Assumes nothing.
 use Prim.Native.Nat.{_<_, _^_}
-use native.Mathlib.Omega.{arith}
 use borrow.Author.Needs.{needs}
 use Rattle.columns.proofs.Reading.{Read, read-none, read-room, read-next, read-all}
 use Rattle.columns.proofs.number_at.Statement.{statement}
 use Rattle.columns.proofs.number_at.Tie as tie
-use Rattle.columns.proofs.number_at.Reads as reads
-use Rattle.columns.proofs.number_at.Lts as lts
-use Rattle.columns.proofs.wide.Reads as wide-reads
 
 abbrev Inv-loop : tie.InvT-loop
 Inv-loop s at width v₀ i₀ v i = Read s at width v i
@@ -14,43 +11,33 @@ Inv-loop s at width v₀ i₀ v i = Read s at width v i
 abbrev μ-loop : tie.MeasureT-loop
 μ-loop s at width v₀ i₀ v i = i
 
--- src/lib.rt:21:5
 loop-holds : tie.Need-loop-holds Inv-loop μ-loop
 loop-holds c = search read-none
 
--- src/lib.rt:22:9
 sub-i : tie.Need-sub-i Inv-loop μ-loop
 sub-i c = search needs
 
--- src/lib.rt:23:13
 mul-v : tie.Need-mul-v Inv-loop μ-loop
 mul-v c = let l : c .before .loop .v < 2 ^ 56 = search read-room in search needs
 
--- src/lib.rt:23:30
 add-wide : tie.Need-add-wide Inv-loop μ-loop
 add-wide c = search needs
 
--- src/lib.rt:23:28
 shared-slice-read-wide : tie.Need-shared-slice-read-wide Inv-loop μ-loop
 shared-slice-read-wide c = search needs
 
--- src/lib.rt:23:23
 wide-requires : tie.Need-wide-requires Inv-loop μ-loop
 wide-requires c κs = search needs
 
--- src/lib.rt:23:13
 add-v : tie.Need-add-v Inv-loop μ-loop
 add-v c = let l : c .before .before .before .loop .v < 2 ^ 56 = search read-room in search needs
 
--- src/lib.rt:21:5
 loop-less : tie.Need-loop-less Inv-loop μ-loop
 loop-less c = search needs
 
--- src/lib.rt:21:5
 loop-again : tie.Need-loop-again Inv-loop μ-loop
 loop-again c = search read-next
 
--- src/lib.rt:15:1
 returns : tie.Need-returns Inv-loop μ-loop
 returns c = read-all _ _ _ _ _ (c .before .loop .inv) (c .loop-test .left)
 

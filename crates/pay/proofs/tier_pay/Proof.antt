@@ -1,23 +1,18 @@
+-- `pay::tier_pay` meets its contract. Assumes nothing.
 use Prim.Native.Nat.{_^_}
 use native.Mathlib.Omega.{arith}
 use borrow.Author.Needs.{needs}
-use Rattle.pay.proofs.Laws.{tier-none, tier-some}
 use Rattle.columns.proofs.Product.{product}
+use Rattle.pay.proofs.Laws.{tier-none, tier-some}
 use Rattle.pay.proofs.tier_pay.Statement.{statement}
 use Rattle.pay.proofs.tier_pay.Tie as tie
-use Rattle.pay.proofs.tier_pay.Reads as reads
-use Rattle.pay.proofs.tier_pay.Lts as lts
-use Rattle.units.proofs.Kwh.priced.Reads as priced-reads
 
--- src/lib.rt:51:9
 returns : tie.Need-returns
 returns c = (search tier-none, omega arith)
 
--- src/lib.rt:53:5
 priced-requires : tie.Need-priced-requires
 priced-requires c κs = search needs
 
--- src/lib.rt:46:1
 returns-2 : tie.Need-returns-2
 returns-2 c = (search tier-some, rw (c .priced .ensures) (product 4294967295 2147483647 (2 ^ 63) (search needs) (search needs) tt))
 

@@ -1,27 +1,21 @@
-use Rattle.files.proofs.Sourced.{part-is}
+-- `files::counts::part_at` meets its contract. Assumes nothing.
 use borrow.Author.Needs.{needs}
+use Rattle.files.proofs.Sourced.{part-is}
 use Rattle.files.proofs.counts.part_at.Statement.{statement}
 use Rattle.files.proofs.counts.part_at.Tie as tie
-use Rattle.files.proofs.counts.part_at.Reads as reads
-use Rattle.files.proofs.counts.part_at.Lts as lts
 
--- src/counts.rt:53:12
 add-result : tie.Need-add-result
 add-result c = search needs
 
--- src/counts.rt:53:5
 sub-result : tie.Need-sub-result
 sub-result c = search needs
 
--- src/counts.rt:53:5
 part-result-start : tie.Need-part-result-start
 part-result-start c = search needs
 
--- src/counts.rt:53:5
 part-result-end : tie.Need-part-result-end
 part-result-end c = search needs
 
--- src/counts.rt:49:1
 returns : tie.Need-returns
 returns c = part-is (c .before .args .s .now) (c .before .args .at)
 

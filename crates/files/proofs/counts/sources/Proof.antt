@@ -1,17 +1,10 @@
+-- `files::counts::sources` meets its contract: the first i sources are put, and the rows passed in the correction lie below the next id. Assumes nothing.
+use Prim.Native.Nat.{_-_, _<_}
 use borrow.Author.Needs.{needs}
-use Prim.Native.Nat.{_+_, _-_, _*_, _≤_, _<_}
-use native.Mathlib.Omega.{arith}
-use Rattle.files.proofs.Sourced.{Sourced, sourced-none, sourced-next, sourced-ends, under-sourced, theirs-of, few-of, own-small, own-in}
 use Rattle.files.proofs.Accepted.{accepted-theirs}
-use Rattle.files.specs.Walk.{Under}
+use Rattle.files.proofs.Sourced.{Sourced, sourced-none, sourced-next, sourced-ends, under-sourced, theirs-of, few-of, own-small, own-in}
 use Rattle.files.proofs.counts.sources.Statement.{statement}
 use Rattle.files.proofs.counts.sources.Tie as tie
-use Rattle.files.proofs.counts.sources.Reads as reads
-use Rattle.files.proofs.counts.sources.Lts as lts
-use Rattle.files.proofs.counts.named_rows.Reads as named-rows-reads
-use Rattle.files.proofs.counts.source_at.Reads as source-at-reads
-use Rattle.files.proofs.read.id_at.Reads as id-at-reads
-use Rattle.files.proofs.refusal.seek.Reads as seek-reads
 
 abbrev Inv-loop : tie.InvT-loop
 Inv-loop interval correction n out₀ m j₀ i₀ out j i = Sourced interval correction n m out₀ out i j
@@ -19,55 +12,42 @@ Inv-loop interval correction n out₀ m j₀ i₀ out j i = Sourced interval cor
 abbrev μ-loop : tie.MeasureT-loop
 μ-loop interval correction n out₀ m j₀ i₀ out j i = n - i
 
--- src/counts.rt:102:9
 named-rows-requires : tie.Need-named-rows-requires Inv-loop μ-loop
 named-rows-requires c κs = search accepted-theirs
 
--- src/counts.rt:105:5
 loop-holds : tie.Need-loop-holds Inv-loop μ-loop
 loop-holds c = search sourced-none
 
--- src/counts.rt:106:41
 mul-id-at : tie.Need-mul-id-at Inv-loop μ-loop
 mul-id-at c = let l : c .before .loop .i < 256 = search own-small in search needs
 
--- src/counts.rt:106:34
 add-id-at : tie.Need-add-id-at Inv-loop μ-loop
 add-id-at c = let l : c .before .loop .i < 256 = search own-small in search needs
 
--- src/counts.rt:106:13
 id-at-requires : tie.Need-id-at-requires Inv-loop μ-loop
 id-at-requires c κs = search own-in
 
--- src/counts.rt:107:9
 seek-requires : tie.Need-seek-requires Inv-loop μ-loop
 seek-requires c κs = (search theirs-of, (search needs, search under-sourced))
 
--- src/counts.rt:108:18
 source-at-requires : tie.Need-source-at-requires Inv-loop μ-loop
 source-at-requires c κs = (search theirs-of, search few-of)
 
--- src/counts.rt:108:9
 mul-out : tie.Need-mul-out Inv-loop μ-loop
 mul-out c = let l : c .before .before .before .before .loop .i < 256 = search own-small in search needs
 
--- src/counts.rt:108:9
 element-write-out : tie.Need-element-write-out Inv-loop μ-loop
 element-write-out c = let l : c .before .before .before .before .loop .i < 256 = search own-small in search needs
 
--- src/counts.rt:109:9
 add-i : tie.Need-add-i Inv-loop μ-loop
 add-i c = search needs
 
--- src/counts.rt:105:5
 loop-less : tie.Need-loop-less Inv-loop μ-loop
 loop-less c = search needs
 
--- src/counts.rt:105:5
 loop-again : tie.Need-loop-again Inv-loop μ-loop
 loop-again c = search sourced-next
 
--- src/counts.rt:97:1
 returns : tie.Need-returns Inv-loop μ-loop
 returns c = search sourced-ends
 

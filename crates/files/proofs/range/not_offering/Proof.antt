@@ -1,10 +1,8 @@
+-- `files::range::not_offering` meets its contract. Assumes nothing.
 use Rattle.files.specs.Range.{notOffering}
 use Rattle.files.proofs.range.not_offering.Statement.{statement}
 use Rattle.files.proofs.range.not_offering.Tie as tie
-use Rattle.files.proofs.range.not_offering.Reads as reads
-use Rattle.files.proofs.range.not_offering.Lts as lts
 
--- src/range.rt:55:1
 returns : tie.Need-returns
 unfolding notOffering
 returns c = cc

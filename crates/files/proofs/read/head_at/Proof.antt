@@ -1,52 +1,39 @@
-use Rattle.files.specs.Layout.{headAt}
+-- `files::read::head_at` meets its contract. Assumes nothing.
 use borrow.Author.Needs.{needs}
+use Rattle.files.specs.Layout.{headAt}
 use Rattle.files.proofs.read.head_at.Statement.{statement}
 use Rattle.files.proofs.read.head_at.Tie as tie
-use Rattle.files.proofs.read.head_at.Reads as reads
-use Rattle.files.proofs.read.head_at.Lts as lts
-use Rattle.columns.proofs.number_at.Reads as number-at-reads
 
--- src/read.rt:28:14
 number-at-requires : tie.Need-number-at-requires
 number-at-requires c κs = search needs
 
--- src/read.rt:28:14
 cast-t3 : tie.Need-cast-t3
 cast-t3 c = search needs
 
--- src/read.rt:29:18
 number-at-requires-2 : tie.Need-number-at-requires-2
 number-at-requires-2 c κs = search needs
 
--- src/read.rt:29:18
 cast-t5 : tie.Need-cast-t5
 cast-t5 c = search needs
 
--- src/read.rt:30:21
 number-at-requires-3 : tie.Need-number-at-requires-3
 number-at-requires-3 c κs = search needs
 
--- src/read.rt:30:21
 cast-t7 : tie.Need-cast-t7
 cast-t7 c = search needs
 
--- src/read.rt:31:19
 number-at-requires-4 : tie.Need-number-at-requires-4
 number-at-requires-4 c κs = search needs
 
--- src/read.rt:31:19
 cast-t10 : tie.Need-cast-t10
 cast-t10 c = search needs
 
--- src/read.rt:32:15
 number-at-requires-5 : tie.Need-number-at-requires-5
 number-at-requires-5 c κs = search needs
 
--- src/read.rt:32:15
 cast-t13 : tie.Need-cast-t13
 cast-t13 c = search needs
 
--- src/read.rt:23:1
 returns : tie.Need-returns
 unfolding headAt
 returns c = cc

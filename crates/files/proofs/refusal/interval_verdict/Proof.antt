@@ -1,30 +1,21 @@
-use Rattle.files.proofs.Walked.{head-there, rows-there, interval-refused, interval-rows}
+-- `files::refusal::interval_verdict` meets its contract. Assumes nothing.
 use borrow.Author.Needs.{needs}
+use Rattle.files.proofs.Walked.{head-there, rows-there, interval-refused, interval-rows}
 use Rattle.files.proofs.refusal.interval_verdict.Statement.{statement}
 use Rattle.files.proofs.refusal.interval_verdict.Tie as tie
-use Rattle.files.proofs.refusal.interval_verdict.Reads as reads
-use Rattle.files.proofs.refusal.interval_verdict.Lts as lts
-use Rattle.files.proofs.refusal.head_fault.Reads as head-fault-reads
-use Rattle.files.proofs.refusal.row_count.Reads as row-count-reads
-use Rattle.files.proofs.refusal.rows_verdict.Reads as rows-verdict-reads
 
--- src/refusal.rt:96:9
 head-fault-requires : tie.Need-head-fault-requires
 head-fault-requires c κs = search needs
 
--- src/refusal.rt:98:9
 returns : tie.Need-returns
 returns c = search interval-refused
 
--- src/refusal.rt:100:27
 row-count-requires : tie.Need-row-count-requires
 row-count-requires c κs = search head-there
 
--- src/refusal.rt:100:5
 rows-verdict-requires : tie.Need-rows-verdict-requires
 rows-verdict-requires c κs = search rows-there
 
--- src/refusal.rt:93:1
 returns-2 : tie.Need-returns-2
 returns-2 c = search interval-rows
 

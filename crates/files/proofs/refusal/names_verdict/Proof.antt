@@ -1,16 +1,11 @@
-use borrow.Author.Needs.{needs}
-use native.Mathlib.Omega.{arith}
-use lib.ListN.{length}
+-- `files::refusal::names_verdict` meets its contract: the fault of all of the correction's rows is that of its rows from j on, and the rows passed in the interval lie below its next id. Assumes nothing.
 use Prim.Native.Nat.{_+_, _-_, _*_, _≤_}
-use Rattle.files.proofs.Sound.{row-in}
+use lib.ListN.{length}
+use borrow.Author.Needs.{needs}
 use Rattle.files.proofs.Named.{Beside, beside-none, beside-next, beside-stops, beside-ends, under-beside}
+use Rattle.files.proofs.Sound.{row-in}
 use Rattle.files.proofs.refusal.names_verdict.Statement.{statement}
 use Rattle.files.proofs.refusal.names_verdict.Tie as tie
-use Rattle.files.proofs.refusal.names_verdict.Reads as reads
-use Rattle.files.proofs.refusal.names_verdict.Lts as lts
-use Rattle.files.proofs.read.row_at.Reads as row-at-reads
-use Rattle.files.proofs.refusal.matches_row.Reads as matches-row-reads
-use Rattle.files.proofs.refusal.seek.Reads as seek-reads
 
 abbrev Inv-loop : tie.InvT-loop
 Inv-loop interval correction n m i₀ j₀ i j = Beside interval correction n m i j
@@ -18,47 +13,36 @@ Inv-loop interval correction n m i₀ j₀ i j = Beside interval correction n m 
 abbrev μ-loop : tie.MeasureT-loop
 μ-loop interval correction n m i₀ j₀ i j = m - j
 
--- src/refusal.rt:175:5
 loop-holds : tie.Need-loop-holds Inv-loop μ-loop
 loop-holds c = search beside-none
 
--- src/refusal.rt:176:54
 mul-row-at : tie.Need-mul-row-at Inv-loop μ-loop
 mul-row-at c = let l : 9 + c .before .loop .j * 21 + 21 ≤ length (c .before .before .before .before .args .correction .now) = search row-in in search needs
 
--- src/refusal.rt:176:36
 add-row-at : tie.Need-add-row-at Inv-loop μ-loop
 add-row-at c = let l : 9 + c .before .loop .j * 21 + 21 ≤ length (c .before .before .before .before .args .correction .now) = search row-in in search needs
 
--- src/refusal.rt:176:13
 row-at-requires : tie.Need-row-at-requires Inv-loop μ-loop
 row-at-requires c κs = search row-in
 
--- src/refusal.rt:177:9
 seek-requires : tie.Need-seek-requires Inv-loop μ-loop
 seek-requires c κs = (search needs, (search needs, search under-beside))
 
--- src/refusal.rt:178:9
 add-j : tie.Need-add-j Inv-loop μ-loop
 add-j c = search needs
 
--- src/refusal.rt:179:13
 matches-row-requires : tie.Need-matches-row-requires Inv-loop μ-loop
 matches-row-requires c κs = search needs
 
--- src/refusal.rt:180:13
 returns : tie.Need-returns Inv-loop μ-loop
 returns c = search beside-stops
 
--- src/refusal.rt:175:5
 loop-less : tie.Need-loop-less Inv-loop μ-loop
 loop-less c = search needs
 
--- src/refusal.rt:175:5
 loop-again : tie.Need-loop-again Inv-loop μ-loop
 loop-again c = search beside-next
 
--- src/refusal.rt:167:1
 returns-2 : tie.Need-returns-2 Inv-loop μ-loop
 returns-2 c = search beside-ends
 

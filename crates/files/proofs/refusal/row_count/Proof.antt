@@ -1,16 +1,12 @@
-use Rattle.files.specs.Layout.{headAt}
+-- `files::refusal::row_count` meets its contract. Assumes nothing.
 use borrow.Author.Needs.{needs}
+use Rattle.files.specs.Layout.{headAt}
 use Rattle.files.proofs.refusal.row_count.Statement.{statement}
 use Rattle.files.proofs.refusal.row_count.Tie as tie
-use Rattle.files.proofs.refusal.row_count.Reads as reads
-use Rattle.files.proofs.refusal.row_count.Lts as lts
-use Rattle.columns.proofs.number_at.Reads as number-at-reads
 
--- src/refusal.rt:32:5
 number-at-requires : tie.Need-number-at-requires
 number-at-requires c κs = search needs
 
--- src/refusal.rt:28:1
 returns : tie.Need-returns
 unfolding headAt
 returns c = search needs

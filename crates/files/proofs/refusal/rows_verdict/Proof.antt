@@ -1,12 +1,9 @@
-use borrow.Author.Needs.{needs}
+-- `files::refusal::rows_verdict` meets its contract: the fault of all rows is that of the rows from i on. Assumes nothing.
 use Prim.Native.Nat.{_-_}
+use borrow.Author.Needs.{needs}
 use Rattle.files.proofs.Walked.{Walked, walk-none, walk-next, walk-stops, walk-ends}
 use Rattle.files.proofs.refusal.rows_verdict.Statement.{statement}
 use Rattle.files.proofs.refusal.rows_verdict.Tie as tie
-use Rattle.files.proofs.refusal.rows_verdict.Reads as reads
-use Rattle.files.proofs.refusal.rows_verdict.Lts as lts
-use Rattle.files.proofs.refusal.row_fault.Reads as row-fault-reads
-use Rattle.files.proofs.read.id_at.Reads as id-at-reads
 
 abbrev Inv-loop : tie.InvT-loop
 Inv-loop s start count last₀ i₀ last i = Walked s start count last i
@@ -14,43 +11,33 @@ Inv-loop s start count last₀ i₀ last i = Walked s start count last i
 abbrev μ-loop : tie.MeasureT-loop
 μ-loop s start count last₀ i₀ last i = count - i
 
--- src/refusal.rt:79:5
 loop-holds : tie.Need-loop-holds Inv-loop μ-loop
 loop-holds c = search walk-none
 
--- src/refusal.rt:80:26
 mul-at : tie.Need-mul-at Inv-loop μ-loop
 mul-at c = search needs
 
--- src/refusal.rt:80:18
 add-at : tie.Need-add-at Inv-loop μ-loop
 add-at c = search needs
 
--- src/refusal.rt:81:13
 row-fault-requires : tie.Need-row-fault-requires Inv-loop μ-loop
 row-fault-requires c κs = search needs
 
--- src/refusal.rt:82:9
-add-i : tie.Need-add-i Inv-loop μ-loop
-add-i c = search needs
+add-next : tie.Need-add-next Inv-loop μ-loop
+add-next c = search needs
 
--- src/refusal.rt:84:13
 returns : tie.Need-returns Inv-loop μ-loop
 returns c = search walk-stops
 
--- src/refusal.rt:86:9
 id-at-requires : tie.Need-id-at-requires Inv-loop μ-loop
 id-at-requires c κs = search needs
 
--- src/refusal.rt:79:5
 loop-less : tie.Need-loop-less Inv-loop μ-loop
 loop-less c = search needs
 
--- src/refusal.rt:79:5
 loop-again : tie.Need-loop-again Inv-loop μ-loop
 loop-again c = search walk-next
 
--- src/refusal.rt:73:1
 returns-2 : tie.Need-returns-2 Inv-loop μ-loop
 returns-2 c = search walk-ends
 
@@ -64,7 +51,7 @@ rows-verdict-spec =
     mul-at
     add-at
     row-fault-requires
-    add-i
+    add-next
     returns
     id-at-requires
     loop-less

@@ -1,11 +1,9 @@
+-- `files::refusal::same_terms` meets its contract. Assumes nothing.
 use mathlib.Core.Path.{refl}
 use Rattle.files.specs.Fault.{sameTerms}
 use Rattle.files.proofs.refusal.same_terms.Statement.{statement}
 use Rattle.files.proofs.refusal.same_terms.Tie as tie
-use Rattle.files.proofs.refusal.same_terms.Reads as reads
-use Rattle.files.proofs.refusal.same_terms.Lts as lts
 
--- src/refusal.rt:126:1
 returns : tie.Need-returns
 unfolding sameTerms
 returns c = refl

@@ -1,16 +1,17 @@
+-- `levy::redistribute` meets its contract. Assumes nothing.
 use Prim.Native.Nat.{ℕ, _<_}
+use borrow.Author.Needs.{needs}
+use lib.ListN.{take}
 use borrow.Fn.Kinds.{In}
 use borrow.Fn.PlainCycle.{Measures, is, falls, and}
+use Rattle.levy.specs.Rounds.{opens}
+use Rattle.levy.proofs.Again.{round-asked, caps-in, weights-in, count-in, opens-less, ready-again, stopped, went-on}
 use Rattle.levy.proofs.closing.redistribute.Reads as redistribute
 use Rattle.levy.proofs.closing.redistribute.Kinds as redistribute-kinds
 use Rattle.levy.proofs.closing.+redistribute.Lts-redistribute as redistribute-lts
 use Rattle.levy.proofs.closing.close_round.Reads as close-round-reads
 use Rattle.levy.proofs.closing.+redistribute.{statement}
 use Rattle.levy.proofs.closing.+redistribute.Tie.{close}
-use borrow.Author.Needs.{needs}
-use lib.ListN.{take}
-use Rattle.levy.specs.Rounds.{opens}
-use Rattle.levy.proofs.Again.{round-asked, caps-in, weights-in, count-in, opens-less, ready-again, stopped, went-on}
 
 abbrev μ-redistribute : Measures 4 redistribute-kinds.ps ℕ
 μ-redistribute κs a =
@@ -28,7 +29,6 @@ redistribute-below t =
     (falls 4 redistribute-kinds.ps _<_ μ-redistribute t)
     redistribute.Pre
 
--- src/lib.rt:180:9
 redistribute-close-round-requires : (t : ℕ) → redistribute-lts.Need-close-round-requires (
   close-round-reads.Asked,
   close-round-reads.Learnt,
@@ -37,7 +37,6 @@ redistribute-close-round-requires : (t : ℕ) → redistribute-lts.Need-close-ro
 ) (redistribute-at t) redistribute.Post
 redistribute-close-round-requires t c κs = search round-asked
 
--- src/lib.rt:183:9
 redistribute-returns : (t : ℕ) → redistribute-lts.Need-returns (
   close-round-reads.Asked,
   close-round-reads.Learnt,
@@ -46,25 +45,22 @@ redistribute-returns : (t : ℕ) → redistribute-lts.Need-returns (
 ) (redistribute-at t) redistribute.Post
 redistribute-returns t c = search stopped
 
--- src/lib.rt:186:9
 redistribute-sub-redistribute : (t : ℕ) → redistribute-lts.Need-sub-redistribute (
   close-round-reads.Asked,
   close-round-reads.Learnt,
   redistribute-below t,
   redistribute.Post,
 ) (redistribute-at t) redistribute.Post
-redistribute-sub-redistribute t c = search caps-in
+redistribute-sub-redistribute t c = search (caps-in, needs)
 
--- src/lib.rt:187:9
 redistribute-sub-redistribute-2 : (t : ℕ) → redistribute-lts.Need-sub-redistribute-2 (
   close-round-reads.Asked,
   close-round-reads.Learnt,
   redistribute-below t,
   redistribute.Post,
 ) (redistribute-at t) redistribute.Post
-redistribute-sub-redistribute-2 t c = search weights-in
+redistribute-sub-redistribute-2 t c = search (weights-in, needs)
 
--- src/lib.rt:188:9
 redistribute-add-redistribute : (t : ℕ) → redistribute-lts.Need-add-redistribute (
   close-round-reads.Asked,
   close-round-reads.Learnt,
@@ -73,7 +69,6 @@ redistribute-add-redistribute : (t : ℕ) → redistribute-lts.Need-add-redistri
 ) (redistribute-at t) redistribute.Post
 redistribute-add-redistribute t c = record { fits = search count-in }
 
--- src/lib.rt:185:5
 redistribute-redistribute-requires : (t : ℕ) → redistribute-lts.Need-redistribute-requires (
   close-round-reads.Asked,
   close-round-reads.Learnt,
@@ -82,7 +77,6 @@ redistribute-redistribute-requires : (t : ℕ) → redistribute-lts.Need-redistr
 ) (redistribute-at t) redistribute.Post
 redistribute-redistribute-requires t c κs = (search opens-less, search ready-again)
 
--- src/lib.rt:166:1
 redistribute-returns-2 : (t : ℕ) → redistribute-lts.Need-returns-2 (
   close-round-reads.Asked,
   close-round-reads.Learnt,

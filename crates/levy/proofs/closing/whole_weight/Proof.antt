@@ -1,8 +1,4 @@
-use Rattle.levy.proofs.closing.whole_weight.Statement.{statement}
-use Rattle.levy.proofs.closing.whole_weight.Tie as tie
-use Rattle.levy.proofs.closing.whole_weight.Reads as reads
-use Rattle.levy.proofs.closing.whole_weight.Lts as lts
-use Rattle.levy.proofs.closing.wide.Reads as wide-reads
+-- `levy::whole_weight` meets its contract. Assumes nothing.
 use Prim.Native.Nat.{_-_, _*_, _^_, _≤_}
 use mathlib.Core.Path.{_≡_, refl}
 use native.Mathlib.Omega.{arith}
@@ -11,6 +7,8 @@ use Rattle.columns.specs.Sum.{sumTo}
 use Rattle.columns.specs.Table.{at}
 use Rattle.columns.proofs.Sum.{sum-next}
 use Rattle.levy.proofs.Arrays.{whole-end}
+use Rattle.levy.proofs.closing.whole_weight.Statement.{statement}
+use Rattle.levy.proofs.closing.whole_weight.Tie as tie
 
 abbrev Inv-loop : tie.InvT-loop
 Inv-loop n weights sum₀ i₀ sum i =
@@ -19,41 +17,32 @@ Inv-loop n weights sum₀ i₀ sum i =
 abbrev μ-loop : tie.MeasureT-loop
 μ-loop n weights sum₀ i₀ sum i = n - i
 
--- src/lib.rt:216:5
 loop-holds : tie.Need-loop-holds Inv-loop μ-loop
 unfolding sumTo
 loop-holds c = (omega arith, refl, omega arith)
 
--- src/lib.rt:217:21
 mul-wide : tie.Need-mul-wide Inv-loop μ-loop
 mul-wide c = search needs
 
--- src/lib.rt:217:21
 element-copy-out-wide : tie.Need-element-copy-out-wide Inv-loop μ-loop
 element-copy-out-wide c = search needs
 
--- src/lib.rt:217:16
 wide-requires : tie.Need-wide-requires Inv-loop μ-loop
 wide-requires c κs = search needs
 
--- src/lib.rt:217:9
 add-sum : tie.Need-add-sum Inv-loop μ-loop
 add-sum c = search needs
 
--- src/lib.rt:218:9
 add-i : tie.Need-add-i Inv-loop μ-loop
 add-i c = search needs
 
--- src/lib.rt:216:5
 loop-less : tie.Need-loop-less Inv-loop μ-loop
 loop-less c = search needs
 
--- src/lib.rt:216:5
 loop-again : tie.Need-loop-again Inv-loop μ-loop
 loop-again c = let s = c .before .before .before in
     omega (arith, sum-next (s .loop .i) (at (s .before .args .weights .now)))
 
--- src/lib.rt:210:1
 returns : tie.Need-returns Inv-loop μ-loop
 returns c = search whole-end
 

@@ -1,37 +1,28 @@
+-- `levy::cuts` meets its contract. Assumes nothing.
+use borrow.Author.Needs.{needs}
 use Rattle.share.proofs.Handing.{front}
 use Rattle.levy.proofs.Making.{front-room}
-use borrow.Author.Needs.{needs}
 use Rattle.levy.proofs.paying.cuts.Statement.{statement}
 use Rattle.levy.proofs.paying.cuts.Tie as tie
-use Rattle.levy.proofs.paying.cuts.Reads as reads
-use Rattle.levy.proofs.paying.cuts.Lts as lts
-use Rattle.levy.proofs.paying.cut_over.Reads as cut-over-reads
 
--- src/lib.rt:372:47
 array-borrow-prefix-weights : tie.Need-array-borrow-prefix-weights
 array-borrow-prefix-weights c = search needs
 
--- src/lib.rt:372:47
 slice-aggregate-cut-over : tie.Need-slice-aggregate-cut-over
 slice-aggregate-cut-over c = search front
 
--- src/lib.rt:372:66
 array-borrow-prefix-parts : tie.Need-array-borrow-prefix-parts
 array-borrow-prefix-parts c = search needs
 
--- src/lib.rt:372:66
 slice-aggregate-cut-over-2 : tie.Need-slice-aggregate-cut-over-2
 slice-aggregate-cut-over-2 c = search front
 
--- src/lib.rt:372:5
 cut-over-requires : tie.Need-cut-over-requires
 cut-over-requires c κs = (search needs, search front-room)
 
--- src/lib.rt:365:1
 same-length : tie.Need-same-length
 same-length c = search needs
 
--- src/lib.rt:365:1
 returns : tie.Need-returns
 returns c = search needs
 

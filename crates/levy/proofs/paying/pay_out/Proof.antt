@@ -1,76 +1,59 @@
+-- `levy::pay_out` meets its contract. Assumes nothing.
+use Prim.Native.Nat.{_-_}
+use borrow.Author.Needs.{needs}
 use Rattle.levy.specs.Asked.{paidFrom}
 use Rattle.levy.proofs.Fill.{Fill, fill-none, fill-on, fill-end, paid-at, made-at}
-use borrow.Author.Needs.{needs}
-use Prim.Native.Nat.{_-_}
 use Rattle.levy.proofs.paying.pay_out.Statement.{statement}
 use Rattle.levy.proofs.paying.pay_out.Tie as tie
-use Rattle.levy.proofs.paying.pay_out.Reads as reads
-use Rattle.levy.proofs.paying.pay_out.Lts as lts
-use Rattle.levy.proofs.paying.paid_by.Reads as paid-by-reads
 
 abbrev Inv-loop : tie.InvT-loop
-Inv-loop parts caps marks out₀ n i₀ out i = Fill n (paidFrom caps marks parts) out i
+Inv-loop parts caps marks out₀ n i₀ out i = Fill (paidFrom caps marks parts) out₀ out i
 
 abbrev μ-loop : tie.MeasureT-loop
 μ-loop parts caps marks out₀ n i₀ out i = n - i
 
--- src/lib.rt:282:5
 loop-holds : tie.Need-loop-holds Inv-loop μ-loop
 loop-holds c = search fill-none
 
--- src/lib.rt:283:26
 mul-paid-by : tie.Need-mul-paid-by Inv-loop μ-loop
 mul-paid-by c = search needs
 
--- src/lib.rt:283:26
 element-copy-out-paid-by : tie.Need-element-copy-out-paid-by Inv-loop μ-loop
 element-copy-out-paid-by c = search needs
 
--- src/lib.rt:283:36
 mul-paid-by-2 : tie.Need-mul-paid-by-2 Inv-loop μ-loop
 mul-paid-by-2 c = search needs
 
--- src/lib.rt:283:36
 shared-slice-read-paid-by : tie.Need-shared-slice-read-paid-by Inv-loop μ-loop
 shared-slice-read-paid-by c = search needs
 
--- src/lib.rt:283:46
 mul-paid-by-3 : tie.Need-mul-paid-by-3 Inv-loop μ-loop
 mul-paid-by-3 c = search needs
 
--- src/lib.rt:283:46
 element-copy-out-paid-by-2 : tie.Need-element-copy-out-paid-by-2 Inv-loop μ-loop
 element-copy-out-paid-by-2 c = search needs
 
--- src/lib.rt:283:18
 paid-by-requires : tie.Need-paid-by-requires Inv-loop μ-loop
 paid-by-requires c κs = search (made-at, needs)
 
--- src/lib.rt:283:9
 mul-out : tie.Need-mul-out Inv-loop μ-loop
 mul-out c = search needs
 
--- src/lib.rt:283:9
 slice-write-out : tie.Need-slice-write-out Inv-loop μ-loop
 slice-write-out c = search needs
 
--- src/lib.rt:284:9
 add-i : tie.Need-add-i Inv-loop μ-loop
 add-i c = search needs
 
--- src/lib.rt:282:5
 loop-less : tie.Need-loop-less Inv-loop μ-loop
 loop-less c = search needs
 
--- src/lib.rt:282:5
 loop-again : tie.Need-loop-again Inv-loop μ-loop
 loop-again c = search (fill-on, paid-at)
 
--- src/lib.rt:275:1
 same-length : tie.Need-same-length Inv-loop μ-loop
 same-length c = search needs
 
--- src/lib.rt:275:1
 returns : tie.Need-returns Inv-loop μ-loop
 returns c = search fill-end
 

@@ -1,14 +1,11 @@
+-- `levy::pays` meets its contract. Assumes nothing.
 use Rattle.levy.proofs.Row.{pays-thermal, pays-other}
 use Rattle.levy.proofs.weighing.pays.Statement.{statement}
 use Rattle.levy.proofs.weighing.pays.Tie as tie
-use Rattle.levy.proofs.weighing.pays.Reads as reads
-use Rattle.levy.proofs.weighing.pays.Lts as lts
 
--- src/lib.rt:15:9
 returns : tie.Need-returns
 returns c = search pays-thermal
 
--- src/lib.rt:11:1
 returns-2 : tie.Need-returns-2
 returns-2 c = search pays-other
 

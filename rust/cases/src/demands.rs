@@ -1,0 +1,95 @@
+//! What every statement owes its readers, checked on its bytes alone.
+
+use crate::file::{LINE, STATEMENT_HEAD};
+
+struct Line {
+    compensation: u128,
+    cut: u128,
+    weight: u128,
+    cap: u128,
+    paid: u128,
+    closing: u128,
+}
+
+fn number(bytes: &[u8]) -> u128 {
+    bytes.iter().rev().fold(0, |number, &byte| number << 8 | u128::from(byte))
+}
+
+fn line(bytes: &[u8]) -> Line {
+    Line {
+        compensation: number(&bytes[12..16]),
+        cut: number(&bytes[16..20]),
+        weight: number(&bytes[20..24]),
+        cap: number(&bytes[24..28]),
+        paid: number(&bytes[28..32]),
+        closing: number(&bytes[32..34]),
+    }
+}
+
+fn demand(holds: bool, what: &str) -> Result<(), String> {
+    if holds { Ok(()) } else { Err(format!("not so: {what}")) }
+}
+
+/// Checks a whole statement; the answer names the first demand it fails.
+pub fn check(statement: &[u8]) -> Result<(), String> {
+    demand(statement.len() >= STATEMENT_HEAD, "the statement has a head")?;
+    let (head, body) = statement.split_at(STATEMENT_HEAD);
+    demand(head.starts_with(b"PS"), "the head has its mark")?;
+    let (total, shortfall) = (number(&head[11..19]), number(&head[19..27]));
+    let (rounds, rows) = (number(&head[27..29]), number(&head[33..35]));
+    demand(body.len() as u128 == LINE as u128 * rows, "there are as many lines as the head says")?;
+    demand(body.chunks_exact(LINE).all(|line| line.starts_with(b"PL")), "every line has its mark")?;
+    let rising = body.chunks_exact(LINE).map(|line| number(&line[2..4])).is_sorted_by(|a, b| a < b);
+    demand(rising, "ids rise")?;
+    let lines: Vec<Line> = body.chunks_exact(LINE).map(line).collect();
+    demand(total == sum(&lines, |line| line.compensation), "the total is the sum of the compensations")?;
+    books(&lines)?;
+    numbering(&lines, rounds)?;
+    let (closed, open): (Vec<&Line>, Vec<&Line>) =
+        lines.iter().filter(|line| line.weight > 0).partition(|line| line.closing > 0);
+    let caps: u128 = closed.iter().map(|line| line.cap).sum();
+    demand(closed.iter().all(|line| line.paid == line.cap), "the capped pay their caps")?;
+    demand(caps <= total, "the caps reached are together at most the total compensation")?;
+    let cut = sum(&lines, |line| line.cut);
+    demand(cut == shortfall, "the cuts add up to the shortfall")?;
+    if open.is_empty() {
+        demand(shortfall == total - caps, "receivers are cut by exactly what the caps fail to cover")
+    } else {
+        demand(cut == 0, "receivers are cut only if all payers are capped")?;
+        common_rate(&open, &closed, total - caps)
+    }
+}
+
+fn sum(lines: &[Line], field: impl Fn(&Line) -> u128) -> u128 {
+    lines.iter().map(field).sum()
+}
+
+/// What holds of payments and cuts whoever is capped.
+fn books(lines: &[Line]) -> Result<(), String> {
+    demand(lines.iter().all(|line| line.cut <= line.compensation), "nobody is cut by more than its compensation")?;
+    demand(lines.iter().all(|line| line.paid <= line.cap), "no payer pays above its cap")?;
+    demand(lines.iter().all(|line| line.weight > 0 || line.paid == 0), "a weight of 0 pays nothing")?;
+    demand(lines.iter().all(|line| line.weight == 0 || line.compensation == 0), "no payer receives")?;
+    let kept = sum(lines, |line| line.compensation) - sum(lines, |line| line.cut);
+    demand(sum(lines, |line| line.paid) == kept, "what payers pay equals what receivers keep")
+}
+
+/// Rounds are the rounds in which somebody closed, and no more than the payers of weight above 0.
+fn numbering(lines: &[Line], rounds: u128) -> Result<(), String> {
+    let payers = lines.iter().filter(|line| line.weight > 0).count() as u128;
+    demand(rounds <= payers, "rounds are at most the payers of weight above 0")?;
+    demand(lines.iter().all(|line| line.closing <= rounds), "nobody closes after the last round")?;
+    demand(lines.iter().all(|line| line.weight > 0 || line.closing == 0), "only payers of weight above 0 close")?;
+    let somebody = (1..=rounds).all(|round| lines.iter().any(|line| line.closing == round));
+    demand(somebody, "somebody closes in every round")
+}
+
+/// The rate is `rest` for the sum of the open weights; every open and every capped payer is held against it.
+fn common_rate(open: &[&Line], closed: &[&Line], rest: u128) -> Result<(), String> {
+    let weight: u128 = open.iter().map(|line| line.weight).sum();
+    let within_a_fen = |line: &&Line| (line.paid * weight).abs_diff(rest * line.weight) < weight;
+    demand(open.iter().all(within_a_fen), "open payers are within a fen of one rate")?;
+    let below = |line: &&Line| rest * line.weight < line.cap * weight;
+    demand(open.iter().all(below), "at that rate each open payer owes less than its cap")?;
+    demand(!closed.iter().any(below), "at that rate each capped payer owes at least its cap")
+}

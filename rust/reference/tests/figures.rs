@@ -1,0 +1,148 @@
+//! The figures of document 01: P1 to P11 and those that are only run.
+
+use reference::{Calls, Interval, Row, call, fen, paid_energy, settle, share, tell, thermal_cap, thermal_weight};
+
+fn row(id: u16, kind: u8, metered: u32) -> Row {
+    Row { id, kind, capacity: 100, metered, status: 0, offered: 0, minimum: 0, bids: [0, 0] }
+}
+
+fn offering(id: u16, metered: u32, minimum: u32, bids: [u16; 2]) -> Row {
+    Row { offered: 1, minimum, bids, ..row(id, 1, metered) }
+}
+
+fn x(tariff: u16) -> Interval {
+    let rows = vec![offering(1, 9_000, 8_000, [200, 400]), row(2, 1, 20_000), row(3, 2, 5_000)];
+    Interval { day: 0, quarter: 0, tariff, need: 3_000, rows }
+}
+
+/// The bytes of an interval, without the checks of the writer.
+fn bytes(interval: &Interval) -> Vec<u8> {
+    let mut bytes = b"PH".to_vec();
+    bytes.extend(interval.day.to_le_bytes());
+    bytes.push(interval.quarter);
+    bytes.extend(interval.tariff.to_le_bytes());
+    bytes.extend(interval.need.to_le_bytes());
+    bytes.extend((interval.rows.len() as u16).to_le_bytes());
+    for row in &interval.rows {
+        bytes.extend(b"PR");
+        bytes.extend(row.id.to_le_bytes());
+        bytes.push(row.kind);
+        bytes.extend(row.capacity.to_le_bytes());
+        bytes.extend(row.metered.to_le_bytes());
+        bytes.extend([row.status, row.offered]);
+        bytes.extend(row.minimum.to_le_bytes());
+        bytes.extend(row.bids.into_iter().flat_map(u16::to_le_bytes));
+    }
+    bytes
+}
+
+fn told(interval: &Interval) -> Vec<Vec<u64>> {
+    let line = |line: &str| line.split(' ').map(|number| number.parse().unwrap()).collect();
+    tell(&bytes(interval)).lines().map(line).collect()
+}
+
+#[test]
+fn p1_to_p5_interval_x() {
+    let figures = [
+        (3545, 67_500, 22_500, 0, 0),
+        (1350, 67_500, 22_500, 1, 0),
+        (1300, 65_000, 25_000, 1, 0),
+        (1200, 60_000, 30_000, 2, 0),
+        (1000, 50_000, 25_000, 2, 15_000),
+    ];
+    for (tariff, second, third, rounds, shortfall) in figures {
+        let told = told(&x(tariff));
+        assert_eq!(told[0][4..7], [90_000, shortfall, rounds], "tariff {tariff}");
+        assert_eq!([told[2][7], told[3][7]], [second, third], "tariff {tariff}");
+        assert_eq!(told[1][3..5], [90_000, shortfall], "tariff {tariff}");
+    }
+}
+
+#[test]
+fn p6_thermal_weights() {
+    let weights = [12_500, 15_000, 15_001, 17_500, 17_501, 27_500].map(|kwh| thermal_weight(&row(1, 1, kwh)));
+    assert_eq!(weights, [0, 2_500, 2_502, 7_500, 7_503, 37_500]);
+}
+
+#[test]
+fn p7_p8_sharing() {
+    assert_eq!(share(100, &[1, 1, 1]), [34, 33, 33]);
+    assert_eq!(share(10, &[3, 3, 1]), [4, 4, 2]);
+    assert_eq!(share(5, &[0, 0]), [0, 0]);
+    assert_eq!(share(0, &[1, 2]), [0, 0]);
+}
+
+#[test]
+fn p9_a_shared_call() {
+    let narrow = offering(1, 9_000, 10_000, [200, 320]);
+    let wide = Row { capacity: 200, minimum: 20_000, ..offering(2, 9_000, 0, [200, 320]) };
+    let calls = call(&[narrow, wide], 100);
+    assert_eq!(calls, Calls { called: vec![[33, 0], [67, 0]], prices: [200, 0], uncovered: 0 });
+}
+
+#[test]
+fn p10_thermal_caps() {
+    assert_eq!([thermal_cap(1, 399), thermal_cap(1, 400)], [0, 1]);
+}
+
+#[test]
+fn p11_li_to_fen() {
+    assert_eq!([fen(315), fen(314)], [32, 31]);
+}
+
+#[test]
+fn run_only_paid_energy() {
+    let energies = [12_499, 10_000, 9_999, 12_500].map(|metered| paid_energy(&row(1, 1, metered)));
+    assert_eq!(energies, [[1, 0], [2_500, 0], [2_500, 1], [0, 0]]);
+}
+
+#[test]
+fn run_only_no_rows() {
+    let empty = Interval { rows: Vec::new(), ..x(1300) };
+    assert_eq!(tell(&bytes(&empty)), "0 0 0 0 0 0 0 3000 0\n");
+}
+
+#[test]
+fn run_only_no_payers() {
+    let lone = Interval { rows: x(1300).rows[..1].to_vec(), ..x(1300) };
+    assert_eq!(tell(&bytes(&lone)), "0 0 200 400 90000 90000 0 0 1\n1 2500 500 90000 90000 0 0 0 0\n");
+}
+
+#[test]
+fn run_only_capacity() {
+    let with_capacity = |capacity| {
+        let mut interval = x(1300);
+        interval.rows[1].capacity = capacity;
+        tell(&bytes(&interval))
+    };
+    assert!(with_capacity(2_000).starts_with("0 0 200 400"));
+    assert_eq!(with_capacity(2_001), "refused 6 2\n");
+}
+
+#[test]
+fn run_only_tier_1_bids() {
+    for (bid, accepted) in [(99, false), (100, true), (320, true), (321, false)] {
+        let mut interval = x(1300);
+        interval.rows[0].bids[0] = bid;
+        let text = tell(&bytes(&interval));
+        assert_eq!(text == "refused 6 1\n", !accepted, "bid {bid}");
+        assert_eq!(text.starts_with(&format!("0 0 {bid} 400 ")), accepted, "bid {bid}");
+    }
+}
+
+#[test]
+fn tell_prints_interval_x() {
+    let text = "0 0 200 400 90000 0 1 0 3\n\
+                1 2500 500 90000 0 0 0 0 0\n\
+                2 0 0 0 0 15000 65000 65000 1\n\
+                3 0 0 0 0 5000 32500 25000 0\n";
+    assert_eq!(tell(&bytes(&x(1300))), text);
+    assert_eq!(tell(b"PH"), "refused 1 0\n");
+}
+
+#[test]
+fn a_refusal_leaves_the_buffer() {
+    let mut statement = [7; 136];
+    assert_eq!(settle(&bytes(&x(1300)), &[], &mut statement), Err((11, 0)));
+    assert_eq!(statement, [7; 136]);
+}

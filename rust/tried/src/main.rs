@@ -1,0 +1,104 @@
+//! Prints the small intervals that the definitions are tried with, each as the reference answers it. One line for each
+//! case, parted by tabs, bytes in hex: its name, the interval, the correction; the length of the buffer, then number,
+//! value and the buffer afterwards; ids and the bytes that count for each; and for contents that can be written, the
+//! length of the writer's buffer, then number, value and that buffer afterwards.
+//! Every buffer is full of 255 before. With two numbers, a count and a seed, so many cases are drawn at random.
+
+use cases::random::Random;
+use cases::{Answer, Case, accepted, refused};
+
+mod small;
+
+const MOST_ROWS: u32 = 5;
+
+fn hex(bytes: &[u8]) -> String {
+    bytes.iter().map(|byte| format!("{byte:02x}")).collect()
+}
+
+fn drawn(random: &mut Random) -> Case {
+    match random.below(4) {
+        0 | 1 => accepted::small_case(random, MOST_ROWS),
+        2 => {
+            let base = refused::base(random, MOST_ROWS);
+            refused::several(random, &base).0
+        }
+        _ => {
+            let case = accepted::small_case(random, MOST_ROWS);
+            refused::scrambled(random, case)
+        }
+    }
+}
+
+fn cases_asked_for() -> Vec<Case> {
+    let numbers: Vec<u64> = std::env::args().skip(1).map(|word| word.parse().expect("a count and a seed")).collect();
+    match numbers[..] {
+        [count, seed] => {
+            let mut random = Random::from_seed(seed);
+            (0..count).map(|_| drawn(&mut random)).collect()
+        }
+        _ => small::cases(),
+    }
+}
+
+/// Length of the buffer, number, value and buffer afterwards of one call.
+fn outcome(length: usize, call: impl FnOnce(&mut [u8]) -> Answer) -> String {
+    let mut buffer = vec![255; length];
+    let (number, value) = match call(&mut buffer) {
+        Ok(written) => (0, written),
+        Err((number, place)) => (number, place.into()),
+    };
+    format!("{length}\t{number}\t{value}\t{}", hex(&buffer))
+}
+
+fn number(bytes: &[u8]) -> u32 {
+    bytes.iter().rev().fold(0, |number, &byte| number << 8 | u32::from(byte))
+}
+
+/// A few ids that either file might name, and some that none does.
+fn ids(case: &Case) -> Vec<u16> {
+    let named = |file: &[u8], head: usize| -> Vec<u16> {
+        let rows = file.get(head..).unwrap_or_default().chunks_exact(21);
+        rows.map(|row| number(&row[2..4]) as u16).take(3).collect()
+    };
+    let mut ids = [named(&case.interval, 15), named(&case.correction, 9), vec![0, 1, u16::MAX]].concat();
+    ids.sort_unstable();
+    ids.dedup();
+    ids
+}
+
+/// The figures of a file of the right length, whatever its marks and ranges.
+fn contents(file: &[u8]) -> Option<reference::Interval> {
+    let (head, body) = file.split_at_checked(15)?;
+    let row = |row: &[u8]| reference::Row {
+        id: number(&row[2..4]) as u16,
+        kind: row[4],
+        capacity: number(&row[5..7]) as u16,
+        metered: number(&row[7..11]),
+        status: row[11],
+        offered: row[12],
+        minimum: number(&row[13..17]),
+        bids: [number(&row[17..19]) as u16, number(&row[19..21]) as u16],
+    };
+    let contents = reference::Interval {
+        day: number(&head[2..6]),
+        quarter: head[6],
+        tariff: number(&head[7..9]) as u16,
+        need: number(&head[9..13]),
+        rows: body.chunks_exact(21).map(row).collect(),
+    };
+    (body.len() == 21 * number(&head[13..15]) as usize).then_some(contents)
+}
+
+fn main() {
+    for (place, case) in cases_asked_for().into_iter().enumerate() {
+        let settled = outcome(case.buffer, |buffer| reference::settle(&case.interval, &case.correction, buffer));
+        let counting = |id| hex(reference::counting_row(&case.interval, &case.correction, id));
+        let parts: Vec<String> = ids(&case).into_iter().map(|id| format!("{id}:{}", counting(id))).collect();
+        // The writer meets buffers that are a byte short, exact and longer, in turn.
+        let written = contents(&case.interval).map(|contents| {
+            outcome(case.interval.len() + place % 3 - 1, |buffer| reference::write_interval(&contents, buffer))
+        });
+        let files = [hex(&case.interval), hex(&case.correction)].join("\t");
+        println!("{}\t{files}\t{settled}\t{}\t{}", case.name, parts.join(","), written.unwrap_or_default());
+    }
+}

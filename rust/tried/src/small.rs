@@ -1,0 +1,375 @@
+//! Intervals of 0 to 5 rows, chosen so that every rule and every refusal is met at least once.
+
+use cases::Case;
+use cases::file::{Correction, Interval, Row};
+
+/// The cases of every group, each under a name of its own.
+pub fn cases() -> Vec<Case> {
+    [figures(), calls(), pay(), rounds(), corrections(), interval_faults(), correction_faults(), several_faults()]
+        .concat()
+}
+
+/// A case with a buffer of exactly the needed length.
+fn case(name: impl Into<String>, interval: &Interval) -> Case {
+    bytes_case(name, interval.bytes(), Vec::new(), interval.statement_length())
+}
+
+fn corrected(name: impl Into<String>, interval: &Interval, correction: &Correction) -> Case {
+    bytes_case(name, interval.bytes(), correction.bytes(), interval.statement_length())
+}
+
+fn bytes_case(name: impl Into<String>, interval: Vec<u8>, correction: Vec<u8>, buffer: usize) -> Case {
+    Case { name: name.into(), interval, correction, buffer }
+}
+
+/// Interval X at tariff 1300 with a change.
+fn x_with(change: impl FnOnce(&mut Interval)) -> Interval {
+    let mut interval = Interval::x(1300);
+    change(&mut interval);
+    interval
+}
+
+/// P1 to P5, and the figures of document 01 that are only run.
+fn figures() -> Vec<Case> {
+    let mut cases: Vec<Case> = [3545, 1350, 1300, 1200, 1000]
+        .map(|tariff| case(format!("X at tariff {tariff}"), &Interval::x(tariff)))
+        .to_vec();
+    for metered in [12_499, 10_000, 9_999, 12_500, 0] {
+        cases.push(case(format!("row 1 metered {metered}"), &x_with(|x| x.rows[0].metered = metered)));
+    }
+    cases.push(case("no rows", &x_with(|x| x.rows.clear())));
+    cases.push(case("no rows and no need", &Interval::new(1, 0, Vec::new())));
+    cases.push(case("no payers", &x_with(|x| x.rows.truncate(1))));
+    cases.push(case("no payers, nothing to pay", &Interval { need: 0, ..x_with(|x| x.rows.truncate(1)) }));
+    for capacity in [1, 2_000, 2_001] {
+        let change = |x: &mut Interval| x.rows[1] = Row { capacity, metered: 200, ..x.rows[1] };
+        cases.push(case(format!("capacity {capacity}"), &x_with(change)));
+    }
+    for bid in [99, 100, 320, 321] {
+        cases.push(case(format!("tier 1 bid {bid}"), &x_with(|x| x.rows[0].bids[0] = bid)));
+    }
+    for bid in [319, 320, 750, 751] {
+        cases.push(case(format!("tier 2 bid {bid}"), &x_with(|x| x.rows[0].bids[1] = bid)));
+    }
+    cases
+}
+
+/// Merit order, ties, empty bands and prices.
+fn calls() -> Vec<Case> {
+    // A band of 2,500 in tier 1 alone, for each 100 MW.
+    let narrow = |id, capacity: u16, bid| {
+        Row::thermal(id, capacity, 100 * u32::from(capacity)).offering(100 * u32::from(capacity), bid, 400)
+    };
+    let offers = |need, rows| Interval::new(500, need, rows);
+    let pair = || vec![narrow(1, 100, 200), narrow(2, 200, 200)];
+    let at_320 = || {
+        vec![
+            Row::thermal(1, 100, 9_000).offering(8_000, 320, 320),
+            Row::thermal(2, 100, 9_000).offering(9_000, 320, 320),
+            Row::wind(3, 50, 5_000),
+        ]
+    };
+    let mut cases = vec![
+        case("P9 as an interval", &offers(100, pair())),
+        case("three equal bands", &offers(100, vec![narrow(3, 7, 150), narrow(5, 7, 150), narrow(9, 7, 150)])),
+        case("leftover of two among four", &offers(6, [1, 2, 3, 4].map(|id| narrow(id, 7, 150)).to_vec())),
+        case("the dearer row first in the file", &offers(2_600, vec![narrow(1, 100, 300), narrow(2, 100, 200)])),
+        case("the dearer row is not reached", &offers(2_500, vec![narrow(1, 100, 300), narrow(2, 100, 200)])),
+        case("capacities 1 and 2000 tied", &offers(99, vec![narrow(1, 1, 100), narrow(65_535, 2_000, 100)])),
+        case("minimum at half load", &offers(50, vec![Row::thermal(1, 4, 0).offering(500, 100, 320)])),
+        case("minimum just below half load", &offers(50, vec![Row::thermal(1, 4, 0).offering(499, 100, 320)])),
+        case("minimum at 40 percent", &offers(200, vec![Row::thermal(1, 4, 0).offering(400, 100, 320)])),
+        case("minimum just below 40 percent", &offers(200, vec![Row::thermal(1, 4, 0).offering(399, 100, 320)])),
+        case(
+            "an empty band in a tied group",
+            &offers(7, vec![Row::thermal(1, 4, 0).offering(500, 100, 320), narrow(2, 4, 100), narrow(3, 4, 100)]),
+        ),
+        case(
+            "a dear empty band sets no price",
+            &offers(900, vec![Row::thermal(1, 4, 0).offering(500, 320, 750), narrow(2, 4, 100)]),
+        ),
+        case(
+            "every status is called",
+            &offers(300, (0..4).map(|s| narrow(s + 1, 4, 100).with_status(s as u8)).collect()),
+        ),
+    ];
+    for need in [0, 1, 4_999, 5_000, 5_001, 7_999, 8_000, 8_001, 64_000_000] {
+        cases.push(case(format!("tiers tied at 320, need {need}"), &offers(need, at_320())));
+    }
+    cases
+}
+
+/// Compensation: who is paid, for which tier, and half a fen.
+fn pay() -> Vec<Case> {
+    let lone = |need, row| Interval::new(10_000, need, vec![row, Row::wind(9, 100, 27_500)]);
+    let offer = |metered| Row::thermal(1, 100, metered).offering(0, 101, 321);
+    vec![
+        case("half a fen upward", &lone(1, offer(12_495))),
+        case("just below half a fen", &lone(1, offer(12_496))),
+        case("both tiers added before rounding", &lone(12_500, offer(9_995))),
+        case("called in tier 1 alone, metered in tier 2", &lone(1, offer(5_000))),
+        case("not called, so not paid", &lone(0, offer(5_000))),
+        case("starting, so not paid", &lone(12_500, offer(5_000).with_status(1))),
+        case("reduced for its own reasons, so not paid", &lone(12_500, offer(5_000).with_status(2))),
+        case("grid accident, so not paid", &lone(12_500, offer(5_000).with_status(3))),
+        case("called and paying", &lone(12_500, offer(20_000))),
+        case("not offering and below half load", &lone(12_500, Row::thermal(1, 100, 5_000))),
+    ]
+}
+
+/// Weights, caps, rounds, shortfall and cuts.
+fn rounds() -> Vec<Case> {
+    let receiver = |id| Row::thermal(id, 100, 9_000).offering(8_000, 200, 400);
+    let paying = |tariff, payers: &[Row]| {
+        let rows = std::iter::once(receiver(1)).chain(payers.iter().copied()).collect();
+        Interval::new(tariff, 3_000, rows)
+    };
+    let mut cases = Vec::new();
+    for kwh in [12_500, 12_501, 15_000, 15_001, 17_500, 17_501, 27_500] {
+        cases.push(case(format!("one thermal payer at {kwh}"), &paying(2_000, &[Row::thermal(2, 100, kwh)])));
+    }
+    let equal = [2, 3, 4, 5].map(|id| Row::wind(id, 100, 7_000));
+    let mixed = [
+        Row::thermal(2, 100, 27_500),
+        Row::thermal(3, 100, 17_500),
+        Row::solar(4, 100, 5_000),
+        Row::thermal(5, 100, 13_000),
+    ];
+    for tariff in [1, 300, 500, 550, 600, 650, 700, 800, 900, 1_200, 10_000] {
+        cases.push(case(format!("four unlike payers at tariff {tariff}"), &paying(tariff, &mixed)));
+    }
+    let staircase = |tariff| {
+        let rows = vec![
+            Row::thermal(1, 50, 10_900),
+            receiver(2),
+            Row::thermal(3, 300, 82_150),
+            Row::thermal(4, 50, 7_000),
+            Row::thermal(5, 100, 18_400),
+        ];
+        Interval::new(tariff, 3_000, rows)
+    };
+    let thirds = Interval { need: 2_500, ..paying(200, &equal.map(|row| Row { metered: 16_667, ..row })[..3]) };
+    let a_hundred_and_one = |tariff| {
+        let mut interval = Interval { need: 1, ..paying(tariff, &equal) };
+        interval.rows[0] = Row { metered: 12_495, bids: [201, 400], ..interval.rows[0] };
+        interval
+    };
+    cases.extend([
+        case("three equal payers", &paying(10_000, &equal[..3])),
+        case("three equal payers capped", &paying(500, &equal[..3])),
+        case(
+            "three equal payers exactly at their caps",
+            &paying(1_000, &equal.map(|row| Row { metered: 6_000, ..row })[..3]),
+        ),
+        case("open payers rounded up to their caps", &thirds),
+        case("101 fen among four equal payers", &a_hundred_and_one(10_000)),
+        case("one payer in each of four rounds", &staircase(300)),
+        case("a hao more of tariff", &staircase(301)),
+        case("the last of four stays open", &staircase(305)),
+        case(
+            "half load beside a capped payer",
+            &paying(300, &[Row::thermal(2, 100, 12_500), Row::wind(3, 100, 5_000)]),
+        ),
+        case("half load alone", &paying(300, &[Row::thermal(2, 100, 12_500)])),
+        case("a wind farm at nothing", &paying(300, &[Row::wind(2, 100, 0)])),
+        case("a cap of 0 closes though nothing is due", &Interval { need: 0, ..paying(1, &[Row::wind(2, 100, 199)]) }),
+        case(
+            "a cap of 1 stays open where nothing is due",
+            &Interval { need: 0, ..paying(1, &[Row::wind(2, 100, 200)]) },
+        ),
+        case("a cap of 0 beside an open payer", &paying(199, &[Row::wind(2, 1, 1), Row::wind(3, 2_000, 550_000)])),
+        case(
+            "wind in a grid accident",
+            &paying(900, &[Row::wind(2, 100, 9_000).with_status(3), Row::solar(3, 100, 9_000)]),
+        ),
+        case(
+            "every status of a thermal payer",
+            &paying(
+                900,
+                &[0, 1, 2, 3].map(|status| Row::thermal(2 + u16::from(status), 100, 20_000).with_status(status)),
+            ),
+        ),
+        case(
+            "three receivers cut alike",
+            &Interval::new(77, 9_000, vec![receiver(1), receiver(2), receiver(3), Row::wind(4, 10, 2_600)]),
+        ),
+        case(
+            "unlike receivers cut",
+            &Interval::new(
+                77,
+                9_000,
+                vec![
+                    Row { metered: 12_498, ..receiver(1) },
+                    Row { metered: 12_499, ..receiver(2) },
+                    receiver(3),
+                    Row::wind(4, 10, 2_600),
+                ],
+            ),
+        ),
+        case("the longest day", &Interval { day: 36_524, quarter: 95, ..Interval::x(1300) }),
+    ]);
+    cases
+}
+
+/// Corrections that are accepted, and buffers of several lengths.
+fn corrections() -> Vec<Case> {
+    let x = Interval::x(1300);
+    let changing = |places: &[usize], change: &dyn Fn(&mut [Row])| {
+        let mut correction = x.correcting(places);
+        change(&mut correction.rows);
+        correction
+    };
+    let dated = Interval { day: 36_524, quarter: 95, ..x.clone() };
+    let mut cases = vec![
+        corrected("nothing changed", &x, &x.correcting(&[0, 1, 2])),
+        corrected("the receiver's energy", &x, &changing(&[0], &|rows| rows[0].metered = 11_000)),
+        corrected("a payer's energy", &x, &changing(&[1], &|rows| rows[0].metered = 27_500)),
+        corrected("a payer becomes none", &x, &changing(&[1], &|rows| rows[0].metered = 12_499)),
+        corrected("the wind farm had an accident", &x, &changing(&[2], &|rows| rows[0].status = 3)),
+        corrected("the receiver was starting", &x, &changing(&[0], &|rows| rows[0].status = 1)),
+        corrected(
+            "first and last",
+            &x,
+            &changing(&[0, 2], &|rows| {
+                rows[0].metered = 9_999;
+                rows[1].metered = 27_500;
+            }),
+        ),
+        corrected("on the longest day", &dated, &dated.correcting(&[1])),
+    ];
+    for buffer in [138, 150, 171] {
+        cases.push(bytes_case(format!("a buffer of {buffer}"), x.bytes(), Vec::new(), buffer));
+    }
+    cases.push(bytes_case("no rows in a buffer of 40", x_with(|x| x.rows.clear()).bytes(), Vec::new(), 40));
+    cases
+}
+
+/// 1 to 7 and 11, one fault at a time.
+fn interval_faults() -> Vec<Case> {
+    let x = Interval::x(1300);
+    let cut = |length: usize| bytes_case(format!("cut to {length}"), x.bytes()[..length].to_vec(), Vec::new(), 137);
+    let mut cases = vec![cut(0), cut(1), cut(14), cut(15), cut(77)];
+    let mut head = |name: &str, change: &dyn Fn(&mut Interval)| {
+        let changed = x_with(change);
+        cases.push(bytes_case(name, changed.bytes(), Vec::new(), 137));
+    };
+    head("head mark PK", &|x| x.mark = *b"PK");
+    head("head mark QH", &|x| x.mark = *b"QH");
+    head("day 36525", &|x| x.day = 36_525);
+    head("quarter 96", &|x| x.quarter = 96);
+    head("tariff 0", &|x| x.tariff = 0);
+    head("tariff 10001", &|x| x.tariff = 10_001);
+    head("need 64000001", &|x| x.need = 64_000_001);
+    head("257 rows", &|x| x.count = Some(257));
+    head("256 rows counted, 3 there", &|x| x.count = Some(256));
+    head("2 rows counted, 3 there", &|x| x.count = Some(2));
+    head("row mark PL", &|x| x.rows[2].mark = *b"PL");
+    head("row mark QR", &|x| x.rows[0].mark = *b"QR");
+    head("id 0", &|x| x.rows[0].id = 0);
+    head("kind 0", &|x| x.rows[1].kind = 0);
+    head("kind 4", &|x| x.rows[1].kind = 4);
+    head("capacity 0", &|x| x.rows[2] = Row { capacity: 0, metered: 0, ..x.rows[2] });
+    head("metered one too many", &|x| x.rows[1].metered = 27_501);
+    head("metered at the most", &|x| x.rows[1].metered = 27_500);
+    head("thermal status 4", &|x| x.rows[0].status = 4);
+    head("wind status 1", &|x| x.rows[2].status = 1);
+    head("wind status 2", &|x| x.rows[2].status = 2);
+    head("offered 2", &|x| x.rows[0].offered = 2);
+    head("wind offers", &|x| x.rows[2] = x.rows[2].offering(0, 100, 320));
+    head("not offered, with a minimum", &|x| x.rows[1].minimum = 1);
+    head("not offered, with a tier 1 bid", &|x| x.rows[1].bids[0] = 100);
+    head("not offered, with a tier 2 bid", &|x| x.rows[1].bids[1] = 320);
+    head("offered without bids", &|x| x.rows[1].offered = 1);
+    head("minimum above half load", &|x| x.rows[0].minimum = 12_501);
+    head("an id twice", &|x| x.rows[1].id = 1);
+    head("ids falling", &|x| x.rows[2].id = 1);
+    let mut longer = x.bytes();
+    longer.push(0);
+    cases.push(bytes_case("a byte too many", longer, Vec::new(), 137));
+    for buffer in [0, 35, 136] {
+        cases.push(bytes_case(format!("a buffer of {buffer}"), x.bytes(), Vec::new(), buffer));
+    }
+    cases.push(bytes_case("no rows in a buffer of 34", x_with(|x| x.rows.clear()).bytes(), Vec::new(), 34));
+    cases
+}
+
+/// 8, 9 and 10, one fault at a time.
+fn correction_faults() -> Vec<Case> {
+    let x = Interval::x(1300);
+    let good = x.correcting(&[0, 1, 2]);
+    let cut = |length: usize| {
+        bytes_case(format!("correction cut to {length}"), x.bytes(), good.bytes()[..length].to_vec(), 137)
+    };
+    let mut cases = vec![cut(1), cut(8), cut(9), cut(71)];
+    let mut faulty = |name: &str, change: &dyn Fn(&mut Correction)| {
+        let mut correction = good.clone();
+        change(&mut correction);
+        cases.push(corrected(name, &x, &correction));
+    };
+    faulty("correction mark PH", &|k| k.mark = *b"PH");
+    faulty("correction day 36525", &|k| k.day = 36_525);
+    faulty("correction quarter 96", &|k| k.quarter = 96);
+    faulty("correction of 0 rows, 3 there", &|k| k.count = Some(0));
+    faulty("correction of 0 rows", &|k| k.rows.clear());
+    faulty("correction of 257 rows", &|k| k.count = Some(257));
+    faulty("correction of 4 rows, 3 there", &|k| k.count = Some(4));
+    faulty("correction row mark", &|k| k.rows[1].mark = *b"PL");
+    faulty("correction id 0", &|k| k.rows[0].id = 0);
+    faulty("correction metered too much", &|k| k.rows[2].metered = 27_501);
+    faulty("correction wind status 2", &|k| k.rows[2].status = 2);
+    faulty("correction bid 321", &|k| k.rows[0].bids[0] = 321);
+    faulty("correction id twice", &|k| k.rows[2].id = 2);
+    faulty("correction of another day", &|k| k.day = 1);
+    faulty("correction of another quarter", &|k| k.quarter = 1);
+    faulty("correction of an unknown row", &|k| k.rows[2].id = 4);
+    faulty("correction of an unknown first row", &|k| {
+        k.rows.truncate(1);
+        k.rows[0].id = 65_535;
+    });
+    faulty("correction of kind", &|k| k.rows[2].kind = 3);
+    faulty("correction of capacity", &|k| k.rows[1].capacity = 101);
+    faulty("correction of offered", &|k| k.rows[1] = k.rows[1].offering(0, 100, 320));
+    faulty("correction of an offer withdrawn", &|k| {
+        k.rows[0] = Row { offered: 0, minimum: 0, bids: [0, 0], ..k.rows[0] }
+    });
+    faulty("correction of minimum", &|k| k.rows[0].minimum = 8_001);
+    faulty("correction of the tier 1 bid", &|k| k.rows[0].bids[0] = 201);
+    faulty("correction of the tier 2 bid", &|k| k.rows[0].bids[1] = 401);
+    cases.push(corrected("correction of no rows at all", &x_with(|x| x.rows.clear()), &good));
+    cases
+}
+
+/// Several faults at once: the first in order of checking counts.
+fn several_faults() -> Vec<Case> {
+    let x = Interval::x(1300);
+    let good = x.correcting(&[0, 1, 2]);
+    let mut cases = Vec::new();
+    let mut faulty = |name: &str, buffer, change: &dyn Fn(&mut Interval, &mut Correction)| {
+        let (mut interval, mut correction) = (x.clone(), good.clone());
+        change(&mut interval, &mut correction);
+        cases.push(bytes_case(name, interval.bytes(), correction.bytes(), buffer));
+    };
+    faulty("2 before 3", 137, &|x, _| (x.mark, x.tariff) = (*b"PX", 0));
+    faulty("3 before 4", 137, &|x, _| (x.day, x.count) = (36_525, Some(1)));
+    faulty("3 before 4 by the count", 137, &|x, _| x.count = Some(300));
+    faulty("4 before 5", 137, &|x, _| (x.count, x.rows[0].mark) = (Some(4), *b"XX"));
+    faulty("6 of row 1 before 5 of row 2", 137, &|x, _| (x.rows[0].kind, x.rows[1].mark) = (9, *b"XX"));
+    faulty("7 of row 2 before 5 of row 3", 137, &|x, _| (x.rows[1].id, x.rows[2].mark) = (1, *b"XX"));
+    faulty("5 before 6 and 7", 137, &|x, _| x.rows[1] = Row { mark: *b"XX", id: 1, kind: 9, ..x.rows[1] });
+    faulty("6 before 7", 137, &|x, _| x.rows[1] = Row { id: 1, kind: 9, ..x.rows[1] });
+    faulty("id 0 in row 2 is 6", 137, &|x, _| x.rows[1].id = 0);
+    faulty("7 before 8", 137, &|x, k| (x.rows[2].id, k.mark) = (2, *b"XX"));
+    faulty("8 by its length before its rows", 137, &|_, k| (k.count, k.rows[0].mark) = (Some(2), *b"XX"));
+    faulty("8 by its day before its rows", 137, &|_, k| (k.day, k.rows[0].mark) = (36_525, *b"XX"));
+    faulty("8 of row 1 before row 2", 137, &|_, k| (k.rows[0].id, k.rows[1].mark) = (0, *b"XX"));
+    faulty("8 of row 3 before 9", 137, &|_, k| (k.day, k.rows[2].status) = (1, 1));
+    faulty("8 of row 3 before 10 of row 1", 137, &|_, k| (k.rows[0].bids[0], k.rows[2].status) = (201, 1));
+    faulty("9 before 10", 137, &|_, k| (k.quarter, k.rows[0].bids[0]) = (1, 201));
+    faulty("10 of row 2 before row 3", 137, &|_, k| (k.rows[1].capacity, k.rows[2].id) = (101, 4));
+    faulty("10 before 11", 136, &|_, k| k.rows[2].kind = 3);
+    faulty("11 last", 136, &|_, _| ());
+    faulty("8 with an interval that is too short", 137, &|x, k| {
+        (x.rows, x.count, k.mark) = (Vec::new(), Some(3), *b"XX");
+    });
+    cases
+}

@@ -1,0 +1,178 @@
+//! The reference on random and damaged files: it meets every refusal that is due, and every statement its demands.
+//!
+//! `SEED=n` repeats a run, `TRIALS=n` makes it longer.
+
+use cases::random::Random;
+use cases::refused::{self, Fault, HeadField};
+use cases::{Case, Outcome, accepted, demands, lengths_near};
+
+fn seed_and_trials() -> (u64, u64) {
+    let read = |name, otherwise| std::env::var(name).map_or(otherwise, |text| text.parse().expect(name));
+    (read("SEED", 1), read("TRIALS", 2_000))
+}
+
+fn run(case: &Case, seed: u64) -> Outcome {
+    case.run(reference::settle).unwrap_or_else(|what| panic!("{what}; {} of seed {seed}", case.name))
+}
+
+#[test]
+fn accepted_files_meet_the_demands() {
+    let (seed, trials) = seed_and_trials();
+    let mut random = Random::from_seed(seed);
+    for _ in 0..trials {
+        let case = accepted::case(&mut random);
+        let outcome = run(&case, seed);
+        let length = outcome.answer.unwrap_or_else(|refusal| panic!("{refusal:?}: {} of seed {seed}", case.name));
+        let verdict = demands::check(&outcome.buffer[..length]);
+        assert_eq!(verdict, Ok(()), "{} of seed {seed}", case.name);
+    }
+}
+
+#[test]
+fn a_correction_settles_as_the_corrected_interval() {
+    let (seed, trials) = seed_and_trials();
+    let mut random = Random::from_seed(seed);
+    for _ in 0..trials / 4 {
+        let shape = random.one_of(&accepted::SHAPES);
+        let whole = accepted::interval(&mut random, shape);
+        if whole.rows.is_empty() {
+            continue;
+        }
+        let (spoilt, correction) = accepted::spoil(&mut random, whole.clone());
+        let buffer = whole.statement_length();
+        let name = format!("{shape:?}");
+        let alone = Case { name: name.clone(), interval: whole.bytes(), correction: Vec::new(), buffer };
+        let pair = Case { name, interval: spoilt.bytes(), correction: correction.bytes(), buffer };
+        let outcome = run(&alone, seed);
+        assert_eq!(outcome.answer, Ok(buffer), "{shape:?} of seed {seed}");
+        assert_eq!(outcome, run(&pair, seed), "{shape:?} of seed {seed}");
+        for row in &whole.rows {
+            assert_eq!(reference::counting_row(&pair.interval, &pair.correction, row.id), row.bytes());
+        }
+        assert!(reference::counting_row(&pair.interval, &pair.correction, 0).is_empty());
+    }
+}
+
+#[test]
+fn many_rounds_are_reached() {
+    let (seed, _) = seed_and_trials();
+    let mut random = Random::from_seed(seed);
+    let rounds: Vec<u16> = (0..100)
+        .map(|_| {
+            let interval = accepted::interval(&mut random, accepted::Shape::ManyRounds);
+            let mut statement = vec![0; interval.statement_length()];
+            reference::settle(&interval.bytes(), &[], &mut statement).expect("accepted");
+            u16::from_le_bytes([statement[27], statement[28]])
+        })
+        .collect();
+    println!("rounds: {rounds:?}");
+    assert!(rounds.iter().any(|&rounds| rounds >= 15), "seed {seed}");
+    assert!(rounds.iter().filter(|&&rounds| rounds >= 10).count() >= 80, "seed {seed}");
+}
+
+#[test]
+fn every_fault_is_refused_with_its_number_and_place() {
+    let (seed, trials) = seed_and_trials();
+    let mut random = Random::from_seed(seed);
+    for _ in 0..20 {
+        let base = refused::base(&mut random, 12);
+        for fault in refused::faults(&base) {
+            let (case, due) = refused::damaged(&base, &[fault]);
+            assert_eq!(run(&case, seed).answer, Err(due), "{} of seed {seed}", case.name);
+        }
+        for _ in 0..trials / 4 {
+            let (case, due) = refused::several(&mut random, &base);
+            assert_eq!(run(&case, seed).answer, Err(due), "{} of seed {seed}", case.name);
+        }
+    }
+}
+
+#[test]
+fn scrambled_files_are_settled_or_refused_within_bounds() {
+    let (seed, trials) = seed_and_trials();
+    let mut random = Random::from_seed(seed);
+    for _ in 0..trials * 4 {
+        let whole = accepted::case(&mut random);
+        let case = refused::scrambled(&mut random, whole);
+        let outcome = run(&case, seed);
+        match outcome.answer {
+            Ok(length) => assert_eq!(demands::check(&outcome.buffer[..length]), Ok(()), "{} of seed {seed}", case.name),
+            Err((number, place)) => assert!((1..=11).contains(&number) && place <= 256, "{} of seed {seed}", case.name),
+        }
+    }
+}
+
+#[test]
+fn buffers_of_every_length_near_the_needed_one() {
+    let (seed, _) = seed_and_trials();
+    let mut random = Random::from_seed(seed);
+    for _ in 0..40 {
+        let mut case = accepted::case(&mut random);
+        let needed = 35 + (case.interval.len() - 15) / 21 * 34;
+        for length in lengths_near(needed) {
+            case.buffer = length;
+            let due = if length < needed { Err((11, 0)) } else { Ok(needed) };
+            assert_eq!(run(&case, seed).answer, due, "{} of seed {seed}", case.name);
+        }
+    }
+}
+
+#[test]
+fn an_interval_is_written_as_it_was_read() {
+    let (seed, trials) = seed_and_trials();
+    let mut random = Random::from_seed(seed);
+    for _ in 0..trials / 4 {
+        let shape = random.one_of(&accepted::SHAPES);
+        let file = accepted::interval(&mut random, shape).bytes();
+        let case = |buffer| Case { name: format!("{shape:?}"), interval: file.clone(), correction: Vec::new(), buffer };
+        let rewritten = |case: Case| {
+            let rewrite = |interval: &[u8], _: &[u8], out: &mut [u8]| reference::rewrite(interval, out);
+            case.run(rewrite).unwrap_or_else(|what| panic!("{what}; {shape:?} of seed {seed}"))
+        };
+        let outcome = rewritten(case(file.len() + 3));
+        assert_eq!(outcome.answer, Ok(file.len()));
+        assert_eq!(outcome.buffer[..file.len()], file);
+        assert_eq!(rewritten(case(file.len() - 1)).answer, Err((11, 0)));
+    }
+}
+
+#[test]
+fn contents_are_checked_before_they_are_written() {
+    let base = refused::base(&mut Random::from_seed(7), 12);
+    let read = reference::read_interval(&base.interval.bytes()).expect("accepted");
+    let mut out = vec![0; 6_000];
+    let mut refused = |change: &dyn Fn(&mut reference::Interval)| {
+        let mut contents = read.clone();
+        change(&mut contents);
+        reference::write_interval(&contents, &mut out)
+    };
+    assert_eq!(refused(&|contents| contents.tariff = 0), Err((3, 0)));
+    assert_eq!(refused(&|contents| contents.rows = vec![contents.rows[0]; 257]), Err((3, 0)));
+    assert_eq!(refused(&|contents| contents.rows[2].capacity = 0), Err((6, 3)));
+    assert_eq!(refused(&|contents| contents.rows[1].id = contents.rows[0].id), Err((7, 2)));
+    let head = Fault::Head(HeadField::Tariff(0));
+    let (case, due) = refused::damaged(&base, &[head]);
+    assert_eq!(reference::rewrite(&case.interval, &mut []), Err(due));
+}
+
+#[test]
+fn a_changed_figure_fails_the_demands() {
+    let (seed, trials) = seed_and_trials();
+    let mut random = Random::from_seed(seed);
+    for _ in 0..trials / 4 {
+        let case = accepted::case(&mut random);
+        let outcome = run(&case, seed);
+        let statement = &outcome.buffer[..outcome.answer.expect("accepted")];
+        // Total, shortfall and rounds in the head; compensation, cut and paid in a line.
+        let mut places = vec![11, 19, 27];
+        if statement.len() > 35 {
+            let line = 35 + 34 * random.below((statement.len() - 35) / 34);
+            places.extend([12, 16, 28].map(|field| line + field));
+        }
+        for place in places {
+            let mut changed = statement.to_vec();
+            changed[place] ^= 1;
+            assert!(demands::check(&changed).is_err(), "byte {place}: {} of seed {seed}", case.name);
+        }
+    }
+}
