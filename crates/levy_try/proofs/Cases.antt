@@ -6,8 +6,8 @@
 --     told, made     what the code answers is the outcome, and the payments, of the case
 --     p4, p5, four   what the cases come to, and with -paid what is paid in them
 -- Assumes nothing.
-use Prim.Native.Nat.{ℕ, zero, suc, _≤_, _<_, zero-le}
-use mathlib.Core.Path.{_≡_, refl, ap, sym, _∙_}
+use Prim.Native.Nat.{ℕ, zero, suc, _≤_, zero-le}
+use mathlib.Core.Path.{_≡_, refl, ap, _∙_}
 use mathlib.Core.Bool.{Bool, true, false, _&&_}
 use mathlib.Core.List.{List, [], _∷_}
 use lib.Dec.{T, eqb, leb, ltb, leb→le, ltb→lt, eqb→eq}
@@ -15,9 +15,9 @@ use lib.ListN.{length, take}
 use borrow.Author.Tests.{eq-eqb}
 use Rattle.columns.specs.Table.{at, table}
 use Rattle.columns.specs.Sum.{sumTo, countTo}
-use Rattle.share.specs.Share.{whole, quota, rest, turn, before, rank, left, share, shares}
+use Rattle.share.specs.Share.{whole, quota, rest, turn, before, rank, left, share}
 use Rattle.levy.specs.Rounds.{Standing, closes, closed, next, run, opening, final, openWeights, paid, payments, shortfall}
-use Rattle.levy.specs.Asked.{standingOf, Columns, Finished, Short, Payable}
+use Rattle.levy.specs.Asked.{standingOf, Finished, Short, Payable}
 use Rattle.levy.specs.declared.Rest.{Rest}
 use Rattle.levy.proofs.Making.{payable}
 use Rattle.levy_try.specs.Shown.{Case, outcome, paidIn}
