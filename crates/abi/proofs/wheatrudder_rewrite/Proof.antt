@@ -1,0 +1,27 @@
+-- `abi::wheatrudder_rewrite` meets its contract, for a file that is refused and for one that is read. Assumes nothing.
+use Rattle.abi.proofs.Told.{read-number-fits, read-place-fits, unread-told, unread-buffer, read-told, read-buffer}
+use borrow.Author.Needs.{needs}
+use Rattle.abi.proofs.wheatrudder_rewrite.Statement.{statement}
+use Rattle.abi.proofs.wheatrudder_rewrite.Tie as tie
+
+read-requires : tie.Need-read-requires
+read-requires c κs = search needs
+
+pack-requires : tie.Need-pack-requires
+pack-requires c κs = (search read-number-fits, search read-place-fits)
+
+returns : tie.Need-returns
+returns c = (search unread-told, search unread-buffer)
+
+write-requires : tie.Need-write-requires
+write-requires c κs = search needs
+
+same-length : tie.Need-same-length
+same-length c = search needs
+
+returns-2 : tie.Need-returns-2
+returns-2 c = (search read-told, search read-buffer)
+
+pub wheatrudder-rewrite-spec : {M : Type 1} → statement M
+wheatrudder-rewrite-spec =
+    tie.close (tie.spec read-requires pack-requires returns write-requires same-length returns-2)

@@ -1,0 +1,46 @@
+-- `abi::write` meets its contract, for bytes written and for a refusal. Assumes nothing.
+use Rattle.abi.proofs.Told.{written-count-fits, written-number-fits, written-place-fits, bytes-told, unwritten-told}
+use borrow.Author.Needs.{needs}
+use Rattle.abi.proofs.write.Statement.{statement}
+use Rattle.abi.proofs.write.Tie as tie
+
+write-requires : tie.Need-write-requires
+write-requires c κs = search needs
+
+enum-known-written : tie.Need-enum-known-written
+enum-known-written c = search needs
+
+pack-requires : tie.Need-pack-requires
+pack-requires c κs = (search needs, search written-count-fits)
+
+enum-known-written-2 : tie.Need-enum-known-written-2
+enum-known-written-2 c = search needs
+
+pack-requires-2 : tie.Need-pack-requires-2
+pack-requires-2 c κs = (search written-number-fits, search written-place-fits)
+
+same-length : tie.Need-same-length
+same-length c = search needs
+
+returns : tie.Need-returns
+returns c = (search bytes-told, search needs)
+
+same-length-2 : tie.Need-same-length-2
+same-length-2 c = search needs
+
+returns-2 : tie.Need-returns-2
+returns-2 c = (search unwritten-told, search needs)
+
+pub write-spec : {M : Type 1} → statement M
+write-spec =
+    tie.close
+    (tie.spec
+    write-requires
+    enum-known-written
+    pack-requires
+    enum-known-written-2
+    pack-requires-2
+    same-length
+    returns
+    same-length-2
+    returns-2)

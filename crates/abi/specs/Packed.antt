@@ -1,0 +1,55 @@
+-- The library's answers to C: a number and a value in one word of 64 bits, and the buffers afterwards (01, The files; Numbers of refusal).
+-- Assumes nothing.
+use Prim.Native.Nat.{ℕ, _+_, _*_}
+use mathlib.Core.Bool.{cond}
+use mathlib.Core.List.{List}
+use lib.Dec.{ltb, eqb}
+use lib.ListN.{length}
+use Rattle.columns.specs.Buffer.{put}
+use Rattle.files.specs.Counting.{countingBytes}
+use Rattle.contents.specs.Content.{readingOf, writtenOf, writtenBuffer}
+use Rattle.contents.specs.declared.Written.{Written}
+use Rattle.contents.specs.declared.Written.the-variants.{Bytes, Refused}
+use Rattle.settle.specs.Answer.{answerOf, numberOf, valueOf}
+
+-- the number in the upper 32 bits, the value in the lower
+abbrev pub packed : ℕ → ℕ → ℕ
+packed number value = number * 4294967296 + value
+
+-- the engine's answer: 0 and the count of bytes, or the refusal's number and place
+unfoldable pub settled : List ℕ → List ℕ → ℕ → ℕ
+settled s k room =
+    let a = answerOf s k room in
+    packed (numberOf a) (valueOf a)
+
+-- the row that counts: 0 and how many bytes were copied, which is none where nobody names the row; 11 where the buffer is shorter
+unfoldable pub copied : List ℕ → List ℕ → ℕ → ℕ → ℕ
+copied s k id room =
+    let part = countingBytes s k id in
+    cond (ltb room (length part)) (packed 11 0) (packed 0 (length part))
+
+unfoldable pub copiedBuffer : List ℕ → List ℕ → ℕ → List ℕ → List ℕ
+copiedBuffer s k id out =
+    let part = countingBytes s k id in
+    cond (ltb (length out) (length part)) out (put out 0 part)
+
+-- the writer's number and value: 0 and the count of bytes, or the refusal's number and place
+abbrev pub writtenNumber : Written → ℕ
+writtenNumber (Bytes count) = 0
+writtenNumber (Refused number place) = number
+
+abbrev pub writtenValue : Written → ℕ
+writtenValue (Bytes count) = count
+writtenValue (Refused number place) = place
+
+-- contents read, then written: the reader's refusal if there is one, else the writer's answer
+unfoldable pub rewritten : List ℕ → ℕ → ℕ
+rewritten s room =
+    let r = readingOf s in
+    let w = writtenOf (r .contents) room in
+    cond (eqb (r .number) 0) (packed (writtenNumber w) (writtenValue w)) (packed (r .number) (r .place))
+
+unfoldable pub rewrittenBuffer : List ℕ → List ℕ → List ℕ
+rewrittenBuffer s out =
+    let r = readingOf s in
+    cond (eqb (r .number) 0) (writtenBuffer (r .contents) out) out

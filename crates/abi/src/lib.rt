@@ -1,0 +1,82 @@
+// The library for C and Rust: the engine's three public parts on numbers and byte slices. A slice is a pointer and a length.
+// Every answer is one word: number × 2^32 + value. Number 0 is success, and the value counts bytes; any other number is a
+// refusal, and the value is its place (01, Numbers of refusal).
+use columns::put_bytes;
+use contents::Contents;
+use contents::Written;
+use settle::Answer;
+ghost use mathlib.Core.Path.{_≡_};
+ghost use Prim.Native.Nat.{_≤_, _<_};
+ghost use lib.ListN.{length};
+ghost use Rattle.settle.specs.Answer.{bufferAfter};
+ghost use Rattle.contents.specs.Content.{writtenOf, writtenBuffer};
+ghost use Rattle.abi.specs.Packed.{packed, settled, copied, copiedBuffer, writtenNumber, writtenValue, rewritten, rewrittenBuffer};
+
+// Number and value in one word.
+fn pack(number: usize, value: usize) -> u64
+    requires { ⌜ (number ≤ 11) × (value < 4294967296) ⌝ }
+    ensures { λ r. ⌜ r ≡ packed number value ⌝ }
+{
+    (number as u64) * 4294967296 + (value as u64)
+}
+
+// Settles an interval file with its correction (length 0: none) into a lent buffer.
+#[no_mangle]
+pub extern "C" fn wheatrudder_settle(
+    interval: &[u8],
+    correction: &[u8],
+    statement: &mut [u8],
+) -> u64
+    ensures { λ r. ⌜ r ≡ settled (now (interval .entry)) (now (correction .entry)) (length (now (statement .entry))) ⌝ }
+    ensures { λ r. ⌜ now (statement .exit) ≡ bufferAfter (now (interval .entry)) (now (correction .entry)) (now (statement .entry)) ⌝ }
+{
+    let answer = settle::settle(interval, correction, statement);
+    match answer {
+        Answer::Settled(count) => pack(0, count),
+        Answer::Refused(number, place) => pack(number, place),
+    }
+}
+
+// Copies the bytes that count for a row into a lent buffer.
+#[no_mangle]
+pub extern "C" fn wheatrudder_row<'a>(
+    interval: &'a [u8],
+    correction: &'a [u8],
+    id: u16,
+    out: &mut [u8],
+) -> u64
+    ensures { λ r. ⌜ r ≡ copied (now (interval .entry)) (now (correction .entry)) id (length (now (out .entry))) ⌝ }
+    ensures { λ r. ⌜ now (out .exit) ≡ copiedBuffer (now (interval .entry)) (now (correction .entry)) id (now (out .entry)) ⌝ }
+{
+    let part = files::counting(interval, correction, id);
+    if out.len() < part.len() {
+        return pack(11, 0);
+    }
+    put_bytes(out, 0, part);
+    pack(0, part.len())
+}
+
+// Contents written, answered in one word.
+fn write(contents: Contents, out: &mut [u8]) -> u64
+    ensures { λ r. ⌜ r ≡ packed (writtenNumber (writtenOf contents (length (now (out .entry))))) (writtenValue (writtenOf contents (length (now (out .entry))))) ⌝ }
+    ensures { λ r. ⌜ now (out .exit) ≡ writtenBuffer contents (now (out .entry)) ⌝ }
+{
+    let written = contents::write(contents, out);
+    match written {
+        Written::Bytes(count) => pack(0, count),
+        Written::Refused(number, place) => pack(number, place),
+    }
+}
+
+// Reads an interval file's contents and writes them again into a lent buffer.
+#[no_mangle]
+pub extern "C" fn wheatrudder_rewrite(interval: &[u8], out: &mut [u8]) -> u64
+    ensures { λ r. ⌜ r ≡ rewritten (now (interval .entry)) (length (now (out .entry))) ⌝ }
+    ensures { λ r. ⌜ now (out .exit) ≡ rewrittenBuffer (now (interval .entry)) (now (out .entry)) ⌝ }
+{
+    let reading = contents::read(interval);
+    if reading.number != 0 {
+        return pack(reading.number, reading.place);
+    }
+    write(reading.contents, out)
+}

@@ -1,0 +1,151 @@
+//! The engine beside the reference on one trial: answers, whole buffers, and what every statement owes.
+//!
+//! Each trial is drawn from the run's seed and its own number, so that one alone can be repeated.
+
+use cases::random::Random;
+use cases::{Answer, Case, Outcome, accepted, demands, lengths_near, pattern, refused};
+
+/// The engine in the form that `Case::run` takes.
+pub fn settle(interval: &[u8], correction: &[u8], statement: &mut [u8]) -> Answer {
+    plain(wheatrudder::settle(interval, correction, statement))
+}
+
+pub fn rewrite(interval: &[u8], _: &[u8], out: &mut [u8]) -> Answer {
+    plain(wheatrudder::rewrite(interval, out))
+}
+
+fn plain(answer: wheatrudder::Answer) -> Answer {
+    answer.map_err(|refusal| {
+        let number = refusal.number.try_into().expect("a refusal's number fits a byte");
+        (number, refusal.place.try_into().expect("a place fits two bytes"))
+    })
+}
+
+/// How the trials of a run ended.
+#[derive(Clone, Debug, Default)]
+pub struct Tally {
+    pub settled: u64,
+    /// By number, 1 to 11.
+    pub refused: [u64; 12],
+    pub rows_copied: u64,
+    pub rewritten: u64,
+}
+
+impl Tally {
+    pub fn trials(&self) -> u64 {
+        self.settled + self.refused.iter().sum::<u64>()
+    }
+
+    pub fn add(&mut self, other: &Tally) {
+        self.settled += other.settled;
+        self.refused.iter_mut().zip(other.refused).for_each(|(sum, more)| *sum += more);
+        self.rows_copied += other.rows_copied;
+        self.rewritten += other.rewritten;
+    }
+}
+
+/// The trials numbered `first`, `first + step`, .. below `end`; the first disagreement ends the run.
+pub fn run(seed: u64, first: u64, step: usize, end: u64) -> Result<Tally, String> {
+    let mut tally = Tally::default();
+    for number in (first..end).step_by(step) {
+        trial(seed, number, &mut tally).map_err(|what| format!("{what}; trial {number} of seed {seed}"))?;
+    }
+    Ok(tally)
+}
+
+/// Draws one pair of files and holds the engine's three functions to the reference's.
+pub fn trial(seed: u64, number: u64, tally: &mut Tally) -> Result<(), String> {
+    let mut random = Random::from_seed(seed << 32 ^ number);
+    let mut case = drawn(&mut random);
+    if random.once_in(4) {
+        case.buffer = near(&mut random, 35 + case.interval.len().saturating_sub(15) / 21 * 34);
+    }
+    let outcome = same(&case, "settle", settle, reference::settle)?;
+    match outcome.answer {
+        Ok(length) => {
+            demands::check(&outcome.buffer[..length]).map_err(|what| format!("{what} ({})", case.name))?;
+            tally.settled += 1;
+        }
+        Err((number, _)) => tally.refused[usize::from(number)] += 1,
+    }
+    for id in ids(&mut random, &case) {
+        tally.rows_copied += u64::from(same_row(&mut random, &case, id)?);
+    }
+    case.buffer = near(&mut random, case.interval.len());
+    let again = same(&case, "rewrite", rewrite, |interval, _, out| reference::rewrite(interval, out))?;
+    tally.rewritten += u64::from(again.answer.is_ok());
+    Ok(())
+}
+
+/// Accepted files, files with faults put in, and files damaged without a plan.
+fn drawn(random: &mut Random) -> Case {
+    match random.below(4) {
+        0 | 1 => accepted::case(random),
+        2 => {
+            let rows = random.within(4..=24);
+            let base = refused::base(random, rows);
+            refused::several(random, &base).0
+        }
+        _ => {
+            let whole = accepted::case(random);
+            refused::scrambled(random, whole)
+        }
+    }
+}
+
+fn near(random: &mut Random, needed: usize) -> usize {
+    let lengths: Vec<usize> = lengths_near(needed).collect();
+    random.one_of(&lengths)
+}
+
+/// Runs both on equal buffers; the answers and every byte afterwards have to be the same.
+pub fn same(
+    case: &Case,
+    function: &str,
+    engine: impl FnOnce(&[u8], &[u8], &mut [u8]) -> Answer,
+    reference: impl FnOnce(&[u8], &[u8], &mut [u8]) -> Answer,
+) -> Result<Outcome, String> {
+    let told = |what: String| format!("{function}: {what} ({})", case.name);
+    let (ours, theirs) = (case.run(engine).map_err(told)?, case.run(reference).map_err(told)?);
+    if ours.answer != theirs.answer {
+        return Err(told(format!("{:?}, reference {:?}", ours.answer, theirs.answer)));
+    }
+    if let Some(place) = (0..ours.buffer.len()).find(|&place| ours.buffer[place] != theirs.buffer[place]) {
+        let (byte, due) = (ours.buffer[place], theirs.buffer[place]);
+        return Err(told(format!("byte {place} is {byte}, reference {due}")));
+    }
+    Ok(ours)
+}
+
+/// A few ids that the files name, and some that hardly any does.
+fn ids(random: &mut Random, case: &Case) -> Vec<u16> {
+    let named = |file: &[u8], head: usize| -> Vec<u16> {
+        let rows = file.get(head..).unwrap_or_default().chunks_exact(21);
+        rows.map(|row| u16::from_le_bytes([row[2], row[3]])).collect()
+    };
+    let mut ids = vec![0, 1, u16::MAX, random.within(0..=65_535) as u16];
+    for file_ids in [named(&case.interval, 15), named(&case.correction, 9)] {
+        ids.extend((0..3).filter(|_| !file_ids.is_empty()).map(|_| random.one_of(&file_ids)));
+    }
+    ids
+}
+
+/// One row by the engine and by the reference, into a buffer of some length; whether bytes were copied.
+fn same_row(random: &mut Random, case: &Case, id: u16) -> Result<bool, String> {
+    let part = reference::counting_row(&case.interval, &case.correction, id);
+    let before = pattern(random.one_of(&[0, 1, 20, 21, 21, 21, 22, 40]));
+    let mut out = before.clone();
+    let answer = plain(wheatrudder::row(&case.interval, &case.correction, id, &mut out));
+    let mut due = before;
+    let due_answer = match due.get_mut(..part.len()) {
+        Some(front) => {
+            front.copy_from_slice(part);
+            Ok(part.len())
+        }
+        None => Err((11, 0)),
+    };
+    if (answer, &out) != (due_answer, &due) {
+        return Err(format!("row {id}: {answer:?} {out:?}, reference {due_answer:?} {due:?} ({})", case.name));
+    }
+    Ok(answer.is_ok_and(|copied| copied > 0))
+}

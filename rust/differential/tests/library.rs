@@ -1,0 +1,106 @@
+//! The proved library held to the reference.
+//!
+//! `SEED=n` repeats a run, `TRIALS=n` makes it longer; a failure prints its trial and its seed, and
+//! `SEED=n TRIAL=m cargo test one_trial` repeats it alone.
+
+use cases::random::Random;
+use cases::{Case, accepted, lengths_near, refused};
+use differential::{Tally, rewrite, run, same, settle, trial};
+
+fn asked(name: &str, otherwise: u64) -> u64 {
+    std::env::var(name).map_or(otherwise, |text| text.parse().expect(name))
+}
+
+#[test]
+fn the_engine_answers_as_the_reference() {
+    let (seed, trials) = (asked("SEED", 1), asked("TRIALS", 20_000));
+    let threads = std::thread::available_parallelism().map_or(1, |count| count.get().min(4)) as u64;
+    let mut tally = Tally::default();
+    std::thread::scope(|scope| {
+        let share = |first| scope.spawn(move || run(seed, first, threads as usize, trials));
+        let runs: Vec<_> = (0..threads).map(share).collect();
+        for run in runs {
+            let part = run.join().expect("a run ends").unwrap_or_else(|what| panic!("{what}"));
+            tally.add(&part);
+        }
+    });
+    println!("seed {seed}: {} files, {tally:?}", tally.trials());
+    assert_eq!(tally.trials(), trials);
+    // A run that settled or refused too little would show nothing.
+    assert!(trials < 20_000 || (tally.settled > trials / 4 && tally.refused[1..].iter().all(|&count| count > 0)));
+}
+
+#[test]
+fn one_trial() {
+    if let Ok(number) = std::env::var("TRIAL") {
+        let outcome = trial(asked("SEED", 1), number.parse().expect("TRIAL"), &mut Tally::default());
+        assert_eq!(outcome, Ok(()));
+    }
+}
+
+#[test]
+fn every_fault_is_refused_with_its_number_and_place() {
+    let seed = asked("SEED", 1);
+    let mut random = Random::from_seed(seed);
+    for _ in 0..20 {
+        let base = refused::base(&mut random, 12);
+        for fault in refused::faults(&base) {
+            let (case, due) = refused::damaged(&base, &[fault]);
+            let outcome = case.run(settle).unwrap_or_else(|what| panic!("{what}; {} of seed {seed}", case.name));
+            assert_eq!(outcome.answer, Err(due), "{} of seed {seed}", case.name);
+        }
+    }
+}
+
+#[test]
+fn buffers_of_every_length_near_the_needed_one() {
+    let seed = asked("SEED", 1);
+    let mut random = Random::from_seed(seed);
+    for _ in 0..40 {
+        let mut case = accepted::case(&mut random);
+        let rows = (case.interval.len() - 15) / 21;
+        for length in lengths_near(35 + 34 * rows) {
+            case.buffer = length;
+            let outcome = same(&case, "settle", settle, reference::settle).unwrap_or_else(|what| panic!("{what}"));
+            let due = if length < 35 + 34 * rows { Err((11, 0)) } else { Ok(35 + 34 * rows) };
+            assert_eq!(outcome.answer, due, "{} of seed {seed}", case.name);
+        }
+        for length in lengths_near(case.interval.len()) {
+            case.buffer = length;
+            let again = |interval: &[u8], _: &[u8], out: &mut [u8]| reference::rewrite(interval, out);
+            let outcome = same(&case, "rewrite", rewrite, again).unwrap_or_else(|what| panic!("{what}"));
+            let due = if length < case.interval.len() { Err((11, 0)) } else { Ok(case.interval.len()) };
+            assert_eq!(outcome.answer, due, "{} of seed {seed}", case.name);
+        }
+    }
+}
+
+#[test]
+fn empty_slices_are_answered() {
+    assert_eq!(settle(&[], &[], &mut []), Err((1, 0)));
+    assert_eq!(rewrite(&[], &[], &mut []), Err((1, 0)));
+    assert_eq!(wheatrudder::row(&[], &[], 1, &mut []), Ok(0));
+}
+
+#[test]
+fn figures_are_read_from_a_statement() {
+    let interval = cases::file::Interval::x(1300);
+    let mut statement = vec![0; interval.statement_length()];
+    let length = wheatrudder::settle(&interval.bytes(), &[], &mut statement).expect("accepted");
+    let head = wheatrudder::head(&statement[..length]).expect("a head");
+    assert_eq!((head.total, head.shortfall, head.rounds, head.rows), (90_000, 0, 1, 3));
+    let paid: Vec<(u16, u32)> = wheatrudder::lines(&statement).map(|line| (line.id, line.paid)).collect();
+    assert_eq!(paid, [(1, 0), (2, 65_000), (3, 25_000)]);
+}
+
+#[test]
+fn a_case_that_differs_is_found() {
+    let case = Case { name: "no rows".into(), interval: Vec::new(), correction: Vec::new(), buffer: 40 };
+    let wrong_answer = same(&case, "settle", settle, |_, _, _| Err((2, 0)));
+    assert!(wrong_answer.is_err());
+    let wrong_byte = |_: &[u8], _: &[u8], out: &mut [u8]| {
+        out[39] ^= 1;
+        Err((1, 0))
+    };
+    assert!(same(&case, "settle", settle, wrong_byte).is_err());
+}

@@ -1,0 +1,19 @@
+//! The proved engine behind safe functions, and its statements as figures.
+//!
+//! All unsafe code of the workspace is in `call`, which hands slices to the library as pointers and lengths.
+
+mod call;
+mod statement;
+
+pub use call::{rewrite, row, settle};
+pub use statement::{Head, LINE, Line, STATEMENT_HEAD, head, lines};
+
+/// A refusal: its number, 1 to 11, and its place, a row counted from 1, or 0.
+#[derive(Clone, Copy, Debug, PartialEq, Eq, Hash)]
+pub struct Refusal {
+    pub number: u32,
+    pub place: u32,
+}
+
+/// How many bytes were written from the front of the buffer, or a refusal, which changed none.
+pub type Answer = Result<usize, Refusal>;
