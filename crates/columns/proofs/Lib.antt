@@ -9,3 +9,4 @@ pub mod Buffer
 pub mod Reading
 pub mod Choice
 pub mod First
+pub mod Unique

@@ -14,10 +14,12 @@
 --   refused-first, first-refused, accepted-first, first-accepted, file-first (First.antt)
 --                       number k at place p is given exactly when a check gives it and none before it applies; 0 exactly when none does
 --   head-unique, row-unique, correction-head-unique, test-unique, number-unique, check-unique, interval-unique, counting-unique,
---   sources-unique, counting-row-unique      two results that a contract allows are equal
+--   sources-unique, counting-row-unique, seek-unique      two results that a contract allows are equal; test-unique serves the
+--                       tests, number-unique `row_checks`, `row_count`, `correction_count` and `id_at`
 -- Assumes nothing.
-use mathlib.Core.Path.{_≡_, refl, sym, _∙_}
-use Prim.Native.Nat.{ℕ, zero, suc, _+_, _*_, _<_}
+use mathlib.Core.Path.{_≡_, refl, _∙_}
+use Prim.Native.Nat.{ℕ, zero, suc, _+_, _*_, _≤_, _<_}
+use mathlib.Core.Logic.{⊎-elim}
 use mathlib.Core.Bool.{Bool, true, false, cond}
 use mathlib.Core.List.{List}
 use native.Mathlib.Nat.{le-of-suc-le-suc}
@@ -30,11 +32,13 @@ use Rattle.columns.specs.Buffer.{put}
 use Rattle.columns.proofs.Table.{table-length, table-at}
 use Rattle.columns.proofs.Buffer.{put-inside}
 use Rattle.columns.proofs.First.{right-true}
+use Rattle.columns.proofs.Unique.{unique}
+use Rattle.columns.proofs.Sum.{lt-or-le}
 use Rattle.files.specs.Layout.{rowAt, rowStart, correctionStart, headAt, correctionHeadAt, rowCount, correctionCount}
 use Rattle.files.specs.Range.{rowOk}
 use Rattle.files.specs.Fault.{findId, sameTerms, corrects, intervalFault, verdict, verdictOf}
 use Rattle.files.specs.Counting.{inCorrection, countingBytes, sourceOf, countingRow}
-use Rattle.files.specs.Walk.{idOf, Rows}
+use Rattle.files.specs.Walk.{idOf, Rows, Sought}
 use Rattle.files.specs.declared.Head.{Head}
 use Rattle.files.specs.declared.CorrectionHead.{CorrectionHead}
 use Rattle.files.specs.declared.Row.{Row}
@@ -131,9 +135,6 @@ source-at out n f i l =
 
 -- ---- two results that one contract allows are equal
 
-unique : {A : Type 0} (d x y : A) → x ≡ d → y ≡ d → x ≡ y
-unique d x y p q = p ∙ sym q
-
 pub head-unique : (s : List ℕ) (x y : Head) → x ≡ headAt s → y ≡ headAt s → x ≡ y
 head-unique s = unique (headAt s)
 
@@ -163,3 +164,10 @@ sources-unique s k out n = unique (put out 0 (table n (sourceOf s k)))
 
 pub counting-row-unique : (s k : List ℕ) (i : ℕ) (x y : Row) → x ≡ countingRow s k i → y ≡ countingRow s k i → x ≡ y
 counting-row-unique s k i = unique (countingRow s k i)
+
+pub seek-unique : (s : List ℕ) (start n id x y : ℕ) → Sought s start n id x → Sought s start n id y → x ≡ y
+seek-unique s start n id x y p q =
+    ⊎-elim (λ (l : x < y). absurd (omega (arith, p .reached (omega (arith, q .short)), q .under x l)))
+    (λ (m : y ≤ x).
+    ⊎-elim (λ (l : y < x). absurd (omega (arith, q .reached (omega (arith, p .short)), p .under y l))) (λ (k : x ≤ y). omega arith)
+    (lt-or-le y x)) (lt-or-le x y)

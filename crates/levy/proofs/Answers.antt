@@ -9,6 +9,7 @@ use mathlib.Core.Path.{_≡_, ap, sym, _∙_}
 use mathlib.Core.Bool.{Bool}
 use mathlib.Core.List.{List, []}
 use lib.ListN.{take-append-drop}
+use Rattle.units.proofs.Unique.{kwh-unique, fen-unique}
 use Rattle.units.specs.declared.Kwh.{Kwh}
 use Rattle.units.specs.declared.Fen.{Fen}
 use Rattle.files.specs.declared.Row.{Row}
@@ -23,10 +24,10 @@ pays-unique base r s t p q = p ∙ sym q
 
 -- w is the weight of a row, or what a thermal unit's energy counts for
 pub weight-unique : (w : ℕ) (a b : Kwh) → a .0 ≡ w → b .0 ≡ w → a ≡ b
-weight-unique w a b p q = ap (λ (x : ℕ). record { 0 = x }) (p ∙ sym q)
+weight-unique = kwh-unique
 
 pub cap-unique : (base tariff : ℕ) (r : Row) (a b : Fen) → a .0 ≡ cap base tariff r → b .0 ≡ cap base tariff r → a ≡ b
-cap-unique base tariff r a b p q = ap (λ (x : ℕ). record { 0 = x }) (p ∙ sym q)
+cap-unique base tariff r = fen-unique (cap base tariff r)
 
 pub rounds-unique : (total n : ℕ) (weights caps : List ℕ) (a b : List ℕ) (r s : Rest) → Finished total n weights caps a r
     → Finished total n weights caps b s → (a ≡ b) × (r ≡ s)

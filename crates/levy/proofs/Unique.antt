@@ -1,5 +1,6 @@
 -- The capped payers are those that closed, and no other set has their property (specs/Capped.antt).
 --     caps-within      the caps of a set with the property are at most the total, whoever is outside
+--     closers-left, closers-beside     what those that closed leave: the last round's money and weight
 --     final-capped     the payers that closed have the property
 --     capped-same      two sets with the property have the same payers
 --     capped-unique    a set with the property is the set of those that closed
@@ -190,11 +191,11 @@ module _ (total : ℕ) (ws cs : List ℕ) where
   abbrev closers : ℕ → Bool
   closers = marked (end .marks)
 
-  closers-left : leftBy total ws cs closers ≡ end .money
+  pub closers-left : leftBy total ws cs closers ≡ end .money
   unfolding leftBy
   closers-left = omega (arith, sound-caps total ws cs end (final-sound total ws cs))
 
-  closers-beside : weightsBeside ws closers ≡ end .weight
+  pub closers-beside : weightsBeside ws closers ≡ end .weight
   unfolding weightsBeside sumWhere
   closers-beside =
       sum-same (length ws) (λ i. cond (outside ws closers i) (at ws i) 0) (λ i. cond (unmarked (end .marks) i) (at ws i) 0)

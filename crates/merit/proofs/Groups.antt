@@ -12,22 +12,21 @@
 --     cheaper-all      past every order stand all bands
 --     cheaper-le       before any order stand at most all bands
 -- Assumes nothing.
-use Prim.Native.Nat.{ℕ, zero, suc, _+_, _-_, _*_, _%_, _≤_, _<_, min, zero-le}
+use Prim.Native.Nat.{ℕ, suc, _+_, _-_, _%_, _≤_, _<_, zero-le}
 use mathlib.Core.Path.{_≡_, refl, ap, sym, _∙_}
 use mathlib.Core.Logic.{_⊎_, inl, inr, ⊎-elim}
 use mathlib.Core.Bool.{Bool, true, false, cond}
-use mathlib.Core.List.{List}
 use native.Mathlib.Nat.{le-refl, eq-zero-or-pos}
 use native.Mathlib.Omega.{arith}
 use lib.Dec.{ltb, eqb}
 use lib.ListN.{length}
 use borrow.Author.Tests.{lt-ltb, le-ltb, eq-eqb, ne-eqb}
 use Rattle.columns.specs.Sum.{sumTo}
-use Rattle.columns.specs.Table.{at, table, Below}
+use Rattle.columns.specs.Table.{at, Below}
 use Rattle.columns.proofs.Sum.{lt-or-le, sum-same, sum-add, sum-le, sum-zero}
 use Rattle.columns.proofs.Table.{table-length, table-at, table-past}
 use Rattle.share.specs.Share.{whole}
-use Rattle.merit.specs.Band.{Tier, one, two, Bands, widths, bids, rows, orderOf, orderAt}
+use Rattle.merit.specs.Band.{Tier, one, two, Bands, widths, rows, orderAt}
 use Rattle.merit.specs.Call.{cheaperIn, cheaper, group}
 use Rattle.merit.specs.Walk.{tierOf}
 use Rattle.merit.proofs.Steps.{whole-table}

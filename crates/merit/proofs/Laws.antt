@@ -18,30 +18,30 @@
 --     width1-le, width2-le     a band's width is at most 25 and 100 kWh for each MW
 --     calls-unique, price-unique, width1-unique, width2-unique     two results that the contract allows are equal
 -- Assumes nothing.
-use Prim.Native.Nat.{ℕ, zero, suc, _+_, _-_, _*_, _%_, _≤_, _<_, min, max, zero-le}
-use mathlib.Core.Path.{_≡_, refl, ap, sym, _∙_}
+use Prim.Native.Nat.{ℕ, zero, suc, _+_, _-_, _*_, _≤_, _<_, min, zero-le}
+use mathlib.Core.Path.{_≡_, ap, sym, _∙_}
 use mathlib.Core.Logic.{_⊎_, inl, inr, ⊎-elim}
-use mathlib.Core.Bool.{Bool, true, false, cond}
+use mathlib.Core.Bool.{true, false, cond}
 use mathlib.Core.List.{List}
-use native.Mathlib.Nat.{le-refl, eq-zero-or-pos, min-le-left, min-le-right}
+use native.Mathlib.Nat.{eq-zero-or-pos, min-le-left, min-le-right}
 use native.Mathlib.Omega.{arith}
 use lib.Dec.{ltb, eqb}
 use lib.ListN.{length}
-use borrow.Author.Tests.{lt-ltb, le-ltb, eq-eqb, ne-eqb, eqb-true, eqb-false}
-use Rattle.columns.specs.Sum.{sumTo, maxTo}
-use Rattle.columns.specs.Table.{at, table, Below}
-use Rattle.columns.proofs.Sum.{lt-or-le, sum-same, sum-add, sum-le, sum-zero, term-le, max-term, max-bound, max-reached}
+use borrow.Author.Tests.{lt-ltb, le-ltb, eqb-true, eqb-false}
+use Rattle.columns.specs.Sum.{sumTo}
+use Rattle.columns.specs.Table.{at, Below}
+use Rattle.columns.proofs.Sum.{lt-or-le, sum-same, sum-add, sum-zero, term-le, max-term, max-bound, max-reached}
 use Rattle.columns.proofs.Table.{table-length, table-at, table-past}
 use Rattle.columns.proofs.Rank.{test-or}
 use Rattle.share.specs.Share.{whole, share, shares}
 use Rattle.share.proofs.Laws.{share-zero, share-le-amount, share-le-weight, share-is-weight, shares-sum, shares-at, shares-length}
 use Rattle.files.specs.declared.Row.{Row}
-use Rattle.merit.specs.Band.{Tier, one, two, Bands, width1, width2, widths, bids, rows, orderOf, orderAt}
+use Rattle.merit.specs.Band.{Tier, one, two, Bands, width1, width2, widths, bids, rows, orderAt}
 use Rattle.merit.specs.Call.{cheaper, group, due, called, calls, uncovered}
 use Rattle.merit.specs.Price.{price}
 use Rattle.merit.specs.Ready.{Called}
 use Rattle.merit.proofs.Steps.{whole-table, width1-none, width1-is, width2-none, width2-is}
-use Rattle.merit.proofs.Groups.{cond-next, cond-le, group-length, group-at, group-past, group-le, group-here, group-not, groups-apart, groups-sum, cheaper-next, cheaper-tier, cheaper-rise, cheaper-zero, cheaper-all}
+use Rattle.merit.proofs.Groups.{cond-next, cond-le, group-length, group-past, group-le, group-here, group-not, groups-apart, groups-sum, cheaper-next, cheaper-tier, cheaper-rise, cheaper-zero, cheaper-all}
 
 -- shares of no more than the weights' sum add up to the amount
 pub shares-all : (a : ℕ) (ws : List ℕ) (first : ℕ) → a ≤ whole ws → (0 < length ws → first < length ws)

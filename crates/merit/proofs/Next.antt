@@ -4,19 +4,19 @@
 --     next-empty    no band with a width has an order from k on and before it
 --     next-less     so the walk ends
 -- Assumes nothing.
-use Prim.Native.Nat.{ℕ, zero, suc, _+_, _-_, _*_, _≤_, _<_, min, zero-le}
-use mathlib.Core.Path.{_≡_, refl, ap, sym, _∙_}
+use Prim.Native.Nat.{ℕ, zero, suc, _+_, _-_, _≤_, _<_}
+use mathlib.Core.Path.{_≡_}
 use mathlib.Core.Logic.{⊎-elim}
-use mathlib.Core.Bool.{Bool, true, false, cond}
+use mathlib.Core.Bool.{true, false}
 use mathlib.Core.List.{List}
 use native.Mathlib.Nat.{le-refl}
 use native.Mathlib.Omega.{arith}
-use lib.Dec.{ltb, eqb}
-use borrow.Author.Tests.{lt-ltb, le-ltb, eq-eqb, ne-eqb, eqb-true, eqb-false}
+use lib.Dec.{eqb}
+use borrow.Author.Tests.{eqb-true, eqb-false}
 use Rattle.columns.specs.Table.{at}
 use Rattle.columns.proofs.Sum.{lt-or-le}
 use Rattle.columns.proofs.Rank.{test-or}
-use Rattle.merit.specs.Band.{Tier, one, two, Bands, widths, bids, rows, orderOf, orderAt}
+use Rattle.merit.specs.Band.{Tier, one, two, Bands, rows, orderOf}
 use Rattle.merit.specs.Walk.{past, sooner, nextIn, nextOrder}
 use Rattle.merit.proofs.Steps.{sooner-none, sooner-early, sooner-min}
 use Rattle.merit.proofs.Groups.{Empty}

@@ -1,15 +1,12 @@
 -- What the bands of one order are called for, from the code's steps: each lemma in the shape of one need.
 -- Assumes nothing.
-use Prim.Native.Nat.{ℕ, _+_, _*_, _%_, _^_, _≤_, _<_, min}
+use Prim.Native.Nat.{ℕ, _*_, _%_, _≤_, _<_, min}
 use mathlib.Core.Path.{_≡_, refl, ap, sym, _∙_}
-use mathlib.Core.Bool.{cond}
 use mathlib.Core.List.{List}
-use native.Mathlib.Nat.{min-eq-left, min-eq-right, mul-le-mul}
 use native.Mathlib.Omega.{arith}
 use lib.Dec.{eqb}
 use lib.ListN.{length, take}
 use borrow.Author.Tests.{eq-eqb, ne-eqb}
-use Rattle.columns.specs.Sum.{sumTo}
 use Rattle.columns.specs.Table.{at, table}
 use Rattle.columns.proofs.Sum.{sum-bound}
 use Rattle.columns.proofs.Table.{table-length}
@@ -17,10 +14,10 @@ use Rattle.share.specs.Share.{whole, shares}
 use Rattle.share.specs.Split.{Splittable}
 use Rattle.share.proofs.Laws.{shares-are-weights}
 use Rattle.share.proofs.Handing.{front}
-use Rattle.merit.specs.Band.{Tier, one, two, Bands, widths, bids, rows, orderOf, orderAt}
+use Rattle.merit.specs.Band.{Tier, one, two, orderOf}
 use Rattle.merit.specs.Call.{group}
 use Rattle.merit.specs.Ready.{bandsIn, ReadyIn, Columns, Ready}
-use Rattle.merit.specs.Walk.{Room, Blank, uncalled, tierOf, memberIn, groupIn, partsIn, parts}
+use Rattle.merit.specs.Walk.{Room, Blank, uncalled, memberIn, groupIn, partsIn, parts}
 use Rattle.merit.proofs.Steps.{whole-table}
 use Rattle.merit.proofs.Groups.{cond-le}
 

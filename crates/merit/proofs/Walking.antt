@@ -7,7 +7,7 @@
 --     ended-met      the walk may end as soon as nothing is left
 --     ended-past     or past every order
 -- Assumes nothing.
-use Prim.Native.Nat.{ℕ, zero, suc, _+_, _-_, _*_, _%_, _^_, _≤_, _<_, min, zero-le}
+use Prim.Native.Nat.{ℕ, suc, _+_, _-_, _%_, _≤_, _<_, min, zero-le}
 use mathlib.Core.Path.{_≡_, refl, ap, sym, _∙_}
 use mathlib.Core.Logic.{_⊎_, inl, inr, ⊎-elim}
 use mathlib.Core.Bool.{Bool, true, false, cond}
@@ -16,7 +16,7 @@ use native.Mathlib.Nat.{le-refl, eq-zero-or-pos}
 use native.Mathlib.Numerals.{add-one}
 use native.Mathlib.Omega.{arith}
 use lib.Dec.{ltb, eqb}
-use lib.ListN.{length, set, length-set, List·getD-eq-default}
+use lib.ListN.{length, set, length-set}
 use lib.Seq.{getD-set-same, getD-set-other}
 use borrow.Author.Tests.{lt-ltb, le-ltb, eq-eqb, ne-eqb, eqb-true, eqb-false}
 use Rattle.columns.specs.Sum.{bit, sumTo}
@@ -26,13 +26,13 @@ use Rattle.columns.proofs.Rank.{test-or}
 use Rattle.columns.proofs.Table.{table-length, table-at, table-past, table-is}
 use Rattle.share.specs.Share.{whole, share, shares}
 use Rattle.share.proofs.Laws.{shares-at, shares-length}
-use Rattle.merit.specs.Band.{Tier, one, two, Bands, widths, bids, rows, orderOf, orderAt}
+use Rattle.merit.specs.Band.{Tier, one, two, Bands, widths, rows, orderAt}
 use Rattle.merit.specs.Call.{cheaper, group, due, called, calls, uncovered}
 use Rattle.merit.specs.Ready.{Columns, Called}
 use Rattle.merit.specs.Walk.{Blank, Roomy, past, tierOf, nextOrder, partsIn, parts, more, uncalled}
 use Rattle.merit.proofs.Groups.{cond-next, cond-le, group-length, tier-even, tier-odd, even-apart, odd-apart, order-tier, cheaper-next, cheaper-rise, cheaper-skip, cheaper-zero, cheaper-le, cheaper-all}
 use Rattle.merit.proofs.Laws.{shares-all, called-le, called-zero-width, called-past, called-met, called-part}
-use Rattle.merit.proofs.Next.{next-from, next-within, next-empty}
+use Rattle.merit.proofs.Next.{next-from, next-empty}
 
 -- what row j is called for in a tier by the bands before order k
 unfoldable pub done : ℕ → Bands → ℕ → Tier → ℕ → ℕ → ℕ

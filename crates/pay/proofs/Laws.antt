@@ -10,16 +10,17 @@
 --     compensation-most     at most 16,600,000 fen for a capacity of up to 2,000 MW, half load as its baseline, and prices up to the highest bids
 --     paid1-unique, paid2-unique, compensation-unique     two results that the contract allows are equal
 -- Assumes nothing.
-use Prim.Native.Nat.{ℕ, _+_, _*_, _^_, _≤_, _<_}
-use mathlib.Core.Path.{_≡_, refl, ap, sym, _∙_}
+use Prim.Native.Nat.{ℕ, _+_, _*_, _≤_, _<_}
+use mathlib.Core.Path.{_≡_}
 use mathlib.Core.Logic.{⊎-elim}
 use mathlib.Core.Bool.{Bool, true, false, cond, _&&_}
 use native.Mathlib.Nat.{le-refl, mul-le-mul, eq-zero-or-pos}
 use native.Mathlib.Omega.{arith}
-use lib.Dec.{ltb, eqb}
+use lib.Dec.{eqb}
 use borrow.Author.Tests.{lt-ltb, le-ltb, eq-eqb, ne-eqb}
-use Rattle.units.specs.Measure.{priced, toFen}
-use Rattle.units.specs.Load.{forty, half}
+use Rattle.units.specs.Measure.{toFen}
+use Rattle.units.specs.Load.{half}
+use Rattle.units.proofs.Unique.{kwh-unique, fen-unique}
 use Rattle.units.specs.declared.Kwh.{Kwh}
 use Rattle.units.specs.declared.Fen.{Fen}
 use Rattle.files.specs.declared.Row.{Row}
@@ -98,11 +99,11 @@ at-baseline r base call1 call2 price1 price2 h =
     omega arith
 
 pub paid1-unique : (base c e : ℕ) (x y : Kwh) → x .0 ≡ paid1 base c e → y .0 ≡ paid1 base c e → x ≡ y
-paid1-unique base c e x y p q = ap (λ (n : ℕ). record { 0 = n }) (p ∙ sym q)
+paid1-unique base c e = kwh-unique (paid1 base c e)
 
 pub paid2-unique : (base c e : ℕ) (x y : Kwh) → x .0 ≡ paid2 base c e → y .0 ≡ paid2 base c e → x ≡ y
-paid2-unique base c e x y p q = ap (λ (n : ℕ). record { 0 = n }) (p ∙ sym q)
+paid2-unique base c e = kwh-unique (paid2 base c e)
 
 pub compensation-unique : (r : Row) (base call1 call2 price1 price2 : ℕ) (x y : Fen)
     → x .0 ≡ compensation r base call1 call2 price1 price2 → y .0 ≡ compensation r base call1 call2 price1 price2 → x ≡ y
-compensation-unique r base call1 call2 price1 price2 x y p q = ap (λ (n : ℕ). record { 0 = n }) (p ∙ sym q)
+compensation-unique r base call1 call2 price1 price2 = fen-unique (compensation r base call1 call2 price1 price2)

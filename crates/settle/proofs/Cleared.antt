@@ -4,17 +4,16 @@
 --   part-long       the front of a column of 256
 -- Assumes nothing.
 use Prim.Native.Nat.{ℕ, _≤_, _<_}
-use mathlib.Core.Path.{_≡_, refl, sym, ap, _∙_}
+use mathlib.Core.Path.{_≡_, sym, _∙_}
 use mathlib.Core.Bool.{true, false}
 use mathlib.Core.List.{List}
 use native.Mathlib.Omega.{arith}
 use lib.ListN.{length, take, length-take}
 use Rattle.columns.specs.Table.{table}
 use Rattle.files.specs.Counting.{countingRow}
-use Rattle.files.specs.declared.Row.{Row}
 use Rattle.files.proofs.Ranges.{RowRanges}
 use Rattle.files.proofs.Laws.{accepted-ranges}
-use Rattle.merit.specs.Band.{Bands, bandsOf}
+use Rattle.merit.specs.Band.{bandsOf}
 use Rattle.merit.specs.Ready.{bandsIn, Ready}
 use Rattle.settle.specs.Asked.{Read, widthAt, bidAt, Clears}
 use Rattle.settle.specs.declared.work.Market.{Market}

@@ -7,8 +7,8 @@
 --   compensated            the same, from what the stages before hand on
 --   read-long, called-long a head is there; a call for each row
 -- Assumes nothing.
-use Prim.Native.Nat.{ℕ, _^_, _≤_, _<_}
-use mathlib.Core.Path.{_≡_, refl, sym, ap, _∙_}
+use Prim.Native.Nat.{ℕ, _≤_, _<_}
+use mathlib.Core.Path.{_≡_, ap, _∙_}
 use mathlib.Core.List.{List}
 use native.Mathlib.Omega.{arith}
 use lib.ListN.{length, take}
@@ -20,16 +20,15 @@ use Rattle.files.specs.declared.Head.{Head}
 use Rattle.files.specs.declared.Row.{Row}
 use Rattle.files.proofs.Ranges.{RowRanges}
 use Rattle.files.proofs.Laws.{accepted-length, accepted-head, accepted-ranges}
-use Rattle.merit.specs.Band.{one, two, Bands, bandsOf}
-use Rattle.merit.specs.Price.{price}
+use Rattle.merit.specs.Band.{one, two, bandsOf}
 use Rattle.merit.proofs.Laws.{calls-length}
 use Rattle.levy.specs.Asked.{standingOf, Finished, Payable}
 use Rattle.levy.specs.Asked as Levy
-use Rattle.levy.specs.Rounds.{Standing, final, paid, payments}
+use Rattle.levy.specs.Rounds.{final, paid, payments}
 use Rattle.levy.specs.declared.Rest.{Rest}
 use Rattle.levy.proofs.Payment.{paid-le-cap}
 use Rattle.settle.specs.Settlement.{compensationsOf, weightsOf, capsOf, levied}
-use Rattle.settle.specs.Asked.{Read, Clears, standingFrom, Levied, Compensated}
+use Rattle.settle.specs.Asked.{Read, Clears, Levied, Compensated}
 use Rattle.settle.specs.declared.work.Market.{Market}
 use Rattle.settle.proofs.Sizes.{widths1-length, price1-low, price2-low, weights-light, caps-low, pay-length, total-rich}
 

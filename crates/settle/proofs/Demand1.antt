@@ -8,16 +8,17 @@
 --   first-refused      and the other way round: the first check that applies gives its number and place
 --   settled-first      a settlement: no check applies, and the count is that of the statement's bytes
 --   first-settled      and the other way round
---   refusal-keeps      a refusal leaves every byte of the buffer as it was
+--   refusal-keeps      a refusal leaves every byte of the buffer as it was; refused-buffer says it by the answer
 --   settled-count      a statement of n rows has 35 + 34n bytes
---   settled-front      a settlement: they stand at the front of the buffer
+--   settled-buffer     a settlement: they are put in front of what the buffer held
+--   settled-front      so they stand at the front of the buffer
 --   settled-past       and every byte past them is as before
 --   buffer-length      the buffer keeps its length, whatever the answer
 --   settled-accepted, settled-room     a settlement: the files are accepted, and the buffer is long enough
 --   accepted-settled   and the other way round
 -- The list of the checks is `settleOrder` (specs/Promise.antt); `Earliest` and `NoneApplies` are of files (specs/Order.antt).
 -- Assumes nothing.
-use Prim.Native.Nat.{ℕ, zero, suc, _+_, _*_, _≤_, _<_, zero-le}
+use Prim.Native.Nat.{ℕ, zero, suc, _+_, _≤_, _<_, zero-le}
 use mathlib.Core.Path.{_≡_, refl, sym, ap, _∙_}
 use mathlib.Core.Logic.{_⊎_, inl, inr, ⊎-elim}
 use mathlib.Core.Bool.{Bool, true, false, not, cond, _&&_}
@@ -29,10 +30,9 @@ use lib.ListN.{length, getD, take, length-append, List·getD-append}
 use lib.Seq.{getD-at}
 use borrow.Author.Tests.{lt-ltb, le-ltb, ltb-true, ltb-false, leb-true, eq-eqb, ne-eqb, eqb-true, eqb-false}
 use Rattle.columns.specs.Buffer.{put}
-use Rattle.columns.specs.Table.{at, table}
+use Rattle.columns.specs.Table.{at}
 use Rattle.columns.proofs.First.{left-true, right-true}
 use Rattle.columns.proofs.Sum.{lt-or-le}
-use Rattle.columns.proofs.Table.{table-length}
 use Rattle.columns.proofs.Buffer.{put-length, put-after, take-put}
 use Rattle.files.specs.Layout.{headAt, rowAt, rowCount, correctionCount}
 use Rattle.files.specs.Fault.{Fault, fault, none, headChecks, sameTime, fileFault, verdictOf}
@@ -42,12 +42,13 @@ use Rattle.files.specs.declared.Verdict.the-variants.{Accepted, Refused as Refu
 use Rattle.files.proofs.Answer.{or-first, or-next, or-none, verdict-yes, verdict-no, accepted-of, refused-of}
 use Rattle.files.proofs.First.{refused-first as file-refused, first-refused as refused-file, accepted-first as file-accepted, first-accepted as accepted-file}
 use Rattle.statement.specs.Statement.{lineStart, statementHeadBytes, linesBytes}
-use Rattle.statement.proofs.Laws.{head-length, lines-length}
-use Rattle.settle.specs.Settlement.{Columns, figures}
-use Rattle.settle.specs.Statement.{statementHead, lineOf, linesOf, statementBytes}
+use Rattle.statement.proofs.Laws.{head-length}
+use Rattle.settle.specs.Settlement.{figures}
+use Rattle.settle.specs.Statement.{statementHead, linesOf, statementBytes}
 use Rattle.settle.specs.Answer.{statementOf, settleFault, answerOf, bufferAfter, numberOf, valueOf}
 use Rattle.settle.specs.Promise.{settleOrder}
 use Rattle.settle.specs.declared.Answer.the-variants.{Settled, Refused}
+use Rattle.settle.proofs.Written.{lines-count}
 
 -- ---- an ordered list of checks with one more at its end
 
@@ -343,10 +344,6 @@ module _ (s k : List ℕ) (room : ℕ) where
 
 -- ---- the buffer
 
-lines-count : (n : ℕ) (ids : ℕ → ℕ) (c : Columns) → length (linesBytes (linesOf n ids c)) ≡ n * 34
-unfolding linesOf
-lines-count n ids c = omega (arith, lines-length (table n (λ i. lineOf (ids i) c i)), table-length n (λ i. lineOf (ids i) c i))
-
 pub settled-count : (s k : List ℕ) → length (statementOf s k) ≡ lineStart (rowCount s)
 unfolding statementOf statementBytes
 settled-count s k =
@@ -360,6 +357,9 @@ module _ (s k out : List ℕ) where
   pub refusal-keeps : (numberOf (answerOf s k (length out)) ≡ 0 → ⊥) → bufferAfter s k out ≡ out
   unfolding bufferAfter
   refusal-keeps h = rw (ne-eqb (settleFault s k (length out) .number) 0 (λ z. h (number-fault s k (length out) ∙ z)))
+
+  pub refused-buffer : (a p : ℕ) → answerOf s k (length out) ≡ Refused a p → bufferAfter s k out ≡ out
+  refused-buffer a p h = refusal-keeps (λ z. refused-fault s k (length out) a p h .1 (sym (ap numberOf h) ∙ z))
 
   module _ (h : numberOf (answerOf s k (length out)) ≡ 0) where
     pub settled-buffer : bufferAfter s k out ≡ put out 0 (statementOf s k)

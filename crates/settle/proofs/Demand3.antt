@@ -16,14 +16,13 @@
 --     rounds-are-closings, somebody-closes    .. and the rounds told are those.
 --   demand3, accepted-demand3, statement-demand3     all of it: of figures, of an accepted pair, of a statement's bytes
 -- Nothing is asked of the rows: the sentences hold of any. Assumes nothing.
-use Prim.Native.Nat.{ℕ, zero, suc, _+_, _-_, _*_, _≤_, _<_}
-use mathlib.Core.Path.{_≡_, refl, ap, sym, _∙_}
+use Prim.Native.Nat.{ℕ, _+_, _-_, _*_, _≤_, _<_}
+use mathlib.Core.Path.{_≡_, refl, ap, _∙_}
 use mathlib.Core.Logic.{⊎-elim}
-use mathlib.Core.Bool.{Bool, true, false, cond, not, _&&_}
+use mathlib.Core.Bool.{Bool, cond}
 use mathlib.Core.List.{List}
 use native.Mathlib.Nat.{eq-zero-or-pos}
 use native.Mathlib.Omega.{arith}
-use lib.Dec.{ltb, eqb}
 use lib.ListN.{length}
 use borrow.Author.Tests.{lt-ltb, eq-eqb, ne-eqb}
 use Rattle.columns.specs.Sum.{sumTo, sumWhere, maxTo}
@@ -37,19 +36,19 @@ use Rattle.files.specs.declared.Head.{Head}
 use Rattle.files.specs.declared.Row.{Row}
 use Rattle.files.specs.declared.Verdict.the-variants.{Accepted}
 use Rattle.levy.specs.Rounds.{Standing, payers, final, paid, payments}
-use Rattle.levy.specs.Capped.{marked, inside, outside, capsOf, leftBy, weightsBeside, Capped}
-use Rattle.levy.proofs.Step.{sound-caps, final-sound}
+use Rattle.levy.specs.Capped.{marked, inside, outside, capsOf, leftBy, Capped}
+use Rattle.levy.proofs.Step.{final-sound}
 use Rattle.levy.proofs.Rate.{capped-owe, open-owe}
 use Rattle.levy.proofs.Count.{rounds-count, round-somebody, rounds-max}
 use Rattle.levy.proofs.Payment.{payments-length, payments-at, paid-none, paid-closed, paid-total, payment-le-cap, open-rate-over, open-rate-short, all-capped, shortfall-none, closed-caps}
 use Rattle.levy.proofs.Cut.{cut-le, cut-capped, cuts-total, balance}
-use Rattle.levy.proofs.Unique.{final-capped, capped-unique}
+use Rattle.levy.proofs.Unique.{closers-left, closers-beside, final-capped, capped-unique}
 use Rattle.settle.specs.Settlement.{Figures, levied, figures}
 use Rattle.settle.specs.Answer.{answerOf, bufferAfter, numberOf}
 use Rattle.settle.specs.Promise.{Bytes, figuresAt, capped, CappedPayer, OpenPayer, AllCapped, cappedCaps, leftOver, openEnergy, kept, Demand3}
 use Rattle.settle.proofs.Demand2.{statement-figures}
 
--- ---- what the set of those that closed leaves, in the terms of the last round
+-- ---- payments and cuts after the last round
 
 module _ (total : ℕ) (ws cs : List ℕ) where
   abbrev end : Standing
@@ -57,23 +56,6 @@ module _ (total : ℕ) (ws cs : List ℕ) where
 
   abbrev closers : ℕ → Bool
   closers = marked (end .marks)
-
-  left-money : leftBy total ws cs closers ≡ end .money
-  unfolding leftBy
-  left-money = omega (arith, sound-caps total ws cs end (final-sound total ws cs))
-
-  beside-weight : weightsBeside ws closers ≡ end .weight
-  unfolding weightsBeside sumWhere
-  beside-weight =
-      sum-same (length ws) (λ i. cond (outside ws closers i) (at ws i) 0) (λ i. cond (eqb (at (end .marks) i) 0) (at ws i) 0)
-      (λ i l. still (at ws i) (eqb (at (end .marks) i) 0))
-      ∙ sym (final-sound total ws cs .weight-is)
-    where
-      still : (w : ℕ) (t : Bool) → cond (ltb 0 w && not (not t)) w 0 ≡ cond t w 0
-      still zero true = refl
-      still zero false = refl
-      still (suc w) true = rw (lt-ltb 0 (suc w) (omega arith))
-      still (suc w) false = rw (lt-ltb 0 (suc w) (omega arith))
 
   module _ (first : ℕ) where
     abbrev pays : List ℕ
@@ -156,23 +138,23 @@ module _ (h : Head) (n : ℕ) (row : ℕ → Row) where
   pub rate-over : (i : ℕ) → OpenPayer f i → at (f .columns .paid) i * openEnergy f < leftOver f * at ws i + openEnergy f
   unfolding figures levied
   rate-over i p =
-      rw (left-money (whole pay) ws cs, beside-weight (whole pay) ws cs, pays-at (whole pay) ws cs 0 i)
+      rw (closers-left (whole pay) ws cs, closers-beside (whole pay) ws cs, pays-at (whole pay) ws cs 0 i)
       (open-rate-over (whole pay) ws cs 0 i (p .1) (p .0))
 
   pub rate-short : (i : ℕ) → OpenPayer f i → leftOver f * at ws i < at (f .columns .paid) i * openEnergy f + openEnergy f
   unfolding figures levied
   rate-short i p =
-      rw (left-money (whole pay) ws cs, beside-weight (whole pay) ws cs, pays-at (whole pay) ws cs 0 i)
+      rw (closers-left (whole pay) ws cs, closers-beside (whole pay) ws cs, pays-at (whole pay) ws cs 0 i)
       (open-rate-short (whole pay) ws cs 0 i (p .1) (p .0))
 
   pub open-below-cap : (i : ℕ) → OpenPayer f i → leftOver f * at ws i < at cs i * openEnergy f
   unfolding figures levied
   open-below-cap i p =
-      rw (left-money (whole pay) ws cs, beside-weight (whole pay) ws cs) (open-owe (whole pay) ws cs i (p .1) (p .0))
+      rw (closers-left (whole pay) ws cs, closers-beside (whole pay) ws cs) (open-owe (whole pay) ws cs i (p .1) (p .0))
 
   pub capped-at-cap : (i : ℕ) → CappedPayer f i → at cs i * openEnergy f ≤ leftOver f * at ws i
   unfolding figures levied
-  capped-at-cap i p = rw (left-money (whole pay) ws cs, beside-weight (whole pay) ws cs) (capped-owe (whole pay) ws cs i (p .1))
+  capped-at-cap i p = rw (closers-left (whole pay) ws cs, closers-beside (whole pay) ws cs) (capped-owe (whole pay) ws cs i (p .1))
 
   pub all-capped-covered : AllCapped f → cappedCaps f ≤ f .total
   unfolding figures levied

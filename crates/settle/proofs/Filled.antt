@@ -18,17 +18,15 @@ use Rattle.columns.proofs.Fill.{Reached, reached-all}
 use Rattle.units.specs.Load.{half}
 use Rattle.units.specs.declared.Fen.{Fen}
 use Rattle.units.specs.declared.Kwh.{Kwh}
-use Rattle.files.specs.Fault.{verdictOf}
 use Rattle.files.specs.Counting.{countingRow}
 use Rattle.files.specs.declared.Row.{Row}
-use Rattle.files.specs.declared.Verdict.the-variants.{Accepted}
 use Rattle.files.proofs.Ranges.{RowRanges}
 use Rattle.files.proofs.Laws.{accepted-ranges}
 use Rattle.pay.specs.Pay.{compensation}
 use Rattle.pay.proofs.Laws.{compensation-most}
 use Rattle.levy.specs.Weight.{weight, cap}
 use Rattle.levy.proofs.Row.{cap-most}
-use Rattle.settle.specs.Settlement.{baseline, compensationsOf, weightsOf, capsOf}
+use Rattle.settle.specs.Settlement.{baseline}
 use Rattle.settle.specs.Asked.{Read, Ranged, widthIn, bidIn, widthAt, bidAt}
 
 -- what the definitions have at a position of each column

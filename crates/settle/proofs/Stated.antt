@@ -6,22 +6,19 @@
 --   levied-figures    every figure is the definition's
 --   levied-bytes      the bytes put are those of the definition's statement
 -- Assumes nothing.
-use Prim.Native.Nat.{ℕ, _+_, _*_, _≤_, _<_}
-use mathlib.Core.Path.{_≡_, refl, sym, ap, _∙_, fun-ext}
+use Prim.Native.Nat.{ℕ, _+_, _≤_}
+use mathlib.Core.Path.{_≡_, sym, ap, _∙_, fun-ext}
 use mathlib.Core.List.{List, _++_}
 use native.Mathlib.Omega.{arith}
 use lib.ListN.{length}
 use Rattle.columns.specs.Buffer.{put}
-use Rattle.columns.specs.Table.{table}
 use Rattle.share.specs.Share.{whole, shares}
 use Rattle.share.proofs.Laws.{shares-length}
-use Rattle.files.specs.Layout.{headAt, rowCount, rowStart}
-use Rattle.files.specs.Fault.{verdictOf}
+use Rattle.files.specs.Layout.{headAt}
 use Rattle.files.specs.Counting.{countingRow}
 use Rattle.files.specs.declared.Head.{Head}
-use Rattle.files.specs.declared.Verdict.the-variants.{Accepted}
 use Rattle.files.proofs.Laws.{accepted-count, accepted-length, accepted-few, counting-id}
-use Rattle.merit.specs.Band.{one, two, Bands, bandsOf}
+use Rattle.merit.specs.Band.{one, two, bandsOf}
 use Rattle.merit.specs.Call.{calls, uncovered}
 use Rattle.merit.specs.Price.{price}
 use Rattle.merit.proofs.Laws.{calls-length}
@@ -32,10 +29,10 @@ use Rattle.levy.proofs.Step.{final-sound}
 use Rattle.levy.proofs.Payment.{payments-length, shortfall-le}
 use Rattle.statement.specs.Statement.{lineStart, statementHeadBytes, linesBytes}
 use Rattle.statement.specs.declared.StatementHead.{StatementHead}
-use Rattle.settle.specs.Settlement.{Columns, Figures, compensationsOf, weightsOf, capsOf, levied, figures}
+use Rattle.settle.specs.Settlement.{Figures, compensationsOf, weightsOf, capsOf, levied, figures}
 use Rattle.settle.specs.Statement.{statementHead, linesOf, statementBytes}
 use Rattle.settle.specs.Answer.{statementOf}
-use Rattle.settle.specs.Asked.{columns, idAt, Lines, Clears, headFrom, standingFrom, Levied}
+use Rattle.settle.specs.Asked.{columns, idAt, Lines, headFrom, standingFrom, Levied}
 use Rattle.settle.specs.declared.work.Market.{Market}
 use Rattle.settle.proofs.Sizes.{widths1-length, pay-length, weights-length, caps-length}
 

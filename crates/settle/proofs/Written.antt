@@ -1,4 +1,5 @@
 -- The loop that puts the lines of a statement into its buffer: its start, a turn, its end.
+--   lines-count   the lines of n rows have 34n bytes
 --   lines-none    before the first turn nothing is put
 --   lines-more    a turn puts one line more
 --   lines-long    the buffer keeps its length
@@ -8,7 +9,7 @@
 -- Assumes nothing.
 use mathlib.Core.Path.{_≡_, sym, ap, _∙_}
 use mathlib.Core.List.{List, [], _∷_, _++_, append-nil}
-use Prim.Native.Nat.{ℕ, _+_, _*_, _≤_, _<_}
+use Prim.Native.Nat.{ℕ, _+_, _*_, _≤_}
 use native.Mathlib.Omega.{arith}
 use lib.ListN.{length}
 use Rattle.columns.specs.Buffer.{put}
@@ -19,7 +20,7 @@ use Rattle.units.specs.declared.Fen.{Fen}
 use Rattle.statement.specs.Statement.{statementHeadBytes, lineBytes, linesBytes}
 use Rattle.statement.specs.declared.StatementHead.{StatementHead}
 use Rattle.statement.specs.declared.Line.{Line}
-use Rattle.statement.proofs.Laws.{head-length, lines-joined, lines-length, line-length}
+use Rattle.statement.proofs.Laws.{head-length, lines-joined, lines-length}
 use Rattle.settle.specs.Settlement.{Columns}
 use Rattle.settle.specs.Statement.{lineOf, linesOf}
 
@@ -27,9 +28,9 @@ pub lines-none : (l : List ℕ) (ids : ℕ → ℕ) (c : Columns) → l ≡ put 
 unfolding linesOf linesBytes table
 lines-none l ids c = sym (put-none l 35)
 
-count : (n : ℕ) (ids : ℕ → ℕ) (c : Columns) → length (linesBytes (linesOf n ids c)) ≡ n * 34
+pub lines-count : (n : ℕ) (ids : ℕ → ℕ) (c : Columns) → length (linesBytes (linesOf n ids c)) ≡ n * 34
 unfolding linesOf
-count n ids c =
+lines-count n ids c =
     lines-length (table n (λ i. lineOf (ids i) c i)) ∙ ap (λ (m : ℕ). m * 34) (table-length n (λ i. lineOf (ids i) c i))
 
 one-more : (n : ℕ) (ids : ℕ → ℕ) (c : Columns)
@@ -45,12 +46,12 @@ pub lines-more : (l out after : List ℕ) (ids : ℕ → ℕ) (c : Columns) (i i
     → after ≡ put out (35 + i * 34) bytes → after ≡ put l 35 (linesBytes (linesOf (i + 1) ids c))
 lines-more l out after ids c i id line bytes so long which made spelled now =
     now ∙ rw (so, spelled, made, which, one-more i ids c)
-    (put-put l 35 (35 + i * 34) (linesBytes (linesOf i ids c)) (lineBytes (lineOf (ids i) c i)) (omega (arith, count i ids c)) long)
+    (put-put l 35 (35 + i * 34) (linesBytes (linesOf i ids c)) (lineBytes (lineOf (ids i) c i)) (omega (arith, lines-count i ids c)) long)
 
 pub lines-long : (l out : List ℕ) (ids : ℕ → ℕ) (c : Columns) (n : ℕ) → out ≡ put l 35 (linesBytes (linesOf n ids c)) → 35 + n * 34 ≤ length l
     → length out ≡ length l
 lines-long l out ids c n so room =
-    ap length so ∙ put-length l 35 (linesBytes (linesOf n ids c)) (omega (arith, count n ids c))
+    ap length so ∙ put-length l 35 (linesBytes (linesOf n ids c)) (omega (arith, lines-count n ids c))
 
 pub lines-all : (l out : List ℕ) (ids : ℕ → ℕ) (c : Columns) (i n : ℕ) → out ≡ put l 35 (linesBytes (linesOf i ids c)) → i ≤ n → n ≤ i
     → out ≡ put l 35 (linesBytes (linesOf n ids c))

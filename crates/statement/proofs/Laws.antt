@@ -9,14 +9,13 @@
 -- Assumes nothing.
 use mathlib.Core.Path.{_≡_, refl, sym, ap, _∙_}
 use mathlib.Core.List.{List, [], _∷_, _++_, append-assoc}
-use Prim.Native.Nat.{ℕ, zero, suc, _+_, _*_, _^_, _≤_, _<_}
+use Prim.Native.Nat.{ℕ, zero, suc, _+_, _*_, _^_, _<_}
 use native.Mathlib.Nat.{add-assoc}
 use native.Mathlib.Omega.{arith}
 use lib.ListN.{length, getD, drop, length-append}
 use lib.Seq.{drop-at}
 use Rattle.columns.specs.Number.{numberAt, numberBytes}
 use Rattle.columns.proofs.Number.{number-drop, number-is}
-use Rattle.columns.specs.Table.{table}
 use Rattle.statement.specs.Statement.{lineStart, statementHeadAt, statementHeadBytes, lineAt, lineBytes, linesBytes}
 use Rattle.statement.specs.declared.StatementHead.{StatementHead}
 use Rattle.statement.specs.declared.Line.{Line}

@@ -1,4 +1,5 @@
-use Rattle.columns.proofs.put_bytes.Statement.{statement}  -- `columns::put_bytes` meets its contract: so far the first i elements of the source are put. Assumes nothing.
+-- `columns::put_bytes` meets its contract: so far the first i elements of the source are put. Assumes nothing.
+use Rattle.columns.proofs.put_bytes.Statement.{statement}
 use mathlib.Core.Path.{_≡_}
 use Prim.Native.Nat.{_-_, _≤_}
 use native.Mathlib.Omega.{arith}

@@ -1,20 +1,16 @@
+-- `columns::two` meets its contract: a remainder by 256 is a byte. Assumes nothing.
 use mathlib.Core.Path.{refl}
 use Rattle.columns.specs.Number.{numberBytes}
 use borrow.Author.Needs.{needs}
 use Rattle.columns.proofs.two.Statement.{statement}
 use Rattle.columns.proofs.two.Tie as tie
-use Rattle.columns.proofs.two.Reads as reads
-use Rattle.columns.proofs.two.Lts as lts
 
--- src/lib.rt:45:6
 cast-t3 : tie.Need-cast-t3
 cast-t3 c = search needs
 
--- src/lib.rt:45:23
 cast-t6 : tie.Need-cast-t6
 cast-t6 c = search needs
 
--- src/lib.rt:42:1
 returns : tie.Need-returns
 unfolding numberBytes
 returns c = refl

@@ -1,7 +1,5 @@
--- `merit::copy` meets its contract. Assumes nothing.
+-- `merit::copy` meets its contract: the positions passed are copied. Assumes nothing.
 use Prim.Native.Nat.{_-_, _≤_}
-use mathlib.Core.Path.{refl, sym, _∙_}
-use native.Mathlib.Omega.{arith}
 use lib.ListN.{length}
 use borrow.Author.Needs.{needs}
 use Rattle.columns.specs.Table.{at}

@@ -1,34 +1,35 @@
-use Rattle.settle.proofs.Answered.{few-rows, short-answer, short-buffer, settled-answer, settled-buffer}
+-- `settle::settle_rows` meets its contract: too short a buffer gets 11 and is kept, any other holds the statement. Assumes nothing.
+use mathlib.Core.Path.{sym, ap, _∙_}
+use Rattle.settle.specs.Answer.{numberOf}
+use Rattle.settle.specs.declared.Answer.the-variants.{Settled}
+use Rattle.settle.proofs.Answered.{few-rows}
+use Rattle.settle.proofs.Demand1.{short-refused, refused-buffer, accepted-settled, settled-buffer}
 use borrow.Author.Needs.{needs}
 use Rattle.settle.proofs.settle_rows.Statement.{statement}
 use Rattle.settle.proofs.settle_rows.Tie as tie
-use Rattle.settle.proofs.settle_rows.Reads as reads
-use Rattle.settle.proofs.settle_rows.Lts as lts
-use Rattle.settle.proofs.size_of.Reads as size-of-reads
-use Rattle.settle.proofs.work.work.Reads as work-reads
 
--- src/lib.rt:39:9
 size-of-requires : tie.Need-size-of-requires
 size-of-requires c κs = few-rows _ _ _ (c .before .before .before .pre)
 
--- src/lib.rt:41:9
 returns : tie.Need-returns
-returns c = let p = c .before .before .before .before .before .pre in (short-answer _ _ _ p _ _ (c .before .size-of .ensures) (c .if1 .taken), short-buffer _ _ _ p _ _ (c .before .size-of .ensures) (c .if1 .taken))
+returns c =
+    let p = c .before .before .before .before .before .pre in
+    let short = rw (c .before .size-of .ensures) at (c .if1 .taken) in
+    (sym (short-refused _ _ _ _ p short), sym (refused-buffer _ _ _ _ _ (short-refused _ _ _ _ p short)))
 
--- src/lib.rt:43:5
 work-requires : tie.Need-work-requires
 work-requires c κs = search needs
 
--- src/lib.rt:34:1
 same-length : tie.Need-same-length
 same-length c = search needs
 
--- src/lib.rt:34:1
 returns-2 : tie.Need-returns-2
 returns-2 c =
     let p = c .before .before .before .before .before .before .before .before .before .pre in
     let size = c .before .before .before .before .before .size-of .ensures in
-    (settled-answer _ _ _ p _ _ size (c .before .before .before .before .if1 .left), settled-buffer _ _ _ p _ _ _ size (c .before .before .before .before .if1 .left) (c .before .before .work .ensures))
+    let room = rw size at (c .before .before .before .before .if1 .left) in
+    let settled = accepted-settled _ _ _ _ p room in
+    (ap Settled size ∙ sym settled, c .before .before .work .ensures ∙ sym (settled-buffer _ _ _ (ap numberOf settled)))
 
 pub settle-rows-spec : {M : Type 1} → statement M
 settle-rows-spec =

@@ -1,4 +1,4 @@
--- `share::split` meets its contract. Assumes nothing.
+-- `share::split` meets its contract: a sum of 0 gives everybody 0, any other has room for its remainders. Assumes nothing.
 use Rattle.share.proofs.Handing.{cleared, front, quotable}
 use borrow.Author.Needs.{needs}
 use Rattle.share.proofs.split.Statement.{statement}

@@ -1,190 +1,141 @@
+-- `statement::encode_statement_head` meets its contract: every byte is one of its field's own. Assumes nothing.
 use Rattle.statement.proofs.Spelled.{head-spelled}
 use borrow.Author.Needs.{needs}
 use Rattle.statement.proofs.encode_statement_head.Statement.{statement}
 use Rattle.statement.proofs.encode_statement_head.Tie as tie
-use Rattle.statement.proofs.encode_statement_head.Reads as reads
-use Rattle.statement.proofs.encode_statement_head.Lts as lts
-use Rattle.columns.proofs.eight.Reads as eight-reads
-use Rattle.columns.proofs.four.Reads as four-reads
-use Rattle.columns.proofs.two.Reads as two-reads
 
--- src/lib.rt:80:20
 cast-four : tie.Need-cast-four
 cast-four c = search needs
 
--- src/lib.rt:80:15
 four-requires : tie.Need-four-requires
 four-requires c κs = search needs
 
--- src/lib.rt:81:18
 two-requires : tie.Need-two-requires
 two-requires c κs = search needs
 
--- src/lib.rt:82:18
 two-requires-2 : tie.Need-two-requires-2
 two-requires-2 c κs = search needs
 
--- src/lib.rt:83:17
 eight-requires : tie.Need-eight-requires
 eight-requires c κs = search needs
 
--- src/lib.rt:84:21
 eight-requires-2 : tie.Need-eight-requires-2
 eight-requires-2 c κs = search needs
 
--- src/lib.rt:85:22
 cast-two : tie.Need-cast-two
 cast-two c = search needs
 
--- src/lib.rt:85:18
 two-requires-3 : tie.Need-two-requires-3
 two-requires-3 c κs = search needs
 
--- src/lib.rt:86:26
 cast-four-2 : tie.Need-cast-four-2
 cast-four-2 c = search needs
 
--- src/lib.rt:86:21
 four-requires-2 : tie.Need-four-requires-2
 four-requires-2 c κs = search needs
 
--- src/lib.rt:87:20
 cast-two-2 : tie.Need-cast-two-2
 cast-two-2 c = search needs
 
--- src/lib.rt:87:16
 two-requires-4 : tie.Need-two-requires-4
 two-requires-4 c κs = search needs
 
--- src/lib.rt:91:9
 array-read-t16 : tie.Need-array-read-t16
 array-read-t16 c = search needs
 
--- src/lib.rt:92:9
 array-read-t19 : tie.Need-array-read-t19
 array-read-t19 c = search needs
 
--- src/lib.rt:93:9
 array-read-t22 : tie.Need-array-read-t22
 array-read-t22 c = search needs
 
--- src/lib.rt:94:9
 array-read-t25 : tie.Need-array-read-t25
 array-read-t25 c = search needs
 
--- src/lib.rt:96:9
 array-read-t28 : tie.Need-array-read-t28
 array-read-t28 c = search needs
 
--- src/lib.rt:97:9
 array-read-t31 : tie.Need-array-read-t31
 array-read-t31 c = search needs
 
--- src/lib.rt:98:9
 array-read-t34 : tie.Need-array-read-t34
 array-read-t34 c = search needs
 
--- src/lib.rt:99:9
 array-read-t37 : tie.Need-array-read-t37
 array-read-t37 c = search needs
 
--- src/lib.rt:100:9
 array-read-t40 : tie.Need-array-read-t40
 array-read-t40 c = search needs
 
--- src/lib.rt:101:9
 array-read-t43 : tie.Need-array-read-t43
 array-read-t43 c = search needs
 
--- src/lib.rt:102:9
 array-read-t46 : tie.Need-array-read-t46
 array-read-t46 c = search needs
 
--- src/lib.rt:103:9
 array-read-t49 : tie.Need-array-read-t49
 array-read-t49 c = search needs
 
--- src/lib.rt:104:9
 array-read-t52 : tie.Need-array-read-t52
 array-read-t52 c = search needs
 
--- src/lib.rt:105:9
 array-read-t55 : tie.Need-array-read-t55
 array-read-t55 c = search needs
 
--- src/lib.rt:106:9
 array-read-t58 : tie.Need-array-read-t58
 array-read-t58 c = search needs
 
--- src/lib.rt:107:9
 array-read-t61 : tie.Need-array-read-t61
 array-read-t61 c = search needs
 
--- src/lib.rt:108:9
 array-read-t64 : tie.Need-array-read-t64
 array-read-t64 c = search needs
 
--- src/lib.rt:109:9
 array-read-t67 : tie.Need-array-read-t67
 array-read-t67 c = search needs
 
--- src/lib.rt:110:9
 array-read-t70 : tie.Need-array-read-t70
 array-read-t70 c = search needs
 
--- src/lib.rt:111:9
 array-read-t73 : tie.Need-array-read-t73
 array-read-t73 c = search needs
 
--- src/lib.rt:112:9
 array-read-t76 : tie.Need-array-read-t76
 array-read-t76 c = search needs
 
--- src/lib.rt:113:9
 array-read-t79 : tie.Need-array-read-t79
 array-read-t79 c = search needs
 
--- src/lib.rt:114:9
 array-read-t82 : tie.Need-array-read-t82
 array-read-t82 c = search needs
 
--- src/lib.rt:115:9
 array-read-t85 : tie.Need-array-read-t85
 array-read-t85 c = search needs
 
--- src/lib.rt:116:9
 array-read-t88 : tie.Need-array-read-t88
 array-read-t88 c = search needs
 
--- src/lib.rt:117:9
 array-read-t91 : tie.Need-array-read-t91
 array-read-t91 c = search needs
 
--- src/lib.rt:118:9
 array-read-t94 : tie.Need-array-read-t94
 array-read-t94 c = search needs
 
--- src/lib.rt:119:9
 array-read-t97 : tie.Need-array-read-t97
 array-read-t97 c = search needs
 
--- src/lib.rt:120:9
 array-read-t100 : tie.Need-array-read-t100
 array-read-t100 c = search needs
 
--- src/lib.rt:121:9
 array-read-t103 : tie.Need-array-read-t103
 array-read-t103 c = search needs
 
--- src/lib.rt:122:9
 array-read-t106 : tie.Need-array-read-t106
 array-read-t106 c = search needs
 
--- src/lib.rt:123:9
 array-read-t109 : tie.Need-array-read-t109
 array-read-t109 c = search needs
 
--- src/lib.rt:77:1
 returns : tie.Need-returns
 returns c = search head-spelled
 

@@ -1,104 +1,78 @@
+-- `statement::line_at` meets its contract: every field is the number at its place. Assumes nothing.
 use Rattle.statement.specs.Statement.{lineAt}
 use borrow.Author.Needs.{needs}
 use Rattle.statement.proofs.line_at.Statement.{statement}
 use Rattle.statement.proofs.line_at.Tie as tie
-use Rattle.statement.proofs.line_at.Reads as reads
-use Rattle.statement.proofs.line_at.Lts as lts
-use Rattle.columns.proofs.number_at.Reads as number-at-reads
 
--- src/lib.rt:64:26
 add-number-at : tie.Need-add-number-at
 add-number-at c = search needs
 
--- src/lib.rt:64:13
 number-at-requires : tie.Need-number-at-requires
 number-at-requires c κs = search needs
 
--- src/lib.rt:64:13
 cast-t5 : tie.Need-cast-t5
 cast-t5 c = search needs
 
--- src/lib.rt:65:35
 add-number-at-2 : tie.Need-add-number-at-2
 add-number-at-2 c = search needs
 
--- src/lib.rt:65:22
 number-at-requires-2 : tie.Need-number-at-requires-2
 number-at-requires-2 c κs = search needs
 
--- src/lib.rt:65:22
 cast-t8 : tie.Need-cast-t8
 cast-t8 c = search needs
 
--- src/lib.rt:66:35
 add-number-at-3 : tie.Need-add-number-at-3
 add-number-at-3 c = search needs
 
--- src/lib.rt:66:22
 number-at-requires-3 : tie.Need-number-at-requires-3
 number-at-requires-3 c κs = search needs
 
--- src/lib.rt:66:22
 cast-t12 : tie.Need-cast-t12
 cast-t12 c = search needs
 
--- src/lib.rt:67:40
 add-number-at-4 : tie.Need-add-number-at-4
 add-number-at-4 c = search needs
 
--- src/lib.rt:67:27
 number-at-requires-4 : tie.Need-number-at-requires-4
 number-at-requires-4 c κs = search needs
 
--- src/lib.rt:68:31
 add-number-at-5 : tie.Need-add-number-at-5
 add-number-at-5 c = search needs
 
--- src/lib.rt:68:18
 number-at-requires-5 : tie.Need-number-at-requires-5
 number-at-requires-5 c κs = search needs
 
--- src/lib.rt:69:34
 add-number-at-6 : tie.Need-add-number-at-6
 add-number-at-6 c = search needs
 
--- src/lib.rt:69:21
 number-at-requires-6 : tie.Need-number-at-requires-6
 number-at-requires-6 c κs = search needs
 
--- src/lib.rt:69:21
 cast-t22 : tie.Need-cast-t22
 cast-t22 c = search needs
 
--- src/lib.rt:70:31
 add-number-at-7 : tie.Need-add-number-at-7
 add-number-at-7 c = search needs
 
--- src/lib.rt:70:18
 number-at-requires-7 : tie.Need-number-at-requires-7
 number-at-requires-7 c κs = search needs
 
--- src/lib.rt:71:32
 add-number-at-8 : tie.Need-add-number-at-8
 add-number-at-8 c = search needs
 
--- src/lib.rt:71:19
 number-at-requires-8 : tie.Need-number-at-requires-8
 number-at-requires-8 c κs = search needs
 
--- src/lib.rt:72:31
 add-number-at-9 : tie.Need-add-number-at-9
 add-number-at-9 c = search needs
 
--- src/lib.rt:72:18
 number-at-requires-9 : tie.Need-number-at-requires-9
 number-at-requires-9 c κs = search needs
 
--- src/lib.rt:72:18
 cast-t32 : tie.Need-cast-t32
 cast-t32 c = search needs
 
--- src/lib.rt:59:1
 returns : tie.Need-returns
 unfolding lineAt
 returns c = cc

@@ -1,4 +1,4 @@
--- `levy::payments` meets its contract. Assumes nothing.
+-- `levy::payments` meets its contract: it only lends columns. Assumes nothing.
 use borrow.Author.Needs.{needs}
 use Rattle.share.proofs.Handing.{front}
 use Rattle.levy.proofs.Making.{front-room}

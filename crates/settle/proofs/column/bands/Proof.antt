@@ -1,18 +1,12 @@
+-- `settle::column::bands` meets its contract: the rows passed have their width and bid. Assumes nothing.
 use borrow.Author.Needs.{needs}
 use Prim.Native.Nat.{_-_, _≤_}
-use mathlib.Core.Path.{_≡_}
-use lib.ListN.{length}
 use native.Mathlib.Omega.{arith}
 use Rattle.columns.proofs.Fill.{Reached, reached-none, reached-next}
 use Rattle.settle.specs.Asked.{widthAt, bidAt}
 use Rattle.settle.proofs.Filled.{width-at, bid-at, filled}
 use Rattle.settle.proofs.column.bands.Statement.{statement}
 use Rattle.settle.proofs.column.bands.Tie as tie
-use Rattle.settle.proofs.column.bands.Reads as reads
-use Rattle.settle.proofs.column.bands.Lts as lts
-use Rattle.settle.proofs.column.bid_in.Reads as bid-in-reads
-use Rattle.settle.proofs.column.row_at.Reads as row-at-reads
-use Rattle.settle.proofs.column.width_in.Reads as width-in-reads
 
 abbrev Inv-loop : tie.InvT-loop
 Inv-loop interval correction n sources second widths₀ bids₀ i₀ widths bids i = (i ≤ n) × Reached 0 (widthAt second interval correction) widths₀ widths i × Reached 0 (bidAt second interval correction) bids₀ bids i
@@ -20,47 +14,36 @@ Inv-loop interval correction n sources second widths₀ bids₀ i₀ widths bids
 abbrev μ-loop : tie.MeasureT-loop
 μ-loop interval correction n sources second widths₀ bids₀ i₀ widths bids i = n - i
 
--- src/column.rt:64:5
 loop-holds : tie.Need-loop-holds Inv-loop μ-loop
 loop-holds c = (search needs, reached-none _ _ _, reached-none _ _ _)
 
--- src/column.rt:65:13
 row-at-requires : tie.Need-row-at-requires Inv-loop μ-loop
 row-at-requires c κs = search needs
 
--- src/column.rt:66:21
 width-in-requires : tie.Need-width-in-requires Inv-loop μ-loop
 width-in-requires c κs = search needs
 
--- src/column.rt:66:9
 mul-widths : tie.Need-mul-widths Inv-loop μ-loop
 mul-widths c = search needs
 
--- src/column.rt:66:9
 slice-write-widths : tie.Need-slice-write-widths Inv-loop μ-loop
 slice-write-widths c = search needs
 
--- src/column.rt:67:19
 bid-in-requires : tie.Need-bid-in-requires Inv-loop μ-loop
 bid-in-requires c κs = search needs
 
--- src/column.rt:67:9
 mul-bids : tie.Need-mul-bids Inv-loop μ-loop
 mul-bids c = search needs
 
--- src/column.rt:67:9
 slice-write-bids : tie.Need-slice-write-bids Inv-loop μ-loop
 slice-write-bids c = search needs
 
--- src/column.rt:68:9
 add-i : tie.Need-add-i Inv-loop μ-loop
 add-i c = search needs
 
--- src/column.rt:64:5
 loop-less : tie.Need-loop-less Inv-loop μ-loop
 loop-less c = search needs
 
--- src/column.rt:64:5
 loop-again : tie.Need-loop-again Inv-loop μ-loop
 loop-again c =
     let l = c .before .before .before .before .loop in
@@ -73,15 +56,12 @@ loop-again c =
       reached-next _ _ _ _ _ _ bid (omega (arith, bid .room)) (bid-at _ _ _ _ row (c .before .before .before .before .before .before .before .before .before .args .second) _ (c .bid-in .ensures)),
     )
 
--- src/column.rt:49:1
 same-length : tie.Need-same-length Inv-loop μ-loop
 same-length c = search needs
 
--- src/column.rt:49:1
 same-length-2 : tie.Need-same-length-2 Inv-loop μ-loop
 same-length-2 c = search needs
 
--- src/column.rt:49:1
 returns : tie.Need-returns Inv-loop μ-loop
 returns c =
     let l = c .before .loop in

@@ -1,26 +1,19 @@
+-- `settle::column::cap_of` meets its contract: energy and tariff in their ranges keep it below 2 ^ 32. Assumes nothing.
 use native.Mathlib.Omega.{arith}
 use Rattle.settle.proofs.Filled.{cap-is, cap-fits}
 use borrow.Author.Needs.{needs}
 use Rattle.settle.proofs.column.cap_of.Statement.{statement}
 use Rattle.settle.proofs.column.cap_of.Tie as tie
-use Rattle.settle.proofs.column.cap_of.Reads as reads
-use Rattle.settle.proofs.column.cap_of.Lts as lts
-use Rattle.levy.proofs.cap.Reads as cap-reads
-use Rattle.units.proofs.half.Reads as half-reads
 
--- src/column.rt:119:26
 half-requires : tie.Need-half-requires
 half-requires c κs = search needs
 
--- src/column.rt:119:9
 cap-requires : tie.Need-cap-requires
 cap-requires c κs = search needs
 
--- src/column.rt:120:5
 cast-result : tie.Need-cast-result
 cast-result c = record { fits = omega (arith, cap-fits _ _ _ _ (c .before .before .before .pre .0) (c .before .before .before .pre .1) (c .before .before .before .pre .2) (c .before .cap .ensures)) }
 
--- src/column.rt:115:1
 returns : tie.Need-returns
 returns c = search cap-is
 

@@ -1,3 +1,4 @@
+-- `settle::column::compensations` meets its contract: the rows passed have their compensation. Assumes nothing.
 use borrow.Author.Needs.{needs}
 use Prim.Native.Nat.{_-_, _≤_}
 use native.Mathlib.Omega.{arith}
@@ -6,10 +7,6 @@ use Rattle.settle.specs.Settlement.{compensationsOf}
 use Rattle.settle.proofs.Filled.{payAt, pay-at, filled}
 use Rattle.settle.proofs.column.compensations.Statement.{statement}
 use Rattle.settle.proofs.column.compensations.Tie as tie
-use Rattle.settle.proofs.column.compensations.Reads as reads
-use Rattle.settle.proofs.column.compensations.Lts as lts
-use Rattle.settle.proofs.column.pay_of.Reads as pay-of-reads
-use Rattle.settle.proofs.column.row_at.Reads as row-at-reads
 
 abbrev Inv-loop : tie.InvT-loop
 Inv-loop interval correction n sources price1 price2 called1 called2 out₀ i₀ out i = (i ≤ n) × Reached 0 (payAt interval correction called1 called2 price1 price2) out₀ out i
@@ -17,51 +14,39 @@ Inv-loop interval correction n sources price1 price2 called1 called2 out₀ i₀
 abbrev μ-loop : tie.MeasureT-loop
 μ-loop interval correction n sources price1 price2 called1 called2 out₀ i₀ out i = n - i
 
--- src/column.rt:107:5
 loop-holds : tie.Need-loop-holds Inv-loop μ-loop
 loop-holds c = (search needs, reached-none _ _ _)
 
--- src/column.rt:108:13
 row-at-requires : tie.Need-row-at-requires Inv-loop μ-loop
 row-at-requires c κs = search needs
 
--- src/column.rt:109:30
 mul-pay-of : tie.Need-mul-pay-of Inv-loop μ-loop
 mul-pay-of c = search needs
 
--- src/column.rt:109:30
 shared-slice-read-pay-of : tie.Need-shared-slice-read-pay-of Inv-loop μ-loop
 shared-slice-read-pay-of c = search needs
 
--- src/column.rt:109:42
 mul-pay-of-2 : tie.Need-mul-pay-of-2 Inv-loop μ-loop
 mul-pay-of-2 c = search needs
 
--- src/column.rt:109:42
 shared-slice-read-pay-of-2 : tie.Need-shared-slice-read-pay-of-2 Inv-loop μ-loop
 shared-slice-read-pay-of-2 c = search needs
 
--- src/column.rt:109:18
 pay-of-requires : tie.Need-pay-of-requires Inv-loop μ-loop
 pay-of-requires c κs = search needs
 
--- src/column.rt:109:9
 mul-out : tie.Need-mul-out Inv-loop μ-loop
 mul-out c = search needs
 
--- src/column.rt:109:9
 slice-write-out : tie.Need-slice-write-out Inv-loop μ-loop
 slice-write-out c = search needs
 
--- src/column.rt:110:9
 add-i : tie.Need-add-i Inv-loop μ-loop
 add-i c = search needs
 
--- src/column.rt:107:5
 loop-less : tie.Need-loop-less Inv-loop μ-loop
 loop-less c = search needs
 
--- src/column.rt:107:5
 loop-again : tie.Need-loop-again Inv-loop μ-loop
 loop-again c =
     let l = c .before .before .before .before .before .loop in
@@ -71,11 +56,9 @@ loop-again c =
       reached-next _ _ _ _ _ _ paid (omega (arith, paid .room, p .1 .1)) (pay-at _ _ _ _ (c .before .before .before .row-at .ensures .0) (c .before .before .before .before .before .before .before .before .before .before .before .args .called1 .now) (c .before .before .before .before .before .before .before .before .before .before .before .args .called2 .now) (c .before .before .before .before .before .before .before .before .before .before .before .args .price1) (c .before .before .before .before .before .before .before .before .before .before .before .args .price2) _ (c .pay-of .ensures)),
     )
 
--- src/column.rt:90:1
 same-length : tie.Need-same-length Inv-loop μ-loop
 same-length c = search needs
 
--- src/column.rt:90:1
 returns : tie.Need-returns Inv-loop μ-loop
 unfolding compensationsOf
 returns c =

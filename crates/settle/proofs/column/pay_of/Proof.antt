@@ -1,29 +1,22 @@
+-- `settle::column::pay_of` meets its contract: a capacity and prices in their ranges keep it below 2 ^ 32. Assumes nothing.
 use native.Mathlib.Omega.{arith}
 use Rattle.settle.proofs.Filled.{pay-is, pay-fits}
 use borrow.Author.Needs.{needs}
 use Rattle.settle.proofs.column.pay_of.Statement.{statement}
 use Rattle.settle.proofs.column.pay_of.Tie as tie
-use Rattle.settle.proofs.column.pay_of.Reads as reads
-use Rattle.settle.proofs.column.pay_of.Lts as lts
-use Rattle.pay.proofs.compensation.Reads as compensation-reads
-use Rattle.units.proofs.half.Reads as half-reads
 
--- src/column.rt:77:9
 half-requires : tie.Need-half-requires
 half-requires c κs = search needs
 
--- src/column.rt:78:9
 compensation-requires : tie.Need-compensation-requires
 compensation-requires c κs = search needs
 
--- src/column.rt:86:5
 cast-result : tie.Need-cast-result
 cast-result c =
     let p = c .before .before .before .pre in
     let small = pay-fits _ _ _ _ _ _ (p .0) (p .1) (p .2) (pay-is _ _ _ _ _ _ _ (c .before .before .half .ensures) (c .before .compensation .ensures)) in
     record { fits = omega arith }
 
--- src/column.rt:73:1
 returns : tie.Need-returns
 returns c = search pay-is
 

@@ -1,25 +1,19 @@
+-- `settle::column::row_at` meets its contract: a row that counts in an accepted pair is in its ranges. Assumes nothing.
 use Rattle.settle.proofs.Filled.{ranged}
 use borrow.Author.Needs.{needs}
 use Rattle.settle.proofs.column.row_at.Statement.{statement}
 use Rattle.settle.proofs.column.row_at.Tie as tie
-use Rattle.settle.proofs.column.row_at.Reads as reads
-use Rattle.settle.proofs.column.row_at.Lts as lts
-use Rattle.files.proofs.counting_row.Reads as counting-row-reads
 
--- src/column.rt:24:46
 mul-counting-row : tie.Need-mul-counting-row
 mul-counting-row c = search needs
 
--- src/column.rt:24:46
 element-copy-out-counting-row : tie.Need-element-copy-out-counting-row
 element-copy-out-counting-row c = search needs
 
--- src/column.rt:24:5
 counting-row-requires : tie.Need-counting-row-requires
 counting-row-requires c κs =
     let p = c .before .before .before .pre in (p .0 .accepted, (p .1, p .0 .sourced _ (p .1)))
 
--- src/column.rt:19:1
 returns : tie.Need-returns
 returns c =
     let p = c .before .before .before .before .pre in

@@ -1,3 +1,4 @@
+-- `settle::column::weigh` meets its contract: the rows passed have their weight and cap. Assumes nothing.
 use borrow.Author.Needs.{needs}
 use Prim.Native.Nat.{_-_, _≤_}
 use native.Mathlib.Omega.{arith}
@@ -6,12 +7,6 @@ use Rattle.settle.specs.Settlement.{weightsOf, capsOf}
 use Rattle.settle.proofs.Filled.{weightAt, capAt, weight-at, cap-at, filled-part}
 use Rattle.settle.proofs.column.weigh.Statement.{statement}
 use Rattle.settle.proofs.column.weigh.Tie as tie
-use Rattle.settle.proofs.column.weigh.Reads as reads
-use Rattle.settle.proofs.column.weigh.Lts as lts
-use Rattle.levy.proofs.weight.Reads as weight-reads
-use Rattle.settle.proofs.column.cap_of.Reads as cap-of-reads
-use Rattle.settle.proofs.column.row_at.Reads as row-at-reads
-use Rattle.units.proofs.half.Reads as half-reads
 
 abbrev Inv-loop : tie.InvT-loop
 Inv-loop interval correction n sources tariff weights₀ caps₀ i₀ weights caps i = (i ≤ n) × Reached 0 (weightAt interval correction) weights₀ weights i × Reached 0 (capAt interval correction (tariff .0)) caps₀ caps i
@@ -19,51 +14,39 @@ Inv-loop interval correction n sources tariff weights₀ caps₀ i₀ weights ca
 abbrev μ-loop : tie.MeasureT-loop
 μ-loop interval correction n sources tariff weights₀ caps₀ i₀ weights caps i = n - i
 
--- src/column.rt:141:5
 loop-holds : tie.Need-loop-holds Inv-loop μ-loop
 loop-holds c = (search needs, reached-none _ _ _, reached-none _ _ _)
 
--- src/column.rt:142:13
 row-at-requires : tie.Need-row-at-requires Inv-loop μ-loop
 row-at-requires c κs = search needs
 
--- src/column.rt:143:35
 half-requires : tie.Need-half-requires Inv-loop μ-loop
 half-requires c κs = search needs
 
--- src/column.rt:143:13
 weight-requires : tie.Need-weight-requires Inv-loop μ-loop
 weight-requires c κs = search needs
 
--- src/column.rt:144:9
 mul-weights : tie.Need-mul-weights Inv-loop μ-loop
 mul-weights c = search needs
 
--- src/column.rt:144:9
 element-write-weights : tie.Need-element-write-weights Inv-loop μ-loop
 element-write-weights c = search needs
 
--- src/column.rt:145:19
 cap-of-requires : tie.Need-cap-of-requires Inv-loop μ-loop
 cap-of-requires c κs = search needs
 
--- src/column.rt:145:9
 mul-caps : tie.Need-mul-caps Inv-loop μ-loop
 mul-caps c = search needs
 
--- src/column.rt:145:9
 element-write-caps : tie.Need-element-write-caps Inv-loop μ-loop
 element-write-caps c = search needs
 
--- src/column.rt:146:9
 add-i : tie.Need-add-i Inv-loop μ-loop
 add-i c = search needs
 
--- src/column.rt:141:5
 loop-less : tie.Need-loop-less Inv-loop μ-loop
 loop-less c = search needs
 
--- src/column.rt:141:5
 loop-again : tie.Need-loop-again Inv-loop μ-loop
 loop-again c =
     let l = c .before .before .before .before .before .loop in
@@ -76,7 +59,6 @@ loop-again c =
       reached-next _ _ _ _ _ _ cap (omega (arith, cap .room, p .1 .1, p .0 .few)) (cap-at _ _ _ _ row _ _ (c .cap-of .ensures)),
     )
 
--- src/column.rt:124:1
 returns : tie.Need-returns Inv-loop μ-loop
 unfolding weightsOf capsOf
 returns c =

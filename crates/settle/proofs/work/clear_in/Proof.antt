@@ -1,21 +1,15 @@
+-- `settle::work::clear_in` meets its contract: the bands filled in are those of the rows that count. Assumes nothing.
 use Rattle.settle.proofs.Cleared.{bands-ready, bands-cleared}
 use borrow.Author.Needs.{needs}
 use Rattle.settle.proofs.work.clear_in.Statement.{statement}
 use Rattle.settle.proofs.work.clear_in.Tie as tie
-use Rattle.settle.proofs.work.clear_in.Reads as reads
-use Rattle.settle.proofs.work.clear_in.Lts as lts
-use Rattle.settle.proofs.column.bands.Reads as bands-reads
-use Rattle.settle.proofs.work.clear.Reads as clear-reads
 
--- src/work.rt:67:5
 bands-requires : tie.Need-bands-requires
 bands-requires c κs = search needs
 
--- src/work.rt:68:5
 bands-requires-2 : tie.Need-bands-requires-2
 bands-requires-2 c κs = search needs
 
--- src/work.rt:69:5
 clear-requires : tie.Need-clear-requires
 clear-requires c κs =
     let p = c .before .before .before .before .before .before .before .before .before .before .before .before .before .before .before .before .before .before .before .before .before .before .before .before .before .before .before .before .pre in
@@ -23,31 +17,24 @@ clear-requires c κs =
     let two = c .before .before .before .before .before .before .before .before .before .before .bands2 .ensures in
     bands-ready _ _ _ _ _ _ _ _ _ _ (p .0) (one .0) (one .1) (two .0) (two .1) (p .1 .1 .0) (p .1 .1 .1)
 
--- src/work.rt:49:1
 same-length : tie.Need-same-length
 same-length c = search needs
 
--- src/work.rt:49:1
 same-length-2 : tie.Need-same-length-2
 same-length-2 c = search needs
 
--- src/work.rt:49:1
 same-length-3 : tie.Need-same-length-3
 same-length-3 c = search needs
 
--- src/work.rt:49:1
 same-length-4 : tie.Need-same-length-4
 same-length-4 c = search needs
 
--- src/work.rt:49:1
 same-length-5 : tie.Need-same-length-5
 same-length-5 c = search needs
 
--- src/work.rt:49:1
 same-length-6 : tie.Need-same-length-6
 same-length-6 c = search needs
 
--- src/work.rt:49:1
 returns : tie.Need-returns
 returns c =
     let one = c .before .before .before .before .before .before .before .before .before .before .before .before .before .before .before .before .before .before .before .before .before .before .bands .ensures in

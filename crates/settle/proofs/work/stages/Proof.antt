@@ -1,23 +1,15 @@
+-- `settle::work::stages` meets its contract: each stage hands on what the next one asks. Assumes nothing.
 use Rattle.settle.proofs.Collected.{read-long, called-long, compensated, compensated-prices}
 use borrow.Author.Needs.{needs}
 use Rattle.settle.proofs.work.stages.Statement.{statement}
 use Rattle.settle.proofs.work.stages.Tie as tie
-use Rattle.settle.proofs.work.stages.Reads as reads
-use Rattle.settle.proofs.work.stages.Lts as lts
-use Rattle.files.proofs.head_at.Reads as head-at-reads
-use Rattle.settle.proofs.column.compensations.Reads as compensations-reads
-use Rattle.settle.proofs.work.clear_all.Reads as clear-all-reads
-use Rattle.settle.proofs.work.collect.Reads as collect-reads
 
--- src/work.rt:286:9
 head-at-requires : tie.Need-head-at-requires
 head-at-requires c κs = read-long _ _ _ _ (c .before .before .before .before .before .before .before .before .pre .0)
 
--- src/work.rt:288:9
 clear-all-requires : tie.Need-clear-all-requires
 clear-all-requires c κs = search needs
 
--- src/work.rt:291:5
 compensations-requires : tie.Need-compensations-requires
 compensations-requires c κs =
     let p = c .before .before .before .before .before .before .before .before .before .before .before .before .before .before .before .before .before .before .before .pre in
@@ -25,7 +17,6 @@ compensations-requires c κs =
     let long = called-long _ _ _ _ _ _ market in
     (p .0, (compensated-prices _ _ _ _ _ _ _ _ (p .0) market, (long .0, long .1, p .1 .0 .c-long)))
 
--- src/work.rt:302:5
 collect-requires : tie.Need-collect-requires
 collect-requires c κs =
     let p = c .before .before .before .before .before .before .before .before .before .before .before .before .before .before .before .before .before .before .before .before .before .before .before .before .before .before .before .before .pre in (
@@ -33,31 +24,24 @@ collect-requires c κs =
       (p .1 .0 .d-long, p .1 .1 .0, p .1 .1 .1),
     )
 
--- src/work.rt:269:1
 same-length : tie.Need-same-length
 same-length c = search needs
 
--- src/work.rt:269:1
 same-length-2 : tie.Need-same-length-2
 same-length-2 c = search needs
 
--- src/work.rt:269:1
 same-length-3 : tie.Need-same-length-3
 same-length-3 c = search needs
 
--- src/work.rt:269:1
 same-length-4 : tie.Need-same-length-4
 same-length-4 c = search needs
 
--- src/work.rt:269:1
 same-length-5 : tie.Need-same-length-5
 same-length-5 c = search needs
 
--- src/work.rt:269:1
 same-length-6 : tie.Need-same-length-6
 same-length-6 c = search needs
 
--- src/work.rt:269:1
 returns : tie.Need-returns
 returns c = search needs
 

@@ -1,3 +1,4 @@
+-- `settle::work::total_of` meets its contract: the loop's sum is that of the positions passed, each below 2 ^ 32. Assumes nothing.
 use Prim.Native.Nat.{_-_, _*_, _≤_}
 use mathlib.Core.Path.{_≡_}
 use native.Mathlib.Omega.{arith}
@@ -9,9 +10,6 @@ use Rattle.columns.proofs.Sum.{sum-next}
 use Rattle.share.specs.Share.{whole}
 use Rattle.settle.proofs.work.total_of.Statement.{statement}
 use Rattle.settle.proofs.work.total_of.Tie as tie
-use Rattle.settle.proofs.work.total_of.Reads as reads
-use Rattle.settle.proofs.work.total_of.Lts as lts
-use Rattle.settle.proofs.work.wide.Reads as wide-reads
 
 abbrev Inv-loop : tie.InvT-loop
 Inv-loop column sum₀ i₀ sum i = (i ≤ length column) × (sum ≡ sumTo i (at column)) × (sum ≤ i * 4294967296)
@@ -19,40 +17,31 @@ Inv-loop column sum₀ i₀ sum i = (i ≤ length column) × (sum ≡ sumTo i (a
 abbrev μ-loop : tie.MeasureT-loop
 μ-loop column sum₀ i₀ sum i = length column - i
 
--- src/work.rt:124:5
 loop-holds : tie.Need-loop-holds Inv-loop μ-loop
 unfolding sumTo
 loop-holds c = search needs
 
--- src/work.rt:125:21
 mul-wide : tie.Need-mul-wide Inv-loop μ-loop
 mul-wide c = search needs
 
--- src/work.rt:125:21
 shared-slice-read-wide : tie.Need-shared-slice-read-wide Inv-loop μ-loop
 shared-slice-read-wide c = search needs
 
--- src/work.rt:125:16
 wide-requires : tie.Need-wide-requires Inv-loop μ-loop
 wide-requires c κs = search needs
 
--- src/work.rt:125:9
 add-sum : tie.Need-add-sum Inv-loop μ-loop
 add-sum c = search needs
 
--- src/work.rt:126:9
 add-i : tie.Need-add-i Inv-loop μ-loop
 add-i c = search needs
 
--- src/work.rt:124:5
 loop-less : tie.Need-loop-less Inv-loop μ-loop
 loop-less c = search needs
 
--- src/work.rt:124:5
 loop-again : tie.Need-loop-again Inv-loop μ-loop
 loop-again c = omega (arith, sum-next (c .before .before .before .loop .i) (at (c .before .before .before .before .before .args .column .now)))
 
--- src/work.rt:118:1
 returns : tie.Need-returns Inv-loop μ-loop
 unfolding whole
 returns c =

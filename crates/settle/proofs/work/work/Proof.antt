@@ -1,3 +1,4 @@
+-- `settle::work::work` meets its contract: the columns it lends have n entries each, the sources are those of the rows that count. Assumes nothing.
 use native.Mathlib.Omega.{arith}
 use mathlib.Core.Path.{sym}
 use Rattle.settle.proofs.Cleared.{part-long}
@@ -5,82 +6,58 @@ use Rattle.settle.proofs.Answered.{few-rows, read-of}
 use borrow.Author.Needs.{needs}
 use Rattle.settle.proofs.work.work.Statement.{statement}
 use Rattle.settle.proofs.work.work.Tie as tie
-use Rattle.settle.proofs.work.work.Reads as reads
-use Rattle.settle.proofs.work.work.Lts as lts
-use Rattle.files.proofs.sources.Reads as sources-reads
-use Rattle.settle.proofs.work.blank.Reads as blank-reads
-use Rattle.settle.proofs.work.blank_marks.Reads as blank-marks-reads
-use Rattle.settle.proofs.work.stages.Reads as stages-reads
 
--- src/work.rt:326:23
 blank-marks-requires : tie.Need-blank-marks-requires
 blank-marks-requires c κs = search needs
 
--- src/work.rt:327:5
 sources-requires : tie.Need-sources-requires
 sources-requires c κs = search needs
 
--- src/work.rt:328:23
 blank-requires : tie.Need-blank-requires
 blank-requires c κs = search needs
 
--- src/work.rt:329:23
 blank-requires-2 : tie.Need-blank-requires-2
 blank-requires-2 c κs = search needs
 
--- src/work.rt:330:19
 blank-requires-3 : tie.Need-blank-requires-3
 blank-requires-3 c κs = search needs
 
--- src/work.rt:331:20
 blank-requires-4 : tie.Need-blank-requires-4
 blank-requires-4 c κs = search needs
 
--- src/work.rt:332:19
 blank-requires-5 : tie.Need-blank-requires-5
 blank-requires-5 c κs = search needs
 
--- src/work.rt:338:9
 array-borrow-prefix-called1 : tie.Need-array-borrow-prefix-called1
 array-borrow-prefix-called1 c = omega (arith, c .before .before .before .before .before .blank .ensures, few-rows _ _ _ (c .before .before .before .before .before .before .before .before .before .before .before .before .pre .0))
 
--- src/work.rt:338:9
 slice-aggregate-stages : tie.Need-slice-aggregate-stages
 slice-aggregate-stages c = part-long _ _ (c .before .before .before .before .before .before .blank .ensures) (few-rows _ _ _ (c .before .before .before .before .before .before .before .before .before .before .before .before .before .pre .0))
 
--- src/work.rt:339:9
 array-borrow-prefix-called2 : tie.Need-array-borrow-prefix-called2
 array-borrow-prefix-called2 c = omega (arith, c .before .before .before .before .before .blank2 .ensures, few-rows _ _ _ (c .before .before .before .before .before .before .before .before .before .before .before .before .before .pre .0))
 
--- src/work.rt:339:9
 slice-aggregate-stages-2 : tie.Need-slice-aggregate-stages-2
 slice-aggregate-stages-2 c = part-long _ _ (c .before .before .before .before .before .before .blank2 .ensures) (few-rows _ _ _ (c .before .before .before .before .before .before .before .before .before .before .before .before .before .before .pre .0))
 
--- src/work.rt:340:9
 array-borrow-prefix-pay : tie.Need-array-borrow-prefix-pay
 array-borrow-prefix-pay c = omega (arith, c .before .before .before .before .before .blank3 .ensures, few-rows _ _ _ (c .before .before .before .before .before .before .before .before .before .before .before .before .before .before .pre .0))
 
--- src/work.rt:340:9
 slice-aggregate-stages-3 : tie.Need-slice-aggregate-stages-3
 slice-aggregate-stages-3 c = part-long _ _ (c .before .before .before .before .before .before .blank3 .ensures) (few-rows _ _ _ (c .before .before .before .before .before .before .before .before .before .before .before .before .before .before .before .pre .0))
 
--- src/work.rt:341:9
 array-borrow-prefix-paid : tie.Need-array-borrow-prefix-paid
 array-borrow-prefix-paid c = omega (arith, c .before .before .before .before .before .blank4 .ensures, few-rows _ _ _ (c .before .before .before .before .before .before .before .before .before .before .before .before .before .before .before .pre .0))
 
--- src/work.rt:341:9
 slice-aggregate-stages-4 : tie.Need-slice-aggregate-stages-4
 slice-aggregate-stages-4 c = part-long _ _ (c .before .before .before .before .before .before .blank4 .ensures) (few-rows _ _ _ (c .before .before .before .before .before .before .before .before .before .before .before .before .before .before .before .before .pre .0))
 
--- src/work.rt:342:9
 array-borrow-prefix-cut : tie.Need-array-borrow-prefix-cut
 array-borrow-prefix-cut c = omega (arith, c .before .before .before .before .before .blank5 .ensures, few-rows _ _ _ (c .before .before .before .before .before .before .before .before .before .before .before .before .before .before .before .before .pre .0))
 
--- src/work.rt:342:9
 slice-aggregate-stages-5 : tie.Need-slice-aggregate-stages-5
 slice-aggregate-stages-5 c = part-long _ _ (c .before .before .before .before .before .before .blank5 .ensures) (few-rows _ _ _ (c .before .before .before .before .before .before .before .before .before .before .before .before .before .before .before .before .before .pre .0))
 
--- src/work.rt:333:5
 stages-requires : tie.Need-stages-requires
 stages-requires c κs =
     let p = c .before .before .before .before .before .before .before .before .before .before .before .before .before .before .before .before .before .before .pre in
@@ -97,11 +74,9 @@ stages-requires c κs =
       ),
     )
 
--- src/work.rt:321:1
 same-length : tie.Need-same-length
 same-length c = search needs
 
--- src/work.rt:321:1
 returns : tie.Need-returns
 returns c = search needs
 

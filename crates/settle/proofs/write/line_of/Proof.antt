@@ -1,92 +1,69 @@
+-- `settle::write::line_of` meets its contract: each figure is its column's at the row. Assumes nothing.
 use Rattle.settle.proofs.Written.{line-made}
 use borrow.Author.Needs.{needs}
 use Rattle.settle.proofs.write.line_of.Statement.{statement}
 use Rattle.settle.proofs.write.line_of.Tie as tie
-use Rattle.settle.proofs.write.line_of.Reads as reads
-use Rattle.settle.proofs.write.line_of.Lts as lts
-use Rattle.settle.proofs.write.fen.Reads as fen-reads
 
--- src/write.rt:40:22
 mul-t11 : tie.Need-mul-t11
 mul-t11 c = search needs
 
--- src/write.rt:40:22
 shared-slice-read-t13 : tie.Need-shared-slice-read-t13
 shared-slice-read-t13 c = search needs
 
--- src/write.rt:41:22
 mul-t15 : tie.Need-mul-t15
 mul-t15 c = search needs
 
--- src/write.rt:41:22
 shared-slice-read-t17 : tie.Need-shared-slice-read-t17
 shared-slice-read-t17 c = search needs
 
--- src/write.rt:42:27
 mul-fen : tie.Need-mul-fen
 mul-fen c = search needs
 
--- src/write.rt:42:27
 shared-slice-read-fen : tie.Need-shared-slice-read-fen
 shared-slice-read-fen c = search needs
 
--- src/write.rt:42:23
 fen-requires : tie.Need-fen-requires
 fen-requires c κs = search needs
 
--- src/write.rt:43:18
 mul-fen-2 : tie.Need-mul-fen-2
 mul-fen-2 c = search needs
 
--- src/write.rt:43:18
 shared-slice-read-fen-2 : tie.Need-shared-slice-read-fen-2
 shared-slice-read-fen-2 c = search needs
 
--- src/write.rt:43:14
 fen-requires-2 : tie.Need-fen-requires-2
 fen-requires-2 c κs = search needs
 
--- src/write.rt:44:21
 mul-t27 : tie.Need-mul-t27
 mul-t27 c = search needs
 
--- src/write.rt:44:21
 shared-slice-read-t29 : tie.Need-shared-slice-read-t29
 shared-slice-read-t29 c = search needs
 
--- src/write.rt:45:18
 mul-fen-3 : tie.Need-mul-fen-3
 mul-fen-3 c = search needs
 
--- src/write.rt:45:18
 shared-slice-read-fen-3 : tie.Need-shared-slice-read-fen-3
 shared-slice-read-fen-3 c = search needs
 
--- src/write.rt:45:14
 fen-requires-3 : tie.Need-fen-requires-3
 fen-requires-3 c κs = search needs
 
--- src/write.rt:46:19
 mul-fen-4 : tie.Need-mul-fen-4
 mul-fen-4 c = search needs
 
--- src/write.rt:46:19
 shared-slice-read-fen-4 : tie.Need-shared-slice-read-fen-4
 shared-slice-read-fen-4 c = search needs
 
--- src/write.rt:46:15
 fen-requires-4 : tie.Need-fen-requires-4
 fen-requires-4 c κs = search needs
 
--- src/write.rt:47:18
 mul-t39 : tie.Need-mul-t39
 mul-t39 c = search needs
 
--- src/write.rt:47:18
 shared-slice-read-t41 : tie.Need-shared-slice-read-t41
 shared-slice-read-t41 c = search needs
 
--- src/write.rt:23:1
 returns : tie.Need-returns
 returns c =
     line-made _ _ _ _ _ _ _ (c .before .before .before .before .before .before .before .before .fen .ensures) (c .before .before .before .before .before .before .fen2 .ensures)

@@ -1,4 +1,5 @@
-use Prim.Native.Nat.{_+_, _-_, _*_, _≤_}
+-- `settle::write::put_lines` meets its contract: the lines of the rows passed stand behind the head. Assumes nothing.
+use Prim.Native.Nat.{_-_, _≤_}
 use mathlib.Core.Path.{_≡_}
 use native.Mathlib.Omega.{arith}
 use borrow.Author.Needs.{needs}
@@ -10,12 +11,6 @@ use Rattle.settle.specs.Asked.{columns, idAt}
 use Rattle.settle.proofs.Written.{lines-none, lines-more, lines-long, lines-all}
 use Rattle.settle.proofs.write.put_lines.Statement.{statement}
 use Rattle.settle.proofs.write.put_lines.Tie as tie
-use Rattle.settle.proofs.write.put_lines.Reads as reads
-use Rattle.settle.proofs.write.put_lines.Lts as lts
-use Rattle.columns.proofs.put_bytes.Reads as put-bytes-reads
-use Rattle.files.proofs.id_at.Reads as id-at-reads
-use Rattle.settle.proofs.write.line_of.Reads as line-of-reads
-use Rattle.statement.proofs.encode_line.Reads as encode-line-reads
 
 abbrev Inv-loop : tie.InvT-loop
 Inv-loop interval called1 called2 compensations cuts weights caps paid closing out₀ i₀ out i =
@@ -25,55 +20,42 @@ Inv-loop interval called1 called2 compensations cuts weights caps paid closing o
 abbrev μ-loop : tie.MeasureT-loop
 μ-loop interval called1 called2 compensations cuts weights caps paid closing out₀ i₀ out i = length called1 - i
 
--- src/write.rt:68:5
 loop-holds : tie.Need-loop-holds Inv-loop μ-loop
 loop-holds c = (search needs, search needs, search lines-none)
 
--- src/write.rt:69:39
 mul-id-at : tie.Need-mul-id-at Inv-loop μ-loop
 mul-id-at c = search needs
 
--- src/write.rt:69:34
 add-id-at : tie.Need-add-id-at Inv-loop μ-loop
 add-id-at c = search needs
 
--- src/write.rt:69:13
 id-at-requires : tie.Need-id-at-requires Inv-loop μ-loop
 id-at-requires c κs = search needs
 
--- src/write.rt:70:13
 line-of-requires : tie.Need-line-of-requires Inv-loop μ-loop
 line-of-requires c κs = search needs
 
--- src/write.rt:82:29
 mul-put-bytes : tie.Need-mul-put-bytes Inv-loop μ-loop
 mul-put-bytes c = omega (arith, c .before .before .before .before .loop .inv, c .before .before .before .loop-test .taken, c .before .before .before .before .before .before .before .before .before .before .before .before .before .before .before .pre)
 
--- src/write.rt:82:24
 add-put-bytes : tie.Need-add-put-bytes Inv-loop μ-loop
 add-put-bytes c = omega (arith, c .before .before .before .before .loop .inv, c .before .before .before .loop-test .taken, c .before .before .before .before .before .before .before .before .before .before .before .before .before .before .before .pre)
 
--- src/write.rt:82:38
 encode-line-requires : tie.Need-encode-line-requires Inv-loop μ-loop
 encode-line-requires c κs = search needs
 
--- src/write.rt:82:37
 slice-aggregate-put-bytes : tie.Need-slice-aggregate-put-bytes Inv-loop μ-loop
 slice-aggregate-put-bytes c = search needs
 
--- src/write.rt:82:9
 put-bytes-requires : tie.Need-put-bytes-requires Inv-loop μ-loop
 put-bytes-requires c κs = omega (arith, c .before .before .before .before .before .before .loop .inv, c .before .before .before .before .before .loop-test .taken, c .before .before .before .before .before .before .before .before .before .before .before .before .before .before .before .before .before .pre)
 
--- src/write.rt:83:9
 add-i : tie.Need-add-i Inv-loop μ-loop
 add-i c = omega (arith, c .before .before .before .before .before .before .before .before .before .loop .inv, c .before .before .before .before .before .before .before .before .loop-test .taken, c .before .before .before .before .before .before .before .before .before .before .before .before .before .before .before .before .before .before .before .before .pre)
 
--- src/write.rt:68:5
 loop-less : tie.Need-loop-less Inv-loop μ-loop
 loop-less c = search needs
 
--- src/write.rt:68:5
 loop-again : tie.Need-loop-again Inv-loop μ-loop
 loop-again c =
     let l = c .before .before .before .before .before .before .before .before .before .loop in
@@ -81,11 +63,9 @@ loop-again c =
     (c .before .before .before .before .encode-line .ensures) (c .before .before .put-bytes .ensures) in
     (omega (arith, l .inv, c .before .before .before .before .before .before .before .before .loop-test .taken), lines-long _ _ _ _ _ more (omega (arith, l .inv, c .before .before .before .before .before .before .before .before .loop-test .taken, c .before .before .before .before .before .before .before .before .before .before .before .before .before .before .before .before .before .before .before .before .pre)), more)
 
--- src/write.rt:52:1
 same-length : tie.Need-same-length Inv-loop μ-loop
 same-length c = search needs
 
--- src/write.rt:52:1
 returns : tie.Need-returns Inv-loop μ-loop
 returns c = search lines-all
 

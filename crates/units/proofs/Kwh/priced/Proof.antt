@@ -1,20 +1,16 @@
+-- `units::Kwh::priced` meets its contract: 32 bits by 32 bits fit 64. Assumes nothing.
 use Prim.Native.Nat.{_^_}
 use Rattle.columns.proofs.Product.{product}
 use borrow.Author.Needs.{needs}
 use Rattle.units.proofs.Kwh.priced.Statement.{statement}
 use Rattle.units.proofs.Kwh.priced.Tie as tie
-use Rattle.units.proofs.Kwh.priced.Reads as reads
-use Rattle.units.proofs.Kwh.priced.Lts as lts
 
--- src/lib.rt:22:13
 cast-t3 : tie.Need-cast-t3
 cast-t3 c = search needs
 
--- src/lib.rt:22:12
 mul-t4 : tie.Need-mul-t4
 mul-t4 c = record { fits = product 4294967295 4294967295 (2 ^ 64) (search needs) (search needs) tt }
 
--- src/lib.rt:18:5
 returns : tie.Need-returns
 returns c = search needs
 

@@ -1,24 +1,19 @@
+-- `units::Kwh::thermal_cap` meets its contract: 32 bits by 32 bits fit 64. Assumes nothing.
 use Prim.Native.Nat.{_^_}
 use Rattle.columns.proofs.Product.{product}
 use borrow.Author.Needs.{needs}
 use Rattle.units.proofs.Kwh.thermal_cap.Statement.{statement}
 use Rattle.units.proofs.Kwh.thermal_cap.Tie as tie
-use Rattle.units.proofs.Kwh.thermal_cap.Reads as reads
-use Rattle.units.proofs.Kwh.thermal_cap.Lts as lts
 
--- src/lib.rt:29:14
 cast-t3 : tie.Need-cast-t3
 cast-t3 c = search needs
 
--- src/lib.rt:29:32
 cast-t4 : tie.Need-cast-t4
 cast-t4 c = search needs
 
--- src/lib.rt:29:13
 mul-t5 : tie.Need-mul-t5
 mul-t5 c = record { fits = product 4294967295 4294967295 (2 ^ 64) (search needs) (search needs) tt }
 
--- src/lib.rt:26:5
 returns : tie.Need-returns
 returns c = search needs
 
