@@ -2,16 +2,17 @@
 --   spelled          the fewest digits that hold a number are its decimal text
 --   few-digits       a number of eight bytes has at most twenty
 --   number-placed    the digits, then what stands after them: `put_number`
---   no-fields, fields-more, fields-all   the start, a turn and the end of `put_fields`
+--   no-fields, fields-more   the start and a turn of `put_fields`
+--   told-line        a line of interval X, letter by letter
 -- Assumes nothing.
 use mathlib.Core.Path.{_≡_, refl, sym, ap, _∙_}
 use mathlib.Core.Logic.{_⊎_, ⊎-elim}
 use mathlib.Core.List.{List, [], _∷_, _++_}
-use Prim.Native.Nat.{ℕ, zero, suc, _+_, _-_, _*_, _/_, _%_, _^_, _≤_, _<_, zero-le}
+use Prim.Native.Nat.{ℕ, zero, suc, _+_, _-_, _*_, _/_, _%_, _^_, _≤_, _<_}
 use native.Mathlib.Nat.{pow-succ', pow-zero, one-le-pow, pow-le-pow-right}
 use native.Mathlib.Numerals.{add-one}
 use native.Mathlib.Omega.{arith}
-use lib.Dec.{ltb, lit<}
+use lib.Dec.{lit<}
 use lib.ListN.{length, getD, take, set, length-append}
 use borrow.Author.Tests.{lt-ltb, le-ltb}
 use Rattle.columns.specs.Buffer.{put}
@@ -76,7 +77,7 @@ number-placed l ds at k x e room h n f d =
       fits = omega arith;
     }
 
--- no field yet; one field more; all nine
+-- no field yet; one field more
 pub no-fields : (l fields : List ℕ) (from : ℕ) → Placed l l from (textTo 0 fields) from 0
 unfolding textTo
 no-fields l fields from = record { bytes = sym (put-none l from); end-is = omega arith; fits = omega arith }
@@ -100,3 +101,9 @@ fields-more l l′ l″ fields from at i end e room h p q r =
       end-is = omega (arith, r′ .end-is, p .end-is, length-append (textTo i fields) new);
       fits = omega (arith, r′ .fits, p .fits);
     })
+
+-- row 2 of interval X at tariff 1300: "2 0 0 0 0 15000 65000 65000 1" and the line's end
+pub told-line : lineText (2 ∷ 0 ∷ 0 ∷ 0 ∷ 0 ∷ 15000 ∷ 65000 ∷ 65000 ∷ 1 ∷ [])
+    ≡ 50 ∷ 32 ∷ 48 ∷ 32 ∷ 48 ∷ 32 ∷ 48 ∷ 32 ∷ 48 ∷ 32 ∷ 49 ∷ 53 ∷ 48 ∷ 48 ∷ 48 ∷ 32 ∷ 54 ∷ 53 ∷ 48 ∷ 48 ∷ 48 ∷ 32 ∷ 54 ∷ 53 ∷ 48 ∷ 48 ∷ 48 ∷ 32 ∷ 49 ∷ 10 ∷ []
+unfolding textTo decimalIn
+told-line = refl

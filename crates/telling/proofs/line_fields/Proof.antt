@@ -1,31 +1,24 @@
+-- `telling::line_fields` meets its contract. Assumes nothing.
 use native.Mathlib.Omega.{arith}
 use borrow.Author.Needs.{needs}
 use Rattle.telling.proofs.line_fields.Statement.{statement}
 use Rattle.telling.proofs.line_fields.Tie as tie
-use Rattle.telling.proofs.line_fields.Reads as reads
-use Rattle.telling.proofs.line_fields.Lts as lts
 
--- src/lib.rt:78:9
 cast-t2 : tie.Need-cast-t2
 cast-t2 c = search needs
 
--- src/lib.rt:79:9
 cast-t3 : tie.Need-cast-t3
 cast-t3 c = search needs
 
--- src/lib.rt:80:9
 cast-t4 : tie.Need-cast-t4
 cast-t4 c = search needs
 
--- src/lib.rt:83:9
 cast-t5 : tie.Need-cast-t5
 cast-t5 c = search needs
 
--- src/lib.rt:86:9
 cast-t6 : tie.Need-cast-t6
 cast-t6 c = record { fits = omega (arith, c .before .before .before .before .before .good) }
 
--- src/lib.rt:74:1
 returns : tie.Need-returns
 returns c = search needs
 

@@ -1,3 +1,4 @@
+-- `telling::put_fields` meets its contract. Assumes nothing.
 use mathlib.Core.Path.{_≡_, refl, _∙_}
 use Prim.Native.Nat.{_+_, _*_, _-_, _≤_}
 use lib.ListN.{length}
@@ -7,10 +8,6 @@ use Rattle.telling.specs.Text.{textTo, Placed}
 use Rattle.telling.proofs.Spelled.{no-fields, fields-more}
 use Rattle.telling.proofs.put_fields.Statement.{statement}
 use Rattle.telling.proofs.put_fields.Tie as tie
-use Rattle.telling.proofs.put_fields.Reads as reads
-use Rattle.telling.proofs.put_fields.Lts as lts
-use Rattle.telling.proofs.end_of.Reads as end-of-reads
-use Rattle.telling.proofs.put_number.Reads as put-number-reads
 
 abbrev Inv-loop : tie.InvT-loop
 Inv-loop text₀ from fields at₀ i₀ text at i = (i ≤ 9) × (length text ≡ length text₀) × Placed text₀ text from (textTo i fields) at (i * 21)
@@ -18,37 +15,29 @@ Inv-loop text₀ from fields at₀ i₀ text at i = (i ≤ 9) × (length text �
 abbrev μ-loop : tie.MeasureT-loop
 μ-loop text₀ from fields at₀ i₀ text at i = 9 - i
 
--- src/lib.rt:96:5
 loop-holds : tie.Need-loop-holds Inv-loop μ-loop
 loop-holds c = (omega arith, refl, no-fields _ _ _)
 
--- src/lib.rt:97:35
 mul-put-number : tie.Need-mul-put-number Inv-loop μ-loop
 mul-put-number c = search needs
 
--- src/lib.rt:97:35
 element-copy-out-put-number : tie.Need-element-copy-out-put-number Inv-loop μ-loop
 element-copy-out-put-number c = search needs
 
--- src/lib.rt:97:46
 end-of-requires : tie.Need-end-of-requires Inv-loop μ-loop
 end-of-requires c κs = search needs
 
--- src/lib.rt:97:9
 put-number-requires : tie.Need-put-number-requires Inv-loop μ-loop
 put-number-requires c κs =
     let l = c .before .before .before .before .loop in
     omega (arith, l .inv .1, l .inv .2 .fits, c .before .before .before .before .before .before .pre .1)
 
--- src/lib.rt:98:9
 add-i : tie.Need-add-i Inv-loop μ-loop
 add-i c = search needs
 
--- src/lib.rt:96:5
 loop-less : tie.Need-loop-less Inv-loop μ-loop
 loop-less c = search needs
 
--- src/lib.rt:96:5
 loop-again : tie.Need-loop-again Inv-loop μ-loop
 loop-again c =
     let l = c .before .before .before .before .before .before .before .loop in
@@ -58,11 +47,9 @@ loop-again c =
       fields-more _ _ _ _ _ _ _ _ _ (c .before .before .before .before .before .before .before .before .before .pre .1) (omega arith) (l .inv .2) (c .before .before .before .end-of .ensures) (call .ensures),
     )
 
--- src/lib.rt:90:1
 same-length : tie.Need-same-length Inv-loop μ-loop
 same-length c = search needs
 
--- src/lib.rt:90:1
 returns : tie.Need-returns Inv-loop μ-loop
 returns c =
     let l = c .before .loop in
