@@ -83,8 +83,7 @@ fn case_of(random: &mut Random, shape: Shape, interval: Interval) -> Case {
 pub fn interval(random: &mut Random, shape: Shape) -> Interval {
     if shape == Shape::ManyRounds {
         let wanted = random.within(10..=28) as usize;
-        let interval = many_rounds::interval(random, wanted);
-        return dated(random, interval);
+        return many_rounds(random, wanted);
     }
     let count = match shape {
         Shape::NoRows => 0,
@@ -93,6 +92,12 @@ pub fn interval(random: &mut Random, shape: Shape) -> Interval {
         _ => random.within(1..=256),
     };
     interval_of(random, shape, count)
+}
+
+/// An interval in which up to so many rounds close somebody.
+pub fn many_rounds(random: &mut Random, wanted: usize) -> Interval {
+    let interval = many_rounds::interval(random, wanted);
+    dated(random, interval)
 }
 
 /// A valid interval of the given shape and number of rows. Many rounds and full files are not to be had with few rows.

@@ -49,6 +49,11 @@ fn every_fault_is_refused_with_its_number_and_place() {
             let outcome = case.run(settle).unwrap_or_else(|what| panic!("{what}; {} of seed {seed}", case.name));
             assert_eq!(outcome.answer, Err(due), "{} of seed {seed}", case.name);
         }
+        for _ in 0..500 {
+            let (case, due) = refused::several(&mut random, &base);
+            let outcome = case.run(settle).unwrap_or_else(|what| panic!("{what}; {} of seed {seed}", case.name));
+            assert_eq!(outcome.answer, Err(due), "{} of seed {seed}", case.name);
+        }
     }
 }
 

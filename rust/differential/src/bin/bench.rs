@@ -1,0 +1,105 @@
+//! The engine's time beside the reference's, in one run: a day of 96 quarters, by rows and by rounds.
+//!
+//! Every figure is the median of the repetitions with the least and the greatest; in each repetition both settle the same
+//! day, the one that goes first in turn, so that a busy moment of the machine touches both.
+
+use std::hint::black_box;
+use std::time::Instant;
+
+use cases::accepted::{self, Shape};
+use cases::file::{Interval, Row};
+use cases::random::Random;
+
+const QUARTERS: usize = 96;
+const REPETITIONS: usize = 20;
+const ROWS: usize = 256;
+
+type Settle = fn(&[u8], &mut [u8]) -> bool;
+
+fn engine(interval: &[u8], statement: &mut [u8]) -> bool {
+    wheatrudder::settle(interval, &[], statement).is_ok()
+}
+
+fn reference(interval: &[u8], statement: &mut [u8]) -> bool {
+    reference::settle(interval, &[], statement).is_ok()
+}
+
+/// Microseconds a quarter.
+fn settle_all(settle: Settle, intervals: &[Vec<u8>], statement: &mut [u8]) -> f64 {
+    let start = Instant::now();
+    for interval in intervals {
+        assert!(black_box(settle(black_box(interval), statement)));
+    }
+    start.elapsed().as_secs_f64() * 1e6 / intervals.len() as f64
+}
+
+/// Median, least and greatest.
+fn spread(mut times: Vec<f64>) -> [f64; 3] {
+    times.sort_by(f64::total_cmp);
+    [(times[times.len() / 2 - 1] + times[times.len() / 2]) / 2.0, times[0], times[times.len() - 1]]
+}
+
+fn measure(name: &str, intervals: &[Vec<u8>]) {
+    let mut statement = vec![0; 35 + 34 * ROWS];
+    let (mut ours, mut theirs, mut ratios) = (Vec::new(), Vec::new(), Vec::new());
+    settle_all(engine, intervals, &mut statement);
+    settle_all(reference, intervals, &mut statement);
+    for repetition in 0..REPETITIONS {
+        let [first, second]: [Settle; 2] = if repetition % 2 == 0 { [engine, reference] } else { [reference, engine] };
+        let mut times = [first, second].map(|settle| settle_all(settle, intervals, &mut statement));
+        if repetition % 2 == 1 {
+            times.reverse();
+        }
+        ours.push(times[0]);
+        theirs.push(times[1]);
+        ratios.push(times[0] / times[1]);
+    }
+    let cell = |[median, least, greatest]: [f64; 3], places| {
+        format!("{median:.places$} ({least:.places$} to {greatest:.places$})")
+    };
+    println!("| {name} | {} | {} | {} |", cell(spread(ours), 1), cell(spread(theirs), 1), cell(spread(ratios), 2));
+}
+
+fn day(mut quarter: impl FnMut() -> Interval) -> Vec<Vec<u8>> {
+    (0..QUARTERS).map(|_| quarter().bytes()).collect()
+}
+
+fn rounds_of(interval: &Interval) -> usize {
+    let mut statement = vec![0; interval.statement_length()];
+    wheatrudder::settle(&interval.bytes(), &[], &mut statement).expect("accepted");
+    wheatrudder::head(&statement).expect("a head").rounds.into()
+}
+
+/// Rows that take no part, up to a full file.
+fn filled(mut interval: Interval) -> Interval {
+    while interval.rows.len() < ROWS {
+        let id = interval.rows.last().map_or(1, |row| row.id + 1);
+        interval.rows.push(Row::thermal(id, 100, 0));
+    }
+    interval
+}
+
+fn main() {
+    let mut random = Random::from_seed(1);
+    let head =
+        |what| println!("\n| {what} | engine, µs a quarter | reference | engine / reference |\n|---|---|---|---|");
+    head("a day of 96 quarters, 256 rows");
+    for shape in [Shape::Mixed, Shape::Edges, Shape::TiedBids, Shape::TiedRemainders, Shape::AllCapped] {
+        measure(&format!("{shape:?}"), &day(|| accepted::interval_of(&mut random, shape, ROWS as u32)));
+    }
+    head("rows, mixed");
+    for rows in [16, 64, 256] {
+        measure(&rows.to_string(), &day(|| accepted::interval_of(&mut random, Shape::Mixed, rows)));
+    }
+    head("rounds, 256 rows");
+    let mut by_rounds = vec![Vec::new(); 64];
+    for wanted in (0..=28).cycle().take(29 * 60) {
+        let interval = filled(accepted::many_rounds(&mut random, wanted));
+        by_rounds[rounds_of(&interval)].push(interval.bytes());
+    }
+    for rounds in [0, 1, 2, 4, 8, 12, 16] {
+        if by_rounds[rounds].len() >= 8 {
+            measure(&rounds.to_string(), &by_rounds[rounds][..by_rounds[rounds].len().min(QUARTERS)]);
+        }
+    }
+}

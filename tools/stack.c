@@ -1,0 +1,71 @@
+/* Runs each function of the library in a thread on a painted stack and prints how deep the paint is gone (tools/measure-stack).
+ * A thread that calls nothing of the library shows what the thread itself takes, and is taken off. */
+#define _GNU_SOURCE
+#include "wheatrudder.h"
+
+#include <pthread.h>
+#include <stdio.h>
+#include <stdlib.h>
+#include <string.h>
+
+enum { STACK = 1 << 20, PAINT = 0xC3 };
+
+static uint8_t interval[WHEATRUDDER_INTERVAL_LENGTH(WHEATRUDDER_MOST_ROWS)];
+static size_t interval_length;
+static uint8_t out[WHEATRUDDER_STATEMENT_LENGTH(WHEATRUDDER_MOST_ROWS)];
+static uint64_t answer;
+
+static void *nothing(void *ignored) { return ignored; }
+
+static void *settle(void *ignored)
+{
+    answer = wheatrudder_settle(interval, interval_length, NULL, 0, out, sizeof out);
+    return ignored;
+}
+
+static void *row(void *ignored)
+{
+    answer = wheatrudder_row(interval, interval_length, NULL, 0, 1, out, sizeof out);
+    return ignored;
+}
+
+static void *rewrite(void *ignored)
+{
+    answer = wheatrudder_rewrite(interval, interval_length, out, sizeof out);
+    return ignored;
+}
+
+static size_t depth(void *(*run)(void *))
+{
+    uint8_t *stack = aligned_alloc(4096, STACK);
+    pthread_attr_t how;
+    pthread_t thread;
+    size_t low = 0;
+    if (!stack)
+        exit(1);
+    memset(stack, PAINT, STACK);
+    pthread_attr_init(&how);
+    if (pthread_attr_setstack(&how, stack, STACK) || pthread_create(&thread, &how, run, NULL) || pthread_join(thread, NULL))
+        exit(1);
+    while (low < STACK && stack[low] == PAINT)
+        low++;
+    free(stack);
+    return STACK - low;
+}
+
+int main(int count, char **words)
+{
+    FILE *file = count == 2 ? fopen(words[1], "rb") : NULL;
+    if (!file)
+        return 2;
+    interval_length = fread(interval, 1, sizeof interval, file);
+    fclose(file);
+    /* Once outside a thread, so that the loader has done its part. */
+    settle(NULL), row(NULL), rewrite(NULL);
+    size_t own = depth(nothing);
+    printf("painted stack, %zu bytes of file: settle %zu", interval_length, depth(settle) - own);
+    printf(" (answer %u %u)", wheatrudder_number(answer), wheatrudder_value(answer));
+    printf(", row %zu", depth(row) - own);
+    printf(", rewrite %zu; the thread itself %zu\n", depth(rewrite) - own, own);
+    return 0;
+}
