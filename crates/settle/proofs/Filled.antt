@@ -3,15 +3,16 @@
 --   pay-is, pay-fits, pay-at         a compensation
 --   cap-is, cap-fits, cap-at, weight-at    a cap and a weight
 --   ranged                           what the ranges of an accepted row give the code
---   filled, filled-part              a filled column, and the filled front of an array
+--   filled, filled-part, kept-part   a filled column, and the filled front of an array and the rest of it
+--   weigh-unique                     two columns that the contract of `weigh` allows are equal; so of its other column
 -- Assumes nothing.
-use Prim.Native.Nat.{ℕ, _*_, _≤_, _<_}
-use mathlib.Core.Path.{_≡_, ap, _∙_}
+use Prim.Native.Nat.{ℕ, _+_, _*_, _≤_, _<_}
+use mathlib.Core.Path.{_≡_, ap, sym, _∙_}
 use mathlib.Core.Bool.{Bool}
 use mathlib.Core.List.{List}
 use native.Mathlib.Omega.{arith}
-use lib.ListN.{length, take, length-take}
-use lib.Seq.{getD-take}
+use lib.ListN.{length, take, drop, length-take, length-drop, take-append-drop}
+use lib.Seq.{getD-take, getD-drop, ext-getD}
 use Rattle.columns.specs.Table.{at, table}
 use Rattle.columns.proofs.Table.{table-is}
 use Rattle.columns.proofs.Fill.{Reached, reached-all}
@@ -93,3 +94,14 @@ pub filled-part : (f : ℕ → ℕ) (start now : List ℕ) (i n : ℕ) → lengt
 filled-part f start now i n e few r l =
     table-is 0 (take n now) n f (length-take n now ∙ omega (arith, r .room))
     (λ q m. getD-take n now q 0 m ∙ r .done q (omega arith))
+
+-- and has left the rest as it was
+pub kept-part : (f : ℕ → ℕ) (start now : List ℕ) (i n : ℕ) → Reached 0 f start now i → i ≤ n → drop n now ≡ drop n start
+kept-part f start now i n r l =
+    ext-getD 0 (drop n now) (drop n start) (omega (arith, r .room, length-drop n now, length-drop n start))
+    (λ k m. getD-drop n now k 0 ∙ r .kept (n + k) (omega arith) ∙ sym (getD-drop n start k 0))
+
+pub weigh-unique : (start column : List ℕ) (n : ℕ) (x y : List ℕ) → (take n x ≡ column) × (drop n x ≡ drop n start)
+    → (take n y ≡ column) × (drop n y ≡ drop n start) → x ≡ y
+weigh-unique start column n x y p q =
+    sym (take-append-drop n x) ∙ rw (p .0 ∙ sym (q .0), p .1 ∙ sym (q .1)) (take-append-drop n y)

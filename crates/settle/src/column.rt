@@ -7,7 +7,7 @@ use units::Li;
 use units::half;
 ghost use mathlib.Core.Path.{_≡_};
 ghost use Prim.Native.Nat.{_*_, _<_, _≤_};
-ghost use lib.ListN.{length, take};
+ghost use lib.ListN.{length, take, drop};
 ghost use Rattle.columns.specs.Table.{table};
 ghost use Rattle.files.specs.Counting.{countingRow};
 ghost use Rattle.pay.specs.Pay.{compensation};
@@ -133,7 +133,8 @@ pub fn weigh(
     requires { ⌜ Read (now interval) (now correction) n (now sources) ⌝ }
     requires { ⌜ tariff .0 ≤ 10000 ⌝ }
     requires { ⌜ (length (now weights) ≡ 256) × (length (now caps) ≡ 256) ⌝ }
-    ensures { λ r. ⌜ (length (now (weights .exit)) ≡ 256) × (length (now (caps .exit)) ≡ 256) ⌝ }
+    ensures { λ r. ⌜ (length (now (weights .exit)) ≡ 256) × (length (now (caps .exit)) ≡ 256)
+        × (drop n (now (weights .exit)) ≡ drop n (now (weights .entry))) × (drop n (now (caps .exit)) ≡ drop n (now (caps .entry))) ⌝ }
     ensures { λ r. ⌜ take n (now (weights .exit)) ≡ weightsOf n (countingRow (now (interval .entry)) (now (correction .entry))) ⌝ }
     ensures { λ r. ⌜ take n (now (caps .exit)) ≡ capsOf (tariff .0) n (countingRow (now (interval .entry)) (now (correction .entry))) ⌝ }
 {

@@ -1,14 +1,16 @@
--- A record's bytes, spelled one by one out of the bytes of its fields: what an encoder's array literal holds.
+-- A record's bytes, spelled one by one out of the bytes of its fields: what an encoder's array literal holds. And a line made
+-- of the numbers at its places: what a reader's struct literal holds.
 --   line-spelled   a line
 --   head-spelled   a head; its quarter is one byte
+--   line-told      a line read
 -- Assumes nothing.
 use mathlib.Core.Path.{_≡_}
 use mathlib.Core.List.{List, [], _∷_}
-use Prim.Native.Nat.{ℕ, _<_, _%_}
+use Prim.Native.Nat.{ℕ, _+_, _<_, _%_}
 use native.Mathlib.Omega.{arith}
 use lib.ListN.{getD}
-use Rattle.columns.specs.Number.{numberBytes}
-use Rattle.statement.specs.Statement.{statementHeadBytes, lineBytes}
+use Rattle.columns.specs.Number.{numberAt, numberBytes}
+use Rattle.statement.specs.Statement.{statementHeadBytes, lineBytes, lineAt}
 use Rattle.statement.specs.declared.StatementHead.{StatementHead}
 use Rattle.statement.specs.declared.Line.{Line}
 
@@ -63,3 +65,27 @@ unfolding statementHeadBytes numberBytes
 head-spelled h day price1 price2 total shortfall rounds uncovered rows e0 e1 e2 e3 e4 e5 e6 e7 small =
     let own : h .quarter % 256 ≡ h .quarter = omega arith in
     rw (e0, e1, e2, e3, e4, e5, e6, e7, own)
+
+pub line-told : (s : List ℕ) (k id called1 called2 compensation cut weight cap paid closing : ℕ)
+    → id ≡ numberAt 2 s (k + 2)
+    → called1 ≡ numberAt 4 s (k + 4)
+    → called2 ≡ numberAt 4 s (k + 8)
+    → compensation ≡ numberAt 4 s (k + 12)
+    → cut ≡ numberAt 4 s (k + 16)
+    → weight ≡ numberAt 4 s (k + 20)
+    → cap ≡ numberAt 4 s (k + 24)
+    → paid ≡ numberAt 4 s (k + 28)
+    → closing ≡ numberAt 2 s (k + 32)
+    → _≡_ {A = Line} (record {
+      id = id;
+      called1 = record { 0 = called1 };
+      called2 = record { 0 = called2 };
+      compensation = record { 0 = compensation };
+      cut = record { 0 = cut };
+      weight = record { 0 = weight };
+      cap = record { 0 = cap };
+      paid = record { 0 = paid };
+      closing = closing;
+    }) (lineAt s k)
+unfolding lineAt
+line-told s k id called1 called2 compensation cut weight cap paid closing e0 e1 e2 e3 e4 e5 e6 e7 e8 = rw (e0, e1, e2, e3, e4, e5, e6, e7, e8)

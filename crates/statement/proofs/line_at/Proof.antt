@@ -1,5 +1,5 @@
 -- `statement::line_at` meets its contract: every field is the number at its place. Assumes nothing.
-use Rattle.statement.specs.Statement.{lineAt}
+use Rattle.statement.proofs.Spelled.{line-told}
 use borrow.Author.Needs.{needs}
 use Rattle.statement.proofs.line_at.Statement.{statement}
 use Rattle.statement.proofs.line_at.Tie as tie
@@ -74,8 +74,7 @@ cast-t32 : tie.Need-cast-t32
 cast-t32 c = search needs
 
 returns : tie.Need-returns
-unfolding lineAt
-returns c = cc
+returns c = search line-told
 
 pub line-at-spec : {M : Type 1} → statement M
 line-at-spec =

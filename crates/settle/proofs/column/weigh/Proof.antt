@@ -4,7 +4,7 @@ use Prim.Native.Nat.{_-_, _≤_}
 use native.Mathlib.Omega.{arith}
 use Rattle.columns.proofs.Fill.{Reached, reached-none, reached-next}
 use Rattle.settle.specs.Settlement.{weightsOf, capsOf}
-use Rattle.settle.proofs.Filled.{weightAt, capAt, weight-at, cap-at, filled-part}
+use Rattle.settle.proofs.Filled.{weightAt, capAt, weight-at, cap-at, filled-part, kept-part}
 use Rattle.settle.proofs.column.weigh.Statement.{statement}
 use Rattle.settle.proofs.column.weigh.Tie as tie
 
@@ -64,7 +64,12 @@ unfolding weightsOf capsOf
 returns c =
     let l = c .before .loop in
     let p = c .before .before .before .before .pre in (
-      (omega (arith, l .inv .1 .room, p .1 .1), omega (arith, l .inv .2 .room, p .1 .1)),
+      (
+        omega (arith, l .inv .1 .room, p .1 .1),
+        omega (arith, l .inv .2 .room, p .1 .1),
+        kept-part _ _ _ _ _ (l .inv .1) (l .inv .0),
+        kept-part _ _ _ _ _ (l .inv .2) (l .inv .0),
+      ),
       (
         filled-part _ _ _ _ _ (p .1 .1 .0) (p .0 .few) (l .inv .1) (c .loop-test .left),
         filled-part _ _ _ _ _ (p .1 .1 .1) (p .0 .few) (l .inv .2) (c .loop-test .left),
