@@ -4,11 +4,13 @@ use borrow.Author.Needs.{needs}
 use Rattle.abi.proofs.wheatrudder_rewrite.Statement.{statement}
 use Rattle.abi.proofs.wheatrudder_rewrite.Tie as tie
 
+ruleset fitting = (read-number-fits, read-place-fits, needs)
+
 read-requires : tie.Need-read-requires
 read-requires c κs = search needs
 
 pack-requires : tie.Need-pack-requires
-pack-requires c κs = (search read-number-fits, search read-place-fits)
+pack-requires c κs = search fitting
 
 returns : tie.Need-returns
 returns c = (search unread-told, search unread-buffer)
