@@ -1,3 +1,4 @@
 pub mod Small
 pub mod Told
+pub mod Laws
 pub mod Unique
