@@ -6,6 +6,7 @@
 pub mod accepted;
 pub mod demands;
 pub mod file;
+pub mod ladder;
 mod many_rounds;
 pub mod random;
 pub mod refused;

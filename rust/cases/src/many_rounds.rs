@@ -102,7 +102,7 @@ fn near_rate(random: &mut Random, tariff: u16, rate: f64, weight: u64) -> Option
 }
 
 /// Offering rows, all called in full at 101 and 750 li, whose compensations add up to exactly so many fen.
-fn receivers(fen: u64) -> Vec<Row> {
+pub fn receivers(fen: u64) -> Vec<Row> {
     const FINE: u64 = 10_000;
     let receiver = |metered| Row::thermal(0, 2_000, metered).offering(0, 101, 750);
     let mut rows = Vec::new();

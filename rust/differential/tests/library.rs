@@ -3,8 +3,9 @@
 //! `SEED=n` repeats a run, `TRIALS=n` makes it longer; a failure prints its trial and its seed, and
 //! `SEED=n TRIAL=m cargo test one_trial` repeats it alone.
 
+use cases::ladder::{self, ladder};
 use cases::random::Random;
-use cases::{Case, accepted, lengths_near, refused};
+use cases::{Case, accepted, demands, lengths_near, refused};
 use differential::{Tally, rewrite, run, same, settle, trial};
 
 fn asked(name: &str, otherwise: u64) -> u64 {
@@ -76,6 +77,25 @@ fn buffers_of_every_length_near_the_needed_one() {
             let outcome = same(&case, "rewrite", rewrite, again).unwrap_or_else(|what| panic!("{what}"));
             let due = if length < case.interval.len() { Err((11, 0)) } else { Ok(case.interval.len()) };
             assert_eq!(outcome.answer, due, "{} of seed {seed}", case.name);
+        }
+    }
+}
+
+#[test]
+fn ladders_close_one_group_in_each_round() {
+    let seed = asked("SEED", 1);
+    let mut random = Random::from_seed(seed);
+    for rounds in ladder::FEWEST..=ladder::MOST {
+        let due = ladder(&mut random, rounds);
+        let name = format!("{rounds} rounds of seed {seed}");
+        let buffer = due.interval.statement_length();
+        let alone = Case { name: name.clone(), interval: due.interval.bytes(), correction: Vec::new(), buffer };
+        let (spoilt, correction) = accepted::spoil(&mut random, due.interval);
+        let pair = Case { name, interval: spoilt.bytes(), correction: correction.bytes(), buffer };
+        for case in [alone, pair] {
+            let outcome = same(&case, "settle", settle, reference::settle).unwrap_or_else(|what| panic!("{what}"));
+            assert_eq!(ladder::told(&outcome.buffer), (rounds as u16, due.closing.clone()), "{}", case.name);
+            assert_eq!(demands::check(&outcome.buffer), Ok(()), "{}", case.name);
         }
     }
 }

@@ -2,6 +2,7 @@
 //!
 //! `SEED=n` repeats a run, `TRIALS=n` makes it longer.
 
+use cases::ladder::{self, ladder};
 use cases::random::Random;
 use cases::refused::{self, Fault, HeadField};
 use cases::{Case, Outcome, accepted, demands, lengths_near};
@@ -62,12 +63,25 @@ fn many_rounds_are_reached() {
             let interval = accepted::interval(&mut random, accepted::Shape::ManyRounds);
             let mut statement = vec![0; interval.statement_length()];
             reference::settle(&interval.bytes(), &[], &mut statement).expect("accepted");
-            u16::from_le_bytes([statement[27], statement[28]])
+            ladder::told(&statement).0
         })
         .collect();
     println!("rounds: {rounds:?}");
     assert!(rounds.iter().any(|&rounds| rounds >= 15), "seed {seed}");
     assert!(rounds.iter().filter(|&&rounds| rounds >= 10).count() >= 80, "seed {seed}");
+}
+
+#[test]
+fn a_ladder_closes_one_group_in_each_round() {
+    let (seed, _) = seed_and_trials();
+    let mut random = Random::from_seed(seed);
+    for rounds in ladder::FEWEST..=ladder::MOST {
+        let due = ladder(&mut random, rounds);
+        let mut statement = vec![0; due.interval.statement_length()];
+        reference::settle(&due.interval.bytes(), &[], &mut statement).expect("accepted");
+        assert_eq!(ladder::told(&statement), (rounds as u16, due.closing), "seed {seed}");
+        assert_eq!(demands::check(&statement), Ok(()), "{rounds} rounds of seed {seed}");
+    }
 }
 
 #[test]

@@ -8,6 +8,7 @@ use std::time::Instant;
 
 use cases::accepted::{self, Shape};
 use cases::file::{Interval, Row};
+use cases::ladder::{MOST, ladder};
 use cases::random::Random;
 
 const QUARTERS: usize = 96;
@@ -68,12 +69,6 @@ fn day(mut quarter: impl FnMut() -> Interval) -> Vec<Vec<u8>> {
     (0..QUARTERS).map(|_| quarter().bytes()).collect()
 }
 
-fn rounds_of(interval: &Interval) -> usize {
-    let mut statement = vec![0; interval.statement_length()];
-    wheatrudder::settle(&interval.bytes(), &[], &mut statement).expect("accepted");
-    wheatrudder::head(&statement).expect("a head").rounds.into()
-}
-
 /// Rows that take no part, up to a full file.
 fn filled(mut interval: Interval) -> Interval {
     while interval.rows.len() < ROWS {
@@ -96,14 +91,7 @@ fn main() {
         measure(&rows.to_string(), &day(|| accepted::interval_of(&mut random, Shape::Mixed, rows)));
     }
     head("rounds, 256 rows");
-    let mut by_rounds = vec![Vec::new(); 64];
-    for wanted in (0..=28).cycle().take(29 * 60) {
-        let interval = filled(accepted::many_rounds(&mut random, wanted));
-        by_rounds[rounds_of(&interval)].push(interval.bytes());
-    }
-    for rounds in [0, 1, 2, 4, 8, 12, 16] {
-        if by_rounds[rounds].len() >= 8 {
-            measure(&rounds.to_string(), &by_rounds[rounds][..by_rounds[rounds].len().min(QUARTERS)]);
-        }
+    for rounds in [2, 4, 8, 12, 16, 20, 25, MOST] {
+        measure(&rounds.to_string(), &day(|| filled(ladder(&mut random, rounds).interval)));
     }
 }
