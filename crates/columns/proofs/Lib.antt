@@ -6,6 +6,7 @@ pub mod Fill
 pub mod Mask
 pub mod Number
 pub mod Buffer
+pub mod Fields
 pub mod Reading
 pub mod Choice
 pub mod First

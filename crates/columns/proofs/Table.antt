@@ -7,6 +7,8 @@
 --     table-list      a list is the table of what stands in it
 --     table-next      the table of n + 1, as a loop meets it
 --     fill-next       one store more of a loop that fills a slice
+--     table-most      terms of at most m: so is every number of the table
+--     front-long      the front of an array is as long as it was cut
 -- Assumes nothing.
 use Prim.Native.Nat.{ℕ, zero, suc, _+_, _≤_, _<_}
 use mathlib.Core.Path.{_≡_, refl, sym, _∙_}
@@ -14,10 +16,10 @@ use mathlib.Core.Logic.{⊎-elim}
 use mathlib.Core.List.{List, [], _∷_, _++_}
 use native.Mathlib.Numerals.{add-one}
 use native.Mathlib.Omega.{arith}
-use lib.ListN.{length, getD, set, length-append, List·getD-append, List·getD-eq-default}
-use lib.Seq.{getD-at, getD-set-same, getD-set-other, ext-getD}
+use lib.ListN.{length, getD, take, set, length-append, List·getD-append, List·getD-eq-default}
+use lib.Seq.{length-take-le, getD-at, getD-set-same, getD-set-other, ext-getD}
 use borrow.Author.Count.{below-more}
-use Rattle.columns.specs.Table.{table, Below}
+use Rattle.columns.specs.Table.{at, table, Below}
 use Rattle.columns.proofs.Sum.{lt-or-le}
 
 module _ {A : Type 0} where
@@ -60,3 +62,11 @@ module _ {A : Type 0} where
   fill-next d l i v f inside e h =
       below-more (λ (k : ℕ). getD (set l i v) k d ≡ f k) i (λ k q. getD-set-other l i k v d (omega arith) ∙ h k q)
       (getD-set-same l i v d inside ∙ e)
+
+  pub front-long : (l : List A) (n m : ℕ) → length l ≡ m → n ≤ m → n ≡ length (take n l)
+  front-long l n m e h = sym (length-take-le n l (omega arith))
+
+pub table-most : (n m : ℕ) (f : ℕ → ℕ) → Below n (λ i. f i ≤ m) → (i : ℕ) → at (table n f) i ≤ m
+table-most n m f h i =
+    ⊎-elim (λ (l : i < n). omega (arith, table-at 0 n f i l, h i l)) (λ (l : n ≤ i). omega (arith, table-past 0 n f i l))
+    (lt-or-le i n)

@@ -3,12 +3,14 @@
 --   wide-unique        of `wide`
 --   number-at-unique   of `number_at`
 --   put-unique         what `put_bytes` leaves in the buffer
---   bytes-unique       of `two`, `four` and `eight`, at w = 2, 4, 8
+--   put-number-unique  what `put_number` leaves there
+--   put-fields-unique  what `put_fields` leaves there
 -- Assumes nothing.
 use Prim.Native.Nat.{ℕ}
 use mathlib.Core.Path.{_≡_, sym, _∙_}
 use mathlib.Core.List.{List}
 use Rattle.columns.specs.Number.{numberAt, numberBytes}
+use Rattle.columns.specs.Fields.{fieldsBytes}
 use Rattle.columns.specs.Buffer.{put}
 
 pub unique : {A : Type 0} (d x y : A) → x ≡ d → y ≡ d → x ≡ y
@@ -23,5 +25,8 @@ number-at-unique w s k = unique (numberAt w s k)
 pub put-unique : (out : List ℕ) (k : ℕ) (src x y : List ℕ) → x ≡ put out k src → y ≡ put out k src → x ≡ y
 put-unique out k src = unique (put out k src)
 
-pub bytes-unique : (w n : ℕ) (x y : List ℕ) → x ≡ numberBytes w n → y ≡ numberBytes w n → x ≡ y
-bytes-unique w n = unique (numberBytes w n)
+pub put-number-unique : (out : List ℕ) (k w n : ℕ) (x y : List ℕ) → x ≡ put out k (numberBytes w n) → y ≡ put out k (numberBytes w n) → x ≡ y
+put-number-unique out k w n = put-unique out k (numberBytes w n)
+
+pub put-fields-unique : (out : List ℕ) (k : ℕ) (ws xs x y : List ℕ) → x ≡ put out k (fieldsBytes ws xs) → y ≡ put out k (fieldsBytes ws xs) → x ≡ y
+put-fields-unique out k ws xs = put-unique out k (fieldsBytes ws xs)

@@ -1,5 +1,6 @@
 pub mod Sum
 pub mod Table
 pub mod Number
+pub mod Fields
 pub mod Buffer
 pub mod Test

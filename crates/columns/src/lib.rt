@@ -3,6 +3,7 @@ ghost use mathlib.Core.Path.{_≡_};
 ghost use Prim.Native.Nat.{_+_, _≤_, _<_, _^_};
 ghost use lib.ListN.{length};
 ghost use Rattle.columns.specs.Number.{numberAt, numberBytes};
+ghost use Rattle.columns.specs.Fields.{span, fieldsBytes};
 ghost use Rattle.columns.specs.Buffer.{put};
 
 // A byte as a number to reckon with.
@@ -38,34 +39,31 @@ pub fn put_bytes(out: &mut [u8], at: usize, src: &[u8])
     }
 }
 
-// A number in two, four or eight bytes, lowest byte first.
-pub fn two(x: u64) -> [u8; 2]
-    ensures { λ b. ⌜ b ≡ numberBytes 2 x ⌝ }
+// Puts a number from a position on, in so many bytes, lowest byte first.
+pub fn put_number(out: &mut [u8], at: usize, width: usize, x: u64)
+    requires { ⌜ at + width ≤ length (now out) ⌝ }
+    ensures { λ r. ⌜ now (out .exit) ≡ put (now (out .entry)) at (numberBytes width x) ⌝ }
 {
-    [(x % 256) as u8, (x / 256 % 256) as u8]
+    let mut left = x;
+    let mut i = 0;
+    while i < width {
+        out[at + i] = (left % 256) as u8;
+        left /= 256;
+        i += 1;
+    }
 }
 
-pub fn four(x: u64) -> [u8; 4]
-    ensures { λ b. ⌜ b ≡ numberBytes 4 x ⌝ }
+// Puts a record's fields one after the other from a position on, each in its own width.
+pub fn put_fields(out: &mut [u8], at: usize, widths: &[u8], fields: &[u64])
+    requires { ⌜ (length (now fields) ≡ length (now widths)) × (at + span (now widths) ≤ length (now out)) ⌝ }
+    ensures { λ r. ⌜ now (out .exit) ≡ put (now (out .entry)) at (fieldsBytes (now (widths .entry)) (now (fields .entry))) ⌝ }
 {
-    let low = two(x);
-    let high = two(x / 256 / 256);
-    [low[0], low[1], high[0], high[1]]
-}
-
-pub fn eight(x: u64) -> [u8; 8]
-    ensures { λ b. ⌜ b ≡ numberBytes 8 x ⌝ }
-{
-    let low = four(x);
-    let high = four(x / 256 / 256 / 256 / 256);
-    [
-        low[0],
-        low[1],
-        low[2],
-        low[3],
-        high[0],
-        high[1],
-        high[2],
-        high[3],
-    ]
+    let mut end = at;
+    let mut i = 0;
+    while i < widths.len() {
+        let width = wide(widths[i]) as usize;
+        put_number(out, end, width, fields[i]);
+        end += width;
+        i += 1;
+    }
 }

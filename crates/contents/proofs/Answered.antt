@@ -138,11 +138,11 @@ module _ (c : Contents) (out : List ℕ) (v : Verdict) (p : v ≡ verdict (rowSt
       let r = accepted-of (rowStart (c .head .rows)) n (writerFault c (length out)) (sym p ∙ q) in
       rw (r .0) e
 
-pub head-then-rows : (c : Contents) (out l m : List ℕ) (b : List ℕ) → b ≡ headBytes (c .head) → l ≡ put out 0 b
+pub head-then-rows : (c : Contents) (out l m : List ℕ) → l ≡ put out 0 (headBytes (c .head))
     → m ≡ put l 15 (rowsBytes (take (c .head .rows) (c .rows))) → m ≡ put out 0 (contentsBytes c)
 unfolding contentsBytes
-head-then-rows c out l m b e p q =
-    q ∙ rw (p, e)
+head-then-rows c out l m p q =
+    q ∙ rw p
     (put-put out 0 15 (headBytes (c .head)) (rowsBytes (take (c .head .rows) (c .rows))) (omega (arith, head-length (c .head)))
     (omega arith))
 

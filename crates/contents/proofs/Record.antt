@@ -1,5 +1,6 @@
 -- Heads and rows in bytes: lengths, and both round trips of one record.
 --   head-length, row-length   15 and 21 bytes
+--   head-fields, row-fields   the fields by their widths are the record's bytes
 --   head-read, row-read       read after write, for fields that fit their widths
 --   head-write, row-write     write after read, for bytes that begin with the right mark
 --   row-shift, mark-shift     a row or a mark further on in a list is one of the list's later part
@@ -17,6 +18,7 @@ use lib.Dec.{eqb}
 use lib.ListN.{length, getD, take, drop, length-drop}
 use lib.Seq.{drop-drop, take-add, getD-drop}
 use Rattle.columns.specs.Number.{numberAt, numberBytes}
+use Rattle.columns.specs.Fields.{fieldsBytes}
 use Rattle.columns.proofs.Number.{number-drop, number-is, number-write}
 use Rattle.columns.proofs.First.{left-true, right-true}
 use Rattle.files.specs.Range.{headOk, rowOk}
@@ -32,6 +34,19 @@ head-length h = refl
 pub row-length : (r : Row) → length (rowBytes r) ≡ 21
 unfolding rowBytes numberBytes
 row-length r = refl
+
+pub head-fields : (h : Head)
+    → fieldsBytes (1 ∷ 1 ∷ 4 ∷ 1 ∷ 2 ∷ 4 ∷ 2 ∷ []) (80 ∷ letterH ∷ h .day ∷ h .quarter ∷ h .tariff .0 ∷ h .need .0 ∷ h .rows ∷ [])
+    ≡ headBytes h
+unfolding fieldsBytes headBytes numberBytes
+head-fields h = refl
+
+pub row-fields : (r : Row)
+    → fieldsBytes (1 ∷ 1 ∷ 2 ∷ 1 ∷ 2 ∷ 4 ∷ 1 ∷ 1 ∷ 4 ∷ 2 ∷ 2 ∷ [])
+    (80 ∷ letterR ∷ r .id ∷ r .kind ∷ r .capacity ∷ r .metered .0 ∷ r .status ∷ r .offered ∷ r .minimum .0 ∷ r .bid1 .0 ∷ r .bid2 .0 ∷ [])
+    ≡ rowBytes r
+unfolding fieldsBytes rowBytes numberBytes
+row-fields r = refl
 
 -- every field fits the width that it has in a file
 pub record HeadFits (h : Head) : Type 0 where

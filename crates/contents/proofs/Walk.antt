@@ -75,21 +75,20 @@ pub place-start : (l₀ : List ℕ) (rs : List Row) (count : ℕ) → Placed l�
 unfolding rowsBytes
 place-start l₀ rs count = record { short = omega arith; long = refl; is = sym (put-none l₀ 15) }
 
-pub place-next : (l₀ : List ℕ) (rs : List Row) (count : ℕ) (l : List ℕ) (i : ℕ) (l′ : List ℕ) (b : List ℕ)
+pub place-next : (l₀ : List ℕ) (rs : List Row) (count : ℕ) (l : List ℕ) (i : ℕ) (l′ : List ℕ)
     → Placed l₀ rs count l i → i < count → count ≤ length rs → rowStart count ≤ length l₀
-    → b ≡ rowBytes (getD rs i zeroRow) → l′ ≡ put l (rowStart i) b → Placed l₀ rs count l′ (i + 1)
-place-next l₀ rs count l i l′ b w h few room e p =
+    → l′ ≡ put l (rowStart i) (rowBytes (getD rs i zeroRow)) → Placed l₀ rs count l′ (i + 1)
+place-next l₀ rs count l i l′ w h few room p =
+    let row = rowBytes (getD rs i zeroRow) in
     let n : length (take i rs) ≡ i = length-take-le i rs (omega arith) in
     let m : length (rowsBytes (take i rs)) ≡ i * 21 = rows-length (take i rs) ∙ ap (λ (x : ℕ). x * 21) n in
-    let width : length b ≡ 21 = rw e (row-length (getD rs i zeroRow)) in
-    let more : rowsBytes (take (i + 1) rs) ≡ rowsBytes (take i rs) ++ rowBytes (getD rs i zeroRow) =
+    let width : length row ≡ 21 = row-length (getD rs i zeroRow) in
+    let more : rowsBytes (take (i + 1) rs) ≡ rowsBytes (take i rs) ++ row =
     rw (add-one i, take-suc rs i zeroRow (omega arith), rows-append, one-row) in
     record {
       short = omega arith;
-      long = rw p (put-length l (rowStart i) b (omega (arith, w .long)) ∙ w .long);
-      is =
-          p ∙ rw (w .is, e, more)
-          (put-put l₀ 15 (rowStart i) (rowsBytes (take i rs)) (rowBytes (getD rs i zeroRow)) (omega arith) (omega arith));
+      long = rw p (put-length l (rowStart i) row (omega (arith, w .long)) ∙ w .long);
+      is = p ∙ rw (w .is, more) (put-put l₀ 15 (rowStart i) (rowsBytes (take i rs)) row (omega arith) (omega arith));
     }
 
 pub place-ends : (l₀ : List ℕ) (rs : List Row) (count : ℕ) (l : List ℕ) (i : ℕ) → Placed l₀ rs count l i → count ≤ i

@@ -3,70 +3,61 @@ use crate::Contents;
 use crate::HEAD;
 use crate::ROW;
 use crate::Written;
-use columns::put_bytes;
+use columns::put_fields;
 use files::Head;
 use files::Row;
 use files::Verdict;
 use files::head_ok;
 use files::row_checks;
 ghost use mathlib.Core.Path.{_≡_};
-ghost use Prim.Native.Nat.{_≤_};
+ghost use Prim.Native.Nat.{_+_, _≤_};
 ghost use lib.ListN.{length, take};
 ghost use Rattle.columns.specs.Buffer.{put};
 ghost use Rattle.files.specs.Layout.{rowStart, headBytes, rowBytes};
 ghost use Rattle.files.specs.Fault.{verdict};
 ghost use Rattle.contents.specs.Content.{rowsBytes, contentsBytes, listFault, writerFault, writtenOf, writtenBuffer};
 
-// A head's 15 bytes.
-fn encode_head(h: Head) -> [u8; 15]
-    ensures { λ b. ⌜ b ≡ headBytes h ⌝ }
+// The widths of a head's fields and of a row's, the mark as two of one byte.
+const HEAD_WIDTHS: [u8; 7] = [1, 1, 4, 1, 2, 4, 2];
+
+const ROW_WIDTHS: [u8; 11] = [1, 1, 2, 1, 2, 4, 1, 1, 4, 2, 2];
+
+// Puts a head's 15 bytes at the front of a buffer.
+fn put_head(out: &mut [u8], h: Head)
+    requires { ⌜ 15 ≤ length (now out) ⌝ }
+    ensures { λ r. ⌜ now (out .exit) ≡ put (now (out .entry)) 0 (headBytes h) ⌝ }
 {
-    [
-        b'P',
-        b'H',
-        (h.day % 256) as u8,
-        (h.day / 256 % 256) as u8,
-        (h.day / 256 / 256 % 256) as u8,
-        (h.day / 256 / 256 / 256 % 256) as u8,
-        h.quarter,
-        (h.tariff.0 % 256) as u8,
-        (h.tariff.0 / 256 % 256) as u8,
-        (h.need.0 % 256) as u8,
-        (h.need.0 / 256 % 256) as u8,
-        (h.need.0 / 256 / 256 % 256) as u8,
-        (h.need.0 / 256 / 256 / 256 % 256) as u8,
-        (h.rows % 256) as u8,
-        (h.rows / 256 % 256) as u8,
-    ]
+    let fields = [
+        b'P' as u64,
+        b'H' as u64,
+        h.day as u64,
+        h.quarter as u64,
+        h.tariff.0 as u64,
+        h.need.0 as u64,
+        h.rows as u64,
+    ];
+    put_fields(out, 0, &HEAD_WIDTHS, &fields);
 }
 
-// A row's 21 bytes.
-fn encode_row(r: Row) -> [u8; 21]
-    ensures { λ b. ⌜ b ≡ rowBytes r ⌝ }
+// Puts a row's 21 bytes into a buffer from a position on.
+fn put_row(out: &mut [u8], at: usize, r: Row)
+    requires { ⌜ at + 21 ≤ length (now out) ⌝ }
+    ensures { λ _. ⌜ now (out .exit) ≡ put (now (out .entry)) at (rowBytes r) ⌝ }
 {
-    [
-        b'P',
-        b'R',
-        (r.id % 256) as u8,
-        (r.id / 256 % 256) as u8,
-        r.kind,
-        (r.capacity % 256) as u8,
-        (r.capacity / 256 % 256) as u8,
-        (r.metered.0 % 256) as u8,
-        (r.metered.0 / 256 % 256) as u8,
-        (r.metered.0 / 256 / 256 % 256) as u8,
-        (r.metered.0 / 256 / 256 / 256 % 256) as u8,
-        r.status,
-        r.offered,
-        (r.minimum.0 % 256) as u8,
-        (r.minimum.0 / 256 % 256) as u8,
-        (r.minimum.0 / 256 / 256 % 256) as u8,
-        (r.minimum.0 / 256 / 256 / 256 % 256) as u8,
-        (r.bid1.0 % 256) as u8,
-        (r.bid1.0 / 256 % 256) as u8,
-        (r.bid2.0 % 256) as u8,
-        (r.bid2.0 / 256 % 256) as u8,
-    ]
+    let fields = [
+        b'P' as u64,
+        b'R' as u64,
+        r.id as u64,
+        r.kind as u64,
+        r.capacity as u64,
+        r.metered.0 as u64,
+        r.status as u64,
+        r.offered as u64,
+        r.minimum.0 as u64,
+        r.bid1.0,
+        r.bid2.0,
+    ];
+    put_fields(out, at, &ROW_WIDTHS, &fields);
 }
 
 // 6 and 7, row by row.
@@ -118,7 +109,7 @@ fn put_rows(contents: Contents, out: &mut [u8])
     let mut i = 0;
     while i < count {
         let r = contents.rows[i];
-        put_bytes(out, HEAD + i * ROW, &encode_row(r));
+        put_row(out, HEAD + i * ROW, r);
         i += 1;
     }
 }
@@ -129,7 +120,7 @@ fn put_contents(contents: Contents, out: &mut [u8])
     ensures { λ r. ⌜ now (out .exit) ≡ put (now (out .entry)) 0 (contentsBytes contents) ⌝ }
 {
     let h = contents.head;
-    put_bytes(out, 0, &encode_head(h));
+    put_head(out, h);
     put_rows(contents, out);
 }
 

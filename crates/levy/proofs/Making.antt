@@ -14,10 +14,9 @@ use lib.Dec.{eqb}
 use lib.ListN.{length, take}
 use lib.Seq.{getD-take, length-take-le}
 use Rattle.columns.specs.Table.{at, table}
-use Rattle.columns.proofs.Table.{table-length, table-same}
+use Rattle.columns.proofs.Table.{table-length, table-same, front-long}
 use Rattle.share.specs.Share.{whole, shares}
 use Rattle.share.specs.Split.{Splittable}
-use Rattle.share.proofs.Handing.{front}
 use Rattle.share.proofs.Laws.{shares-at, shares-length, share-le-weight}
 use Rattle.levy.specs.Rounds.{Standing, openWeights, final, paid, payments, shortfall, cuts}
 use Rattle.levy.specs.Asked.{standingOf, markedOnly, Small, Columns, Finished, Short, Payable, paidFrom, Made, Room, Cuttable}
@@ -93,7 +92,7 @@ module _ (shortfall : ℕ) (compensations : List ℕ) (first : ℕ) (out : List 
 
 -- the first n of two whole arrays
 pub front-room : (n : ℕ) (xs ys : List ℕ) → n ≤ 256 → length xs ≡ 256 → length ys ≡ 256 → Room n (take n xs) (take n ys)
-front-room n xs ys few long more = record { one-long = sym (front xs n long few); two-long = sym (front ys n more few) }
+front-room n xs ys few long more = record { one-long = sym (front-long xs n 256 long few); two-long = sym (front-long ys n 256 more few) }
 
 -- once the rounds have ended nobody pays above its cap, so each payment fits
 pub payable : (total n : ℕ) (weights caps marks₀ marks : List ℕ) (rest : Rest) → Columns n weights caps marks₀ total

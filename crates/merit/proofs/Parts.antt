@@ -9,11 +9,10 @@ use lib.ListN.{length, take}
 use borrow.Author.Tests.{eq-eqb, ne-eqb}
 use Rattle.columns.specs.Table.{at, table}
 use Rattle.columns.proofs.Sum.{sum-bound}
-use Rattle.columns.proofs.Table.{table-length}
+use Rattle.columns.proofs.Table.{table-length, front-long}
 use Rattle.share.specs.Share.{whole, shares}
 use Rattle.share.specs.Split.{Splittable}
 use Rattle.share.proofs.Laws.{shares-are-weights}
-use Rattle.share.proofs.Handing.{front}
 use Rattle.merit.specs.Band.{Tier, one, two, orderOf}
 use Rattle.merit.specs.Call.{group}
 use Rattle.merit.specs.Ready.{bandsIn, ReadyIn, Columns, Ready}
@@ -58,18 +57,18 @@ parts-of left g h out first e f = rw (← f) e
 
 module _ (w1 w2 b1 b2 : List ℕ) (first : ℕ) (c : Columns (bandsIn w1 w2 b1 b2) first) where
   pub room1 : (xs out : List ℕ) → length xs ≡ 256 → length out ≡ length w1 → Room w1 (take (length w1) xs) out first
-  room1 xs out e o = record { room-group = sym (front xs (length w1) e (c .in1 .few)); room-out = o; inside = c .inside }
+  room1 xs out e o = record { room-group = sym (front-long xs (length w1) 256 e (c .in1 .few)); room-out = o; inside = c .inside }
 
   pub room2 : (xs out : List ℕ) → length xs ≡ 256 → length out ≡ length w1 → Room w2 (take (length w1) xs) out first
   room2 xs out e o =
       record {
-        room-group = sym (front xs (length w1) e (c .in1 .few)) ∙ sym (c .level);
+        room-group = sym (front-long xs (length w1) 256 e (c .in1 .few)) ∙ sym (c .level);
         room-out = o ∙ sym (c .level);
         inside = rw (c .level) (c .inside);
       }
 
   pub front1 : (xs : List ℕ) → length xs ≡ 256 → length w1 ≡ length (take (length w1) xs)
-  front1 xs e = front xs (length w1) e (c .in1 .few)
+  front1 xs e = front-long xs (length w1) 256 e (c .in1 .few)
 
   pub parts-one : (left k : ℕ) (out : List ℕ) → k % 2 ≡ 0 → out ≡ partsIn left (groupIn one k w1 b1) first
       → out ≡ parts left (bandsIn w1 w2 b1 b2) k first
@@ -83,7 +82,7 @@ module _ (w1 w2 b1 b2 : List ℕ) (first : ℕ) (c : Columns (bandsIn w1 w2 b1 b
 
 module _ (w1 w2 b1 b2 : List ℕ) (first : ℕ) (s1 s2 : List ℕ) (r : Ready (bandsIn w1 w2 b1 b2) first s1 s2) where
   pub front-ready : (xs : List ℕ) → length xs ≡ 256 → length w1 ≡ length (take (length w1) xs)
-  front-ready xs e = front xs (length w1) e (r .columns .in1 .few)
+  front-ready xs e = front-long xs (length w1) 256 e (r .columns .in1 .few)
 
   pub blank : (c1 c2 xs : List ℕ) → c1 ≡ table (length s1) uncalled → c2 ≡ table (length s2) uncalled → length xs ≡ 256
       → Blank (length w1) c1 c2 (take (length w1) xs)

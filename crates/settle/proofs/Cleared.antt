@@ -1,14 +1,13 @@
 -- The bands that the code fills are those of the definition, so its calls and prices are too.
 --   bands-ready     they are such as the walk asks for
 --   bands-cleared   what the market made of them is what the definition says
---   part-long       the front of a column of 256
 -- Assumes nothing.
 use Prim.Native.Nat.{ℕ, _≤_, _<_}
 use mathlib.Core.Path.{_≡_, sym, _∙_}
 use mathlib.Core.Bool.{true, false}
 use mathlib.Core.List.{List}
 use native.Mathlib.Omega.{arith}
-use lib.ListN.{length, take, length-take}
+use lib.ListN.{length}
 use Rattle.columns.specs.Table.{table}
 use Rattle.files.specs.Counting.{countingRow}
 use Rattle.files.proofs.Ranges.{RowRanges}
@@ -47,6 +46,3 @@ module _ (s k : List ℕ) (n : ℕ) (w1 b1 w2 b2 : List ℕ) where
       → w2 ≡ table n (widthAt true s k) → b2 ≡ table n (bidAt true s k) → Clears need (bandsIn w1 w2 b1 b2) m c1 c2
       → Clears need (bandsOf n (countingRow s k)) m c1 c2
   bands-cleared need m c1 c2 e₁ f₁ e₂ f₂ h = rw (same-bands e₁ f₁ e₂ f₂) at h
-
-pub part-long : {A : Type 0} (a : List A) (n : ℕ) → length a ≡ 256 → n ≤ 256 → n ≡ length (take n a)
-part-long a n e few = omega (arith, length-take n a)

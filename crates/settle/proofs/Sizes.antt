@@ -14,16 +14,16 @@
 -- Assumes nothing.
 use Prim.Native.Nat.{ℕ, _+_, _*_, _≤_, _<_}
 use mathlib.Core.Path.{_≡_, refl, sym, _∙_}
-use mathlib.Core.Logic.{⊎-elim}
 use mathlib.Core.List.{List}
 use native.Mathlib.Omega.{arith}
 use lib.Dec.{ltb}
 use lib.ListN.{length}
-use Rattle.columns.specs.Table.{at, table, Below}
-use Rattle.columns.proofs.Sum.{lt-or-le, sum-bound, count-le}
-use Rattle.columns.proofs.Table.{table-length, table-at, table-past}
+use Rattle.columns.specs.Table.{at, table}
+use Rattle.columns.proofs.Sum.{count-le}
+use Rattle.columns.proofs.Table.{table-length, table-most}
 use Rattle.columns.proofs.Reading.{number-bound}
 use Rattle.share.specs.Share.{whole}
+use Rattle.share.proofs.Laws.{whole-bound}
 use Rattle.files.specs.Layout.{rowStart, headAt, rowAt}
 use Rattle.files.specs.Fault.{verdictOf}
 use Rattle.files.specs.Counting.{countingRow}
@@ -50,17 +50,6 @@ use Rattle.statement.proofs.Laws.{HeadFits, LineFits}
 use Rattle.settle.specs.Settlement.{baseline, compensationsOf, weightsOf, capsOf, Columns, Figures, levied, figures}
 use Rattle.settle.specs.Statement.{statementHead, lineOf}
 use Rattle.settle.specs.Promise.{Bytes}
-
--- terms of at most m: so is every number of the table
-table-most : (n m : ℕ) (f : ℕ → ℕ) → Below n (λ i. f i ≤ m) → (i : ℕ) → at (table n f) i ≤ m
-table-most n m f h i =
-    ⊎-elim (λ (l : i < n). omega (arith, table-at 0 n f i l, h i l)) (λ (l : n ≤ i). omega (arith, table-past 0 n f i l))
-    (lt-or-le i n)
-
--- numbers of at most m: so many of them sum to at most m for each
-whole-most : (xs : List ℕ) (n m : ℕ) → length xs ≡ n → ((i : ℕ) → at xs i ≤ m) → whole xs ≤ m * n
-unfolding whole
-whole-most xs n m e h = rw e (sum-bound n m (at xs) (λ i l. h i))
 
 -- ---- the columns that are made of n rows
 
@@ -159,7 +148,7 @@ module _ (n : ℕ) (row : ℕ → Row) where
 
       pub total-rich : n ≤ 256 → whole (compensationsOf n row c1 c2 p1 p2) ≤ 4249600000
       total-rich few =
-          omega (arith, few, whole-most (compensationsOf n row c1 c2 p1 p2) n 16600000 (pay-length c1 c2 p1 p2) pay-small)
+          omega (arith, few, whole-bound (compensationsOf n row c1 c2 p1 p2) 16600000 pay-small, pay-length c1 c2 p1 p2)
 
 -- ---- the figures of a statement
 

@@ -1,8 +1,9 @@
 // The statement's bytes, into the lent buffer: the head, then a line for each row.
-use columns::put_bytes;
 use files::id_at;
 use statement::Line;
 use statement::StatementHead;
+use statement::put_line;
+use statement::put_statement_head;
 use units::Fen;
 use units::Kwh;
 ghost use mathlib.Core.Path.{_≡_};
@@ -80,7 +81,7 @@ pub fn put_lines(
             paid,
             closing,
         );
-        put_bytes(out, 35 + i * 34, &statement::encode_line(line));
+        put_line(out, 35 + i * 34, line);
         i += 1;
     }
 }
@@ -102,7 +103,7 @@ pub fn put_statement(
     requires { ⌜ Lines (length (now interval)) (columns (now called1) (now called2) (now compensations) (now cuts) (now weights) (now caps) (now paid) (now closing)) (length (now out)) ⌝ }
     ensures { λ r. ⌜ now (out .exit) ≡ put (now (out .entry)) 0 (statementHeadBytes head ++ linesBytes (linesOf (length (now (called1 .entry))) (idAt (now (interval .entry))) (columns (now (called1 .entry)) (now (called2 .entry)) (now (compensations .entry)) (now (cuts .entry)) (now (weights .entry)) (now (caps .entry)) (now (paid .entry)) (now (closing .entry))))) ⌝ }
 {
-    put_bytes(out, 0, &statement::encode_statement_head(head));
+    put_statement_head(out, head);
     put_lines(
         interval,
         called1,

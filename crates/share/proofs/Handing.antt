@@ -4,7 +4,7 @@
 --     handable       what handing out asks
 --     handed         what it gives are the shares
 --     cleared        if nobody has a weight everybody gets 0
---     front, quotable     the room for the remainders
+--     quotable       the room for the remainders
 -- Assumes nothing.
 use Prim.Native.Nat.{ℕ, _-_, _*_, _^_, _≤_, _<_}
 use mathlib.Core.Path.{_≡_, ap, sym, _∙_}
@@ -12,12 +12,12 @@ use mathlib.Core.Logic.{⊎-elim}
 use mathlib.Core.List.{List}
 use native.Mathlib.Nat.{zero-div, zero-mod}
 use native.Mathlib.Omega.{arith}
-use lib.ListN.{length, take, length-take, List·getD-eq-default}
+use lib.ListN.{length, take, List·getD-eq-default}
 use borrow.Author.Tests.{le-ltb}
 use Rattle.columns.specs.Sum.{bit, sumTo}
 use Rattle.columns.specs.Table.{at, table}
 use Rattle.columns.proofs.Sum.{lt-or-le, sum-same, count-same}
-use Rattle.columns.proofs.Table.{table-length, table-at, table-past, table-same}
+use Rattle.columns.proofs.Table.{table-length, table-at, table-past, table-same, front-long}
 use Rattle.share.specs.Share.{whole, quota, rest, turn, before, rank, left, share, shares}
 use Rattle.share.specs.Split.{Splittable}
 use Rattle.share.specs.Steps.{Quotable, Quoted, Handable, goesBefore, ahead, place, extra, raised, nothing}
@@ -122,11 +122,7 @@ cleared a ws out xs first s p e z is =
     ∙ rw (p .room)
     (table-same (length ws) nothing (share a ws first) (λ i l. sym (share-none a ws first (sym e ∙ z) i)))
 
--- the front of an array of 256 is as long as the weights
-pub front : (xs : List ℕ) (n : ℕ) → length xs ≡ 256 → n ≤ 256 → n ≡ length (take n xs)
-front xs n e l = sym (length-take n xs ∙ omega arith)
-
 pub quotable : (ws out xs : List ℕ) (first s : ℕ) → Splittable ws out first → s ≡ whole ws → (s ≡ 0 → ⊥) → length xs ≡ 256
     → Quotable ws out (take (length ws) xs) s
 quotable ws out xs first s p e n l =
-    record { is = e; some = omega arith; quotas-room = p .room; rests-room = sym (front xs (length ws) l (p .short)) }
+    record { is = e; some = omega arith; quotas-room = p .room; rests-room = sym (front-long xs (length ws) 256 l (p .short)) }

@@ -1,3 +1,3 @@
 pub mod Laws
-pub mod Spelled
+pub mod Fields
 pub mod Unique

@@ -1,12 +1,13 @@
 -- Two results that one contract allows are equal.
 --   head-unique         of `statement_head_at`
 --   line-unique         of `line_at`
---   head-bytes-unique   of `encode_statement_head`
---   line-bytes-unique   of `encode_line`
+--   put-head-unique     what `put_statement_head` leaves in the buffer
+--   put-line-unique     what `put_line` leaves there
 -- Assumes nothing.
 use Prim.Native.Nat.{ℕ}
 use mathlib.Core.Path.{_≡_}
 use mathlib.Core.List.{List}
+use Rattle.columns.specs.Buffer.{put}
 use Rattle.columns.proofs.Unique.{unique}
 use Rattle.statement.specs.Statement.{statementHeadAt, statementHeadBytes, lineAt, lineBytes}
 use Rattle.statement.specs.declared.StatementHead.{StatementHead}
@@ -18,8 +19,8 @@ head-unique s = unique (statementHeadAt s)
 pub line-unique : (s : List ℕ) (k : ℕ) (x y : Line) → x ≡ lineAt s k → y ≡ lineAt s k → x ≡ y
 line-unique s k = unique (lineAt s k)
 
-pub head-bytes-unique : (h : StatementHead) (x y : List ℕ) → x ≡ statementHeadBytes h → y ≡ statementHeadBytes h → x ≡ y
-head-bytes-unique h = unique (statementHeadBytes h)
+pub put-head-unique : (out : List ℕ) (h : StatementHead) (x y : List ℕ) → x ≡ put out 0 (statementHeadBytes h) → y ≡ put out 0 (statementHeadBytes h) → x ≡ y
+put-head-unique out h = unique (put out 0 (statementHeadBytes h))
 
-pub line-bytes-unique : (l : Line) (x y : List ℕ) → x ≡ lineBytes l → y ≡ lineBytes l → x ≡ y
-line-bytes-unique l = unique (lineBytes l)
+pub put-line-unique : (out : List ℕ) (k : ℕ) (l : Line) (x y : List ℕ) → x ≡ put out k (lineBytes l) → y ≡ put out k (lineBytes l) → x ≡ y
+put-line-unique out k l = unique (put out k (lineBytes l))

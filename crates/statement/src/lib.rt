@@ -1,14 +1,13 @@
 // Statements in bytes (01, The files): a head and a line for each row, read by name and encoded.
-use columns::eight;
-use columns::four;
 use columns::number_at;
-use columns::two;
+use columns::put_fields;
 use units::Fen;
 use units::Kwh;
 use units::Li;
 ghost use mathlib.Core.Path.{_≡_};
 ghost use Prim.Native.Nat.{_+_, _≤_};
 ghost use lib.ListN.{length};
+ghost use Rattle.columns.specs.Buffer.{put};
 ghost use Rattle.statement.specs.Statement.{statementHeadAt, statementHeadBytes, lineAt, lineBytes};
 
 // A statement's head, without its mark.
@@ -36,6 +35,11 @@ pub struct Line {
     pub paid: Fen,
     pub closing: u16,
 }
+
+// The widths of a head's fields and of a line's, the mark as two of one byte.
+const HEAD_WIDTHS: [u8; 11] = [1, 1, 4, 1, 2, 2, 8, 8, 2, 4, 2];
+
+const LINE_WIDTHS: [u8; 11] = [1, 1, 2, 4, 4, 4, 4, 4, 4, 4, 2];
 
 // The head that a statement's first 35 bytes hold.
 pub fn statement_head_at(s: &[u8]) -> StatementHead
@@ -73,104 +77,44 @@ pub fn line_at(s: &[u8], at: usize) -> Line
     }
 }
 
-// A head's 35 bytes.
-pub fn encode_statement_head(h: StatementHead) -> [u8; 35]
-    ensures { λ b. ⌜ b ≡ statementHeadBytes h ⌝ }
+// Puts a head's 35 bytes at the front of a buffer.
+pub fn put_statement_head(out: &mut [u8], h: StatementHead)
+    requires { ⌜ 35 ≤ length (now out) ⌝ }
+    ensures { λ r. ⌜ now (out .exit) ≡ put (now (out .entry)) 0 (statementHeadBytes h) ⌝ }
 {
-    let day = four(h.day as u64);
-    let price1 = two(h.price1.0);
-    let price2 = two(h.price2.0);
-    let total = eight(h.total.0);
-    let shortfall = eight(h.shortfall.0);
-    let rounds = two(h.rounds as u64);
-    let uncovered = four(h.uncovered.0 as u64);
-    let rows = two(h.rows as u64);
-    [
-        b'P',
-        b'S',
-        day[0],
-        day[1],
-        day[2],
-        day[3],
-        h.quarter,
-        price1[0],
-        price1[1],
-        price2[0],
-        price2[1],
-        total[0],
-        total[1],
-        total[2],
-        total[3],
-        total[4],
-        total[5],
-        total[6],
-        total[7],
-        shortfall[0],
-        shortfall[1],
-        shortfall[2],
-        shortfall[3],
-        shortfall[4],
-        shortfall[5],
-        shortfall[6],
-        shortfall[7],
-        rounds[0],
-        rounds[1],
-        uncovered[0],
-        uncovered[1],
-        uncovered[2],
-        uncovered[3],
-        rows[0],
-        rows[1],
-    ]
+    let fields = [
+        b'P' as u64,
+        b'S' as u64,
+        h.day as u64,
+        h.quarter as u64,
+        h.price1.0,
+        h.price2.0,
+        h.total.0,
+        h.shortfall.0,
+        h.rounds as u64,
+        h.uncovered.0 as u64,
+        h.rows as u64,
+    ];
+    put_fields(out, 0, &HEAD_WIDTHS, &fields);
 }
 
-// A line's 34 bytes.
-pub fn encode_line(l: Line) -> [u8; 34]
-    ensures { λ b. ⌜ b ≡ lineBytes l ⌝ }
+// Puts a line's 34 bytes into a buffer from a position on.
+pub fn put_line(out: &mut [u8], at: usize, l: Line)
+    requires { ⌜ at + 34 ≤ length (now out) ⌝ }
+    ensures { λ r. ⌜ now (out .exit) ≡ put (now (out .entry)) at (lineBytes l) ⌝ }
 {
-    let id = two(l.id as u64);
-    let called1 = four(l.called1.0 as u64);
-    let called2 = four(l.called2.0 as u64);
-    let compensation = four(l.compensation.0);
-    let cut = four(l.cut.0);
-    let weight = four(l.weight.0 as u64);
-    let cap = four(l.cap.0);
-    let paid = four(l.paid.0);
-    let closing = two(l.closing as u64);
-    [
-        b'P',
-        b'L',
-        id[0],
-        id[1],
-        called1[0],
-        called1[1],
-        called1[2],
-        called1[3],
-        called2[0],
-        called2[1],
-        called2[2],
-        called2[3],
-        compensation[0],
-        compensation[1],
-        compensation[2],
-        compensation[3],
-        cut[0],
-        cut[1],
-        cut[2],
-        cut[3],
-        weight[0],
-        weight[1],
-        weight[2],
-        weight[3],
-        cap[0],
-        cap[1],
-        cap[2],
-        cap[3],
-        paid[0],
-        paid[1],
-        paid[2],
-        paid[3],
-        closing[0],
-        closing[1],
-    ]
+    let fields = [
+        b'P' as u64,
+        b'L' as u64,
+        l.id as u64,
+        l.called1.0 as u64,
+        l.called2.0 as u64,
+        l.compensation.0,
+        l.cut.0,
+        l.weight.0 as u64,
+        l.cap.0,
+        l.paid.0,
+        l.closing as u64,
+    ];
+    put_fields(out, at, &LINE_WIDTHS, &fields);
 }

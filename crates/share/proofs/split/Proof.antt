@@ -1,5 +1,6 @@
 -- `share::split` meets its contract: a sum of 0 gives everybody 0, any other has room for its remainders. Assumes nothing.
-use Rattle.share.proofs.Handing.{cleared, front, quotable}
+use Rattle.columns.proofs.Table.{front-long}
+use Rattle.share.proofs.Handing.{cleared, quotable}
 use borrow.Author.Needs.{needs}
 use Rattle.share.proofs.split.Statement.{statement}
 use Rattle.share.proofs.split.Tie as tie
@@ -20,7 +21,7 @@ array-borrow-prefix-rests : tie.Need-array-borrow-prefix-rests
 array-borrow-prefix-rests c = search needs
 
 slice-aggregate-share-out : tie.Need-slice-aggregate-share-out
-slice-aggregate-share-out c = search front
+slice-aggregate-share-out c = search front-long
 
 share-out-requires : tie.Need-share-out-requires
 share-out-requires c κs = (search needs, search quotable)

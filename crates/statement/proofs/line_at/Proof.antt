@@ -1,5 +1,5 @@
 -- `statement::line_at` meets its contract: every field is the number at its place. Assumes nothing.
-use Rattle.statement.proofs.Spelled.{line-told}
+use Rattle.statement.proofs.Fields.{line-told}
 use borrow.Author.Needs.{needs}
 use Rattle.statement.proofs.line_at.Statement.{statement}
 use Rattle.statement.proofs.line_at.Tie as tie

@@ -28,20 +28,14 @@ mul-r c = search needs
 element-copy-out-r : tie.Need-element-copy-out-r Inv-loop μ-loop
 element-copy-out-r c = search needs
 
-mul-put-bytes : tie.Need-mul-put-bytes Inv-loop μ-loop
-mul-put-bytes c = search needs
+mul-put-row : tie.Need-mul-put-row Inv-loop μ-loop
+mul-put-row c = search needs
 
-add-put-bytes : tie.Need-add-put-bytes Inv-loop μ-loop
-add-put-bytes c = search needs
+add-put-row : tie.Need-add-put-row Inv-loop μ-loop
+add-put-row c = search needs
 
-encode-row-requires : tie.Need-encode-row-requires Inv-loop μ-loop
-encode-row-requires c κs = search needs
-
-slice-aggregate-put-bytes : tie.Need-slice-aggregate-put-bytes Inv-loop μ-loop
-slice-aggregate-put-bytes c = search needs
-
-put-bytes-requires : tie.Need-put-bytes-requires Inv-loop μ-loop
-put-bytes-requires c κs = search needs
+put-row-requires : tie.Need-put-row-requires Inv-loop μ-loop
+put-row-requires c κs = search needs
 
 add-i : tie.Need-add-i Inv-loop μ-loop
 add-i c = search needs
@@ -51,11 +45,8 @@ loop-less c = search needs
 
 loop-again : tie.Need-loop-again Inv-loop μ-loop
 loop-again c =
-    let l = c .before .before .before .before .before .before .before .before .loop in (
-      l .inv .0,
-      place-next _ _ _ _ _ _ _ (l .inv .1) (omega arith) (omega arith) (omega arith)
-          (c .before .before .before .before .encode-row .ensures) (c .before .before .put-bytes .ensures),
-    )
+    let l = c .before .before .before .before .before .before .loop in
+    (l .inv .0, place-next _ _ _ _ _ _ (l .inv .1) (omega arith) (omega arith) (omega arith) (c .before .before .put-row .ensures))
 
 same-length : tie.Need-same-length Inv-loop μ-loop
 same-length c = search needs
@@ -73,11 +64,9 @@ put-rows-spec =
     loop-holds
     mul-r
     element-copy-out-r
-    mul-put-bytes
-    add-put-bytes
-    encode-row-requires
-    slice-aggregate-put-bytes
-    put-bytes-requires
+    mul-put-row
+    add-put-row
+    put-row-requires
     add-i
     loop-less
     loop-again

@@ -1,6 +1,6 @@
 -- `levy::cuts` meets its contract: it only lends columns. Assumes nothing.
 use borrow.Author.Needs.{needs}
-use Rattle.share.proofs.Handing.{front}
+use Rattle.columns.proofs.Table.{front-long}
 use Rattle.levy.proofs.Making.{front-room}
 use Rattle.levy.proofs.paying.cuts.Statement.{statement}
 use Rattle.levy.proofs.paying.cuts.Tie as tie
@@ -9,13 +9,13 @@ array-borrow-prefix-weights : tie.Need-array-borrow-prefix-weights
 array-borrow-prefix-weights c = search needs
 
 slice-aggregate-cut-over : tie.Need-slice-aggregate-cut-over
-slice-aggregate-cut-over c = search front
+slice-aggregate-cut-over c = search front-long
 
 array-borrow-prefix-parts : tie.Need-array-borrow-prefix-parts
 array-borrow-prefix-parts c = search needs
 
 slice-aggregate-cut-over-2 : tie.Need-slice-aggregate-cut-over-2
-slice-aggregate-cut-over-2 c = search front
+slice-aggregate-cut-over-2 c = search front-long
 
 cut-over-requires : tie.Need-cut-over-requires
 cut-over-requires c κs = (search needs, search front-room)

@@ -1,6 +1,6 @@
 -- `levy::payments` meets its contract: it only lends columns. Assumes nothing.
 use borrow.Author.Needs.{needs}
-use Rattle.share.proofs.Handing.{front}
+use Rattle.columns.proofs.Table.{front-long}
 use Rattle.levy.proofs.Making.{front-room}
 use Rattle.levy.proofs.paying.payments.Statement.{statement}
 use Rattle.levy.proofs.paying.payments.Tie as tie
@@ -9,13 +9,13 @@ array-borrow-prefix-still : tie.Need-array-borrow-prefix-still
 array-borrow-prefix-still c = search needs
 
 slice-aggregate-pay-open : tie.Need-slice-aggregate-pay-open
-slice-aggregate-pay-open c = search front
+slice-aggregate-pay-open c = search front-long
 
 array-borrow-prefix-parts : tie.Need-array-borrow-prefix-parts
 array-borrow-prefix-parts c = search needs
 
 slice-aggregate-pay-open-2 : tie.Need-slice-aggregate-pay-open-2
-slice-aggregate-pay-open-2 c = search front
+slice-aggregate-pay-open-2 c = search front-long
 
 pay-open-requires : tie.Need-pay-open-requires
 pay-open-requires c κs = (search needs, search front-room)

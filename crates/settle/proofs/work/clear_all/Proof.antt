@@ -1,6 +1,6 @@
 -- `settle::work::clear_all` meets its contract: the four columns it lends have n entries each. Assumes nothing.
 use mathlib.Core.Path.{sym}
-use Rattle.settle.proofs.Cleared.{part-long}
+use Rattle.columns.proofs.Table.{front-long}
 use borrow.Author.Needs.{needs}
 use Rattle.settle.proofs.work.clear_all.Statement.{statement}
 use Rattle.settle.proofs.work.clear_all.Tie as tie
@@ -21,25 +21,25 @@ array-borrow-prefix-widths1 : tie.Need-array-borrow-prefix-widths1
 array-borrow-prefix-widths1 c = search needs
 
 slice-aggregate-clear-in : tie.Need-slice-aggregate-clear-in
-slice-aggregate-clear-in c = search part-long
+slice-aggregate-clear-in c = search front-long
 
 array-borrow-prefix-widths2 : tie.Need-array-borrow-prefix-widths2
 array-borrow-prefix-widths2 c = search needs
 
 slice-aggregate-clear-in-2 : tie.Need-slice-aggregate-clear-in-2
-slice-aggregate-clear-in-2 c = search part-long
+slice-aggregate-clear-in-2 c = search front-long
 
 array-borrow-prefix-bids1 : tie.Need-array-borrow-prefix-bids1
 array-borrow-prefix-bids1 c = search needs
 
 slice-aggregate-clear-in-3 : tie.Need-slice-aggregate-clear-in-3
-slice-aggregate-clear-in-3 c = search part-long
+slice-aggregate-clear-in-3 c = search front-long
 
 array-borrow-prefix-bids2 : tie.Need-array-borrow-prefix-bids2
 array-borrow-prefix-bids2 c = search needs
 
 slice-aggregate-clear-in-4 : tie.Need-slice-aggregate-clear-in-4
-slice-aggregate-clear-in-4 c = search part-long
+slice-aggregate-clear-in-4 c = search front-long
 
 clear-in-requires : tie.Need-clear-in-requires
 clear-in-requires c κs =
@@ -47,10 +47,10 @@ clear-in-requires c κs =
       p .0,
       (
         record {
-          a-long = sym (part-long _ _ (c .before .before .before .before .before .before .before .before .before .blank .ensures) (p .0 .few));
-          b-long = sym (part-long _ _ (c .before .before .before .before .before .before .before .before .blank2 .ensures) (p .0 .few));
-          c-long = sym (part-long _ _ (c .before .before .before .before .before .before .before .blank3 .ensures) (p .0 .few));
-          d-long = sym (part-long _ _ (c .before .before .before .before .before .before .blank4 .ensures) (p .0 .few));
+          a-long = sym (front-long _ _ _ (c .before .before .before .before .before .before .before .before .before .blank .ensures) (p .0 .few));
+          b-long = sym (front-long _ _ _ (c .before .before .before .before .before .before .before .before .blank2 .ensures) (p .0 .few));
+          c-long = sym (front-long _ _ _ (c .before .before .before .before .before .before .before .blank3 .ensures) (p .0 .few));
+          d-long = sym (front-long _ _ _ (c .before .before .before .before .before .before .blank4 .ensures) (p .0 .few));
         },
         p .1,
       ),

@@ -1,6 +1,6 @@
 -- `settle::work::collect` meets its contract: weights, caps and closing rounds are those that payments and cuts ask for. Assumes nothing.
 use native.Mathlib.Omega.{arith}
-use Rattle.settle.proofs.Cleared.{part-long}
+use Rattle.columns.proofs.Table.{front-long}
 use Rattle.settle.proofs.Collected.{compensated-tariff, compensated-short, compensated-columns, compensated-payable, compensated-levied}
 use borrow.Author.Needs.{needs}
 use Rattle.settle.proofs.work.collect.Statement.{statement}
@@ -31,19 +31,19 @@ array-share-prefix-weights : tie.Need-array-share-prefix-weights
 array-share-prefix-weights c = omega (arith, c .before .before .before .before .before .before .before .before .before .before .before .before .weigh .ensures .0 .0, c .before .before .before .before .before .before .before .before .before .before .before .before .before .before .before .before .before .before .before .before .before .before .before .before .before .before .before .pre .0 .read .few)
 
 slice-aggregate-state : tie.Need-slice-aggregate-state
-slice-aggregate-state c = part-long _ _ (c .before .before .before .before .before .before .before .before .before .before .before .before .before .weigh .ensures .0 .0) (c .before .before .before .before .before .before .before .before .before .before .before .before .before .before .before .before .before .before .before .before .before .before .before .before .before .before .before .before .pre .0 .read .few)
+slice-aggregate-state c = front-long _ _ _ (c .before .before .before .before .before .before .before .before .before .before .before .before .before .weigh .ensures .0 .0) (c .before .before .before .before .before .before .before .before .before .before .before .before .before .before .before .before .before .before .before .before .before .before .before .before .before .before .before .before .pre .0 .read .few)
 
 array-share-prefix-caps : tie.Need-array-share-prefix-caps
 array-share-prefix-caps c = omega (arith, c .before .before .before .before .before .before .before .before .before .before .before .before .before .weigh .ensures .0 .1, c .before .before .before .before .before .before .before .before .before .before .before .before .before .before .before .before .before .before .before .before .before .before .before .before .before .before .before .before .pre .0 .read .few)
 
 slice-aggregate-state-2 : tie.Need-slice-aggregate-state-2
-slice-aggregate-state-2 c = part-long _ _ (c .before .before .before .before .before .before .before .before .before .before .before .before .before .before .weigh .ensures .0 .1) (c .before .before .before .before .before .before .before .before .before .before .before .before .before .before .before .before .before .before .before .before .before .before .before .before .before .before .before .before .before .pre .0 .read .few)
+slice-aggregate-state-2 c = front-long _ _ _ (c .before .before .before .before .before .before .before .before .before .before .before .before .before .before .weigh .ensures .0 .1) (c .before .before .before .before .before .before .before .before .before .before .before .before .before .before .before .before .before .before .before .before .before .before .before .before .before .before .before .before .before .pre .0 .read .few)
 
 array-share-prefix-marks : tie.Need-array-share-prefix-marks
 array-share-prefix-marks c = omega (arith, c .before .before .before .before .before .before .before .before .before .before .rounds .ensures .long, c .before .before .before .before .before .before .before .before .before .before .before .before .before .before .before .before .before .before .before .before .before .before .before .before .before .before .before .before .before .before .pre .0 .read .few)
 
 slice-aggregate-state-3 : tie.Need-slice-aggregate-state-3
-slice-aggregate-state-3 c = part-long _ _ (c .before .before .before .before .before .before .before .before .before .before .before .rounds .ensures .long) (c .before .before .before .before .before .before .before .before .before .before .before .before .before .before .before .before .before .before .before .before .before .before .before .before .before .before .before .before .before .before .before .pre .0 .read .few)
+slice-aggregate-state-3 c = front-long _ _ _ (c .before .before .before .before .before .before .before .before .before .before .before .rounds .ensures .long) (c .before .before .before .before .before .before .before .before .before .before .before .before .before .before .before .before .before .before .before .before .before .before .before .before .before .before .before .before .before .before .before .pre .0 .read .few)
 
 state-requires : tie.Need-state-requires
 state-requires c κs =

@@ -1,7 +1,7 @@
 -- `settle::work::work` meets its contract: the columns it lends have n entries each, the sources are those of the rows that count. Assumes nothing.
 use native.Mathlib.Omega.{arith}
 use mathlib.Core.Path.{sym}
-use Rattle.settle.proofs.Cleared.{part-long}
+use Rattle.columns.proofs.Table.{front-long}
 use Rattle.settle.proofs.Answered.{few-rows, read-of}
 use borrow.Author.Needs.{needs}
 use Rattle.settle.proofs.work.work.Statement.{statement}
@@ -32,31 +32,31 @@ array-borrow-prefix-called1 : tie.Need-array-borrow-prefix-called1
 array-borrow-prefix-called1 c = omega (arith, c .before .before .before .before .before .blank .ensures, few-rows _ _ _ (c .before .before .before .before .before .before .before .before .before .before .before .before .pre .0))
 
 slice-aggregate-stages : tie.Need-slice-aggregate-stages
-slice-aggregate-stages c = part-long _ _ (c .before .before .before .before .before .before .blank .ensures) (few-rows _ _ _ (c .before .before .before .before .before .before .before .before .before .before .before .before .before .pre .0))
+slice-aggregate-stages c = front-long _ _ _ (c .before .before .before .before .before .before .blank .ensures) (few-rows _ _ _ (c .before .before .before .before .before .before .before .before .before .before .before .before .before .pre .0))
 
 array-borrow-prefix-called2 : tie.Need-array-borrow-prefix-called2
 array-borrow-prefix-called2 c = omega (arith, c .before .before .before .before .before .blank2 .ensures, few-rows _ _ _ (c .before .before .before .before .before .before .before .before .before .before .before .before .before .pre .0))
 
 slice-aggregate-stages-2 : tie.Need-slice-aggregate-stages-2
-slice-aggregate-stages-2 c = part-long _ _ (c .before .before .before .before .before .before .blank2 .ensures) (few-rows _ _ _ (c .before .before .before .before .before .before .before .before .before .before .before .before .before .before .pre .0))
+slice-aggregate-stages-2 c = front-long _ _ _ (c .before .before .before .before .before .before .blank2 .ensures) (few-rows _ _ _ (c .before .before .before .before .before .before .before .before .before .before .before .before .before .before .pre .0))
 
 array-borrow-prefix-pay : tie.Need-array-borrow-prefix-pay
 array-borrow-prefix-pay c = omega (arith, c .before .before .before .before .before .blank3 .ensures, few-rows _ _ _ (c .before .before .before .before .before .before .before .before .before .before .before .before .before .before .pre .0))
 
 slice-aggregate-stages-3 : tie.Need-slice-aggregate-stages-3
-slice-aggregate-stages-3 c = part-long _ _ (c .before .before .before .before .before .before .blank3 .ensures) (few-rows _ _ _ (c .before .before .before .before .before .before .before .before .before .before .before .before .before .before .before .pre .0))
+slice-aggregate-stages-3 c = front-long _ _ _ (c .before .before .before .before .before .before .blank3 .ensures) (few-rows _ _ _ (c .before .before .before .before .before .before .before .before .before .before .before .before .before .before .before .pre .0))
 
 array-borrow-prefix-paid : tie.Need-array-borrow-prefix-paid
 array-borrow-prefix-paid c = omega (arith, c .before .before .before .before .before .blank4 .ensures, few-rows _ _ _ (c .before .before .before .before .before .before .before .before .before .before .before .before .before .before .before .pre .0))
 
 slice-aggregate-stages-4 : tie.Need-slice-aggregate-stages-4
-slice-aggregate-stages-4 c = part-long _ _ (c .before .before .before .before .before .before .blank4 .ensures) (few-rows _ _ _ (c .before .before .before .before .before .before .before .before .before .before .before .before .before .before .before .before .pre .0))
+slice-aggregate-stages-4 c = front-long _ _ _ (c .before .before .before .before .before .before .blank4 .ensures) (few-rows _ _ _ (c .before .before .before .before .before .before .before .before .before .before .before .before .before .before .before .before .pre .0))
 
 array-borrow-prefix-cut : tie.Need-array-borrow-prefix-cut
 array-borrow-prefix-cut c = omega (arith, c .before .before .before .before .before .blank5 .ensures, few-rows _ _ _ (c .before .before .before .before .before .before .before .before .before .before .before .before .before .before .before .before .pre .0))
 
 slice-aggregate-stages-5 : tie.Need-slice-aggregate-stages-5
-slice-aggregate-stages-5 c = part-long _ _ (c .before .before .before .before .before .before .blank5 .ensures) (few-rows _ _ _ (c .before .before .before .before .before .before .before .before .before .before .before .before .before .before .before .before .before .pre .0))
+slice-aggregate-stages-5 c = front-long _ _ _ (c .before .before .before .before .before .before .blank5 .ensures) (few-rows _ _ _ (c .before .before .before .before .before .before .before .before .before .before .before .before .before .before .before .before .before .pre .0))
 
 stages-requires : tie.Need-stages-requires
 stages-requires c κs =
@@ -65,12 +65,12 @@ stages-requires c κs =
       read-of _ _ _ (p .0) _ _ (c .before .before .before .before .before .before .before .before .before .before .before .before .before .before .blank-marks .ensures) (c .before .before .before .before .before .before .before .before .before .before .before .before .sources2 .ensures),
       (
         record {
-          a-long = sym (part-long _ _ (c .before .before .before .before .before .before .before .before .before .before .before .blank .ensures) few);
-          b-long = sym (part-long _ _ (c .before .before .before .before .before .before .before .before .before .before .blank2 .ensures) few);
-          c-long = sym (part-long _ _ (c .before .before .before .before .before .before .before .before .before .blank3 .ensures) few);
-          d-long = sym (part-long _ _ (c .before .before .before .before .before .before .before .before .blank4 .ensures) few);
+          a-long = sym (front-long _ _ _ (c .before .before .before .before .before .before .before .before .before .before .before .blank .ensures) few);
+          b-long = sym (front-long _ _ _ (c .before .before .before .before .before .before .before .before .before .before .blank2 .ensures) few);
+          c-long = sym (front-long _ _ _ (c .before .before .before .before .before .before .before .before .before .blank3 .ensures) few);
+          d-long = sym (front-long _ _ _ (c .before .before .before .before .before .before .before .before .blank4 .ensures) few);
         },
-        (sym (part-long _ _ (c .before .before .before .before .before .before .before .blank5 .ensures) few), p .1),
+        (sym (front-long _ _ _ (c .before .before .before .before .before .before .before .blank5 .ensures) few), p .1),
       ),
     )
 

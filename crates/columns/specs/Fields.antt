@@ -1,0 +1,16 @@
+-- A record in bytes: its fields one after the other, each in its own width (01, The files).
+-- Assumes nothing.
+use Prim.Native.Nat.{ℕ, _+_}
+use mathlib.Core.List.{List, [], _∷_, _++_}
+use Rattle.columns.specs.Number.{numberBytes}
+
+-- how many bytes fields of these widths take
+unfoldable pub span : List ℕ → ℕ
+span [] = 0
+span (w ∷ ws) = w + span ws
+
+-- the bytes of fields by their widths
+unfoldable pub fieldsBytes : List ℕ → List ℕ → List ℕ
+fieldsBytes [] xs = []
+fieldsBytes (w ∷ ws) [] = []
+fieldsBytes (w ∷ ws) (x ∷ xs) = numberBytes w x ++ fieldsBytes ws xs
