@@ -41,11 +41,11 @@ one-more n ids c =
     ∙ lines-joined (table n (λ i. lineOf (ids i) c i)) (lineOf (ids n) c n ∷ [])
     ∙ rw append-nil
 
-pub lines-more : (l out after : List ℕ) (ids : ℕ → ℕ) (c : Columns) (i id : ℕ) (line : Line) (bytes : List ℕ)
-    → out ≡ put l 35 (linesBytes (linesOf i ids c)) → 35 ≤ length l → id ≡ ids i → line ≡ lineOf id c i → bytes ≡ lineBytes line
-    → after ≡ put out (35 + i * 34) bytes → after ≡ put l 35 (linesBytes (linesOf (i + 1) ids c))
-lines-more l out after ids c i id line bytes so long which made spelled now =
-    now ∙ rw (so, spelled, made, which, one-more i ids c)
+pub lines-more : (l out after : List ℕ) (ids : ℕ → ℕ) (c : Columns) (i id : ℕ) (line : Line)
+    → out ≡ put l 35 (linesBytes (linesOf i ids c)) → 35 ≤ length l → id ≡ ids i → line ≡ lineOf id c i
+    → after ≡ put out (35 + i * 34) (lineBytes line) → after ≡ put l 35 (linesBytes (linesOf (i + 1) ids c))
+lines-more l out after ids c i id line so long which made now =
+    now ∙ rw (so, made, which, one-more i ids c)
     (put-put l 35 (35 + i * 34) (linesBytes (linesOf i ids c)) (lineBytes (lineOf (ids i) c i)) (omega (arith, lines-count i ids c)) long)
 
 pub lines-long : (l out : List ℕ) (ids : ℕ → ℕ) (c : Columns) (n : ℕ) → out ≡ put l 35 (linesBytes (linesOf n ids c)) → 35 + n * 34 ≤ length l
@@ -86,8 +86,7 @@ line-made id i c compensation cut cap paid e₁ e₂ e₃ e₄ =
       closing = at (c .closing) i;
     }
 
-pub statement-put : (h : StatementHead) (l mid out bytes lines : List ℕ) → bytes ≡ statementHeadBytes h → mid ≡ put l 0 bytes → out ≡ put mid 35 lines
+pub statement-put : (h : StatementHead) (l mid out lines : List ℕ) → mid ≡ put l 0 (statementHeadBytes h) → out ≡ put mid 35 lines
     → 35 ≤ length l → out ≡ put l 0 (statementHeadBytes h ++ lines)
-statement-put h l mid out bytes lines spelled first then long =
-    then
-    ∙ rw (first, spelled) (put-put l 0 35 (statementHeadBytes h) lines (omega (arith, head-length h)) (omega arith))
+statement-put h l mid out lines first then long =
+    then ∙ rw first (put-put l 0 35 (statementHeadBytes h) lines (omega (arith, head-length h)) (omega arith))

@@ -5,14 +5,8 @@ use borrow.Author.Needs.{needs}
 use Rattle.settle.proofs.write.put_statement.Statement.{statement}
 use Rattle.settle.proofs.write.put_statement.Tie as tie
 
-encode-statement-head-requires : tie.Need-encode-statement-head-requires
-encode-statement-head-requires c κs = search needs
-
-slice-aggregate-put-bytes : tie.Need-slice-aggregate-put-bytes
-slice-aggregate-put-bytes c = search needs
-
-put-bytes-requires : tie.Need-put-bytes-requires
-put-bytes-requires c κs = search needs
+put-statement-head-requires : tie.Need-put-statement-head-requires
+put-statement-head-requires c κs = search needs
 
 put-lines-requires : tie.Need-put-lines-requires
 put-lines-requires c κs = search needs
@@ -21,15 +15,10 @@ same-length : tie.Need-same-length
 same-length c = search needs
 
 returns : tie.Need-returns
-returns c = statement-put _ _ _ _ _ _ (c .before .before .before .before .before .before .before .before .encode-statement-head .ensures) (c .before .before .before .before .before .before .put-bytes .ensures) (c .before .before .put-lines .ensures) (omega (arith, c .before .before .before .before .before .before .before .before .before .before .before .before .before .before .before .before .before .before .before .before .pre))
+returns c =
+    statement-put _ _ _ _ _ (c .before .before .before .before .before .before .put-statement-head .ensures) (c .before .before .put-lines .ensures)
+    (omega (arith, c .before .before .before .before .before .before .before .before .before .before .before .before .before .before .before .before .before .before .pre))
 
 pub put-statement-spec : {M : Type 1} → statement M
 put-statement-spec =
-    tie.close
-    (tie.spec
-    encode-statement-head-requires
-    slice-aggregate-put-bytes
-    put-bytes-requires
-    put-lines-requires
-    same-length
-    returns)
+    tie.close (tie.spec put-statement-head-requires put-lines-requires same-length returns)
