@@ -3,7 +3,7 @@
 --   number-none, -more, -all   the loop over a number's bytes: its start, a turn, its end
 --   owed-none, -next, -all     the same of the loop over fields (record Owed); owed-room: the next one has room
 -- Assumes nothing.
-use mathlib.Core.Path.{_≡_, refl, sym, ap, _∙_}
+use mathlib.Core.Path.{_≡_, refl, sym, _∙_}
 use mathlib.Core.List.{List, [], _∷_, _++_}
 use Prim.Native.Nat.{ℕ, suc, _+_, _-_, _/_, _%_, _≤_, _<_}
 use native.Mathlib.Numerals.{add-one}
