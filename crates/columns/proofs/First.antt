@@ -1,6 +1,7 @@
 -- An ordered list of checks, and a list of tests: what their answers say of each.
 --   none-applies   a list of checks with numbers above 0 that gave 0: the check at any position does not apply
 --   left-true, right-true      both of two tests pass: the one does, and the other
+--   and-false      one of two tests fails: not both pass
 --   each           a list of tests that all pass: the test at any position does
 -- Assumes nothing.
 use mathlib.Core.Path.{_≡_, refl, sym, subst}
@@ -45,6 +46,10 @@ left-true false b e = e
 pub right-true : (a b : Bool) → a && b ≡ true → b ≡ true
 right-true true b e = e
 right-true false b e = absurd (subst T (sym e) tt)
+
+pub and-false : (t : Bool) → t && false ≡ false
+and-false true = refl
+and-false false = refl
 
 -- all of t and us pass: t does, and so does each of us
 from-both : (t : Bool) (us : List Bool) → allFrom t us ≡ true → (t ≡ true) × ((i : ℕ) → i < length us → getD us i true ≡ true)

@@ -12,18 +12,15 @@
 --     where-cross     a * f ≤ b * g at each that passes: a * (sum of f) ≤ b * (sum of g)
 --     where-cross-lt  the same with < at each: the gap is at least the number that pass
 --     count-parts     counts of two parts
---     count-zero      a count of 0: nobody passes
 -- Assumes nothing.
 use Prim.Native.Nat.{ℕ, zero, suc, _+_, _*_, _≤_, _<_, zero-le}
 use mathlib.Core.Path.{_≡_, refl, sym, _∙_}
-use mathlib.Core.Logic.{⊎-elim}
 use mathlib.Core.Bool.{Bool, true, false, cond, not}
 use native.Mathlib.Nat.{le-refl}
 use native.Mathlib.Omega.{arith}
 use Rattle.columns.specs.Sum.{bit, sumTo, countTo, sumWhere}
 use Rattle.columns.specs.Table.{Below}
-use Rattle.columns.proofs.Sum.{sum-next, sum-same, sum-le, sum-add, sum-zero, term-le, count-some}
-use Rattle.columns.proofs.Rank.{test-or}
+use Rattle.columns.proofs.Sum.{sum-next, sum-same, sum-le, sum-add, sum-zero, term-le}
 
 pub where-next : (n : ℕ) (p : ℕ → Bool) (f : ℕ → ℕ) → sumWhere (n + 1) p f ≡ sumWhere n p f + cond (p n) (f n) 0
 unfolding sumWhere
@@ -109,7 +106,3 @@ pub count-parts : (n : ℕ) (u p q : ℕ → Bool) → Below n (λ k. bit (u k) 
 unfolding countTo
 count-parts n u p q h =
     sum-same n (λ k. bit (u k)) (λ k. bit (p k) + bit (q k)) h ∙ sum-add n (λ k. bit (p k)) (λ k. bit (q k))
-
-pub count-zero : (n : ℕ) (p : ℕ → Bool) → countTo n p ≡ 0 → Below n (λ k. p k ≡ false)
-count-zero n p e k l =
-    ⊎-elim (λ (t : p k ≡ true). absurd (omega (arith, count-some n p k l t))) (λ t. t) (test-or (p k))

@@ -9,11 +9,10 @@
 --     sum-zero      terms of 0 sum to 0
 --     sum-shorter   a sum over fewer positions is smaller
 --     term-le       each term is at most the sum
---     terms-none    a sum of 0 has terms of 0
 --     sum-same-le   where f ≤ g below n and the sums are equal, f and g agree
 --     bit-le        a test counts for at most 1
 --     count-next, count-same, count-le, count-none, count-all, count-sub, count-some, count-zero     the same of counts
---     max-next, max-same, max-term, max-bound, max-reached      the same of maxima
+--     max-next, max-term, max-bound, max-reached      the same of maxima
 -- Assumes nothing.
 use Prim.Native.Nat.{ℕ, zero, suc, _+_, _*_, _≤_, _<_, max, zero-le, suc-le-suc}
 use mathlib.Core.Path.{_≡_, refl, ap, sym, _∙_}
@@ -73,9 +72,6 @@ sum-shorter m (suc n) f h =
 
 pub term-le : (n : ℕ) (f : ℕ → ℕ) (k : ℕ) → k < n → f k ≤ sumTo n f
 term-le n f k l = omega (arith, sum-shorter (k + 1) n f (omega arith), sum-next k f)
-
-pub terms-none : (n : ℕ) (f : ℕ → ℕ) → sumTo n f ≡ 0 → Below n (λ k. f k ≡ 0)
-terms-none n f e k l = omega (arith, term-le n f k l)
 
 pub sum-same-le : (n : ℕ) (f g : ℕ → ℕ) → Below n (λ k. f k ≤ g k) → sumTo n f ≡ sumTo n g → Below n (λ k. f k ≡ g k)
 unfolding sumTo
@@ -137,11 +133,6 @@ count-zero n p e k l = passes (p k) refl
 pub max-next : (n : ℕ) (f : ℕ → ℕ) → maxTo (n + 1) f ≡ max (maxTo n f) (f n)
 unfolding maxTo
 max-next n f = rw add-one
-
-pub max-same : (n : ℕ) (f g : ℕ → ℕ) → Below n (λ k. f k ≡ g k) → maxTo n f ≡ maxTo n g
-unfolding maxTo
-max-same zero f g h = refl
-max-same (suc n) f g h = rw (max-same n f g (λ k l. h k (omega arith)), h n (omega arith))
 
 pub max-bound : (n b : ℕ) (f : ℕ → ℕ) → Below n (λ k. f k ≤ b) → maxTo n f ≤ b
 unfolding maxTo

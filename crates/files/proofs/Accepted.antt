@@ -10,7 +10,7 @@
 use mathlib.Core.Path.{_≡_, refl, sym, subst}
 use mathlib.Core.Logic.{⊎-elim}
 use Prim.Native.Nat.{ℕ, zero, suc, _+_, _-_, _*_, _≤_, _<_}
-use mathlib.Core.Bool.{Bool, true, false, not, cond, _&&_}
+use mathlib.Core.Bool.{Bool, true, false, cond, _&&_}
 use mathlib.Core.List.{List, [], _∷_}
 use native.Mathlib.Nat.{le-of-suc-le-suc}
 use native.Mathlib.Omega.{arith}
@@ -19,7 +19,7 @@ use lib.ListN.{length}
 use borrow.Author.Tests.{not-false, ne-eqb, leb-true, eqb-true}
 use Rattle.columns.specs.Number.{numberAt}
 use Rattle.columns.specs.Test.{within}
-use Rattle.columns.proofs.First.{none-applies, each}
+use Rattle.columns.proofs.First.{none-applies, right-true, each}
 use Rattle.columns.proofs.Sum.{lt-or-le}
 use Rattle.files.specs.Layout.{marked, letterK, rowAt, rowStart, correctionStart, headAt, correctionHeadAt, rowCount, correctionCount}
 use Rattle.files.specs.Range.{dayOk, quarterOk, headOk, correctionHeadOk}
@@ -141,16 +141,12 @@ module _ (s k : List ℕ) (n : ℕ) (h : verdictOf s k ≡ Accepted n) where
   pub theirs-few : correctionCount k ≤ 256
   unfolding correctionHeadOk
   theirs-few = ⊎-elim there absent (lt-or-le 0 (length k)) where
-    right : (a b : Bool) → a && b ≡ true → b ≡ true
-    right true b e = e
-    right false b e = absurd (subst T (sym e) tt)
-
     there : 0 < length k → correctionCount k ≤ 256
     there p =
         let z : length k ≡ 0 → ⊥ = λ e. omega arith in
         let e = correctionHeadAt k in
         let ok = starts-ok k (theirs k (parts s k n h z .0) .0) in
-        leb-true (e .rows) 256 (right (leb 1 (e .rows)) _ (each (dayOk (e .day) ∷ quarterOk (e .quarter) ∷ within 1 256 (e .rows) ∷ []) ok 2 (lit< tt)))
+        leb-true (e .rows) 256 (right-true (leb 1 (e .rows)) _ (each (dayOk (e .day) ∷ quarterOk (e .quarter) ∷ within 1 256 (e .rows) ∷ []) ok 2 (lit< tt)))
 
     absent : length k ≤ 0 → correctionCount k ≤ 256
     absent p = let z : length k ≡ 0 = omega arith in omega (arith, none-named k z)

@@ -4,11 +4,10 @@
 --   verdict-yes, -no      the answer of no fault, and of a fault
 --   accepted-of           an acceptance: there is no fault, and the count is the one stated
 --   refused-of            a refusal: its fault has this number and this place, and the number is not 0
---   skip                  a check that gives its number where it applies, and gave 0: it does not apply
 -- Assumes nothing.
 use mathlib.Core.Path.{_≡_, refl, _∙_}
-use Prim.Native.Nat.{ℕ, _<_}
-use mathlib.Core.Bool.{Bool, true, false, cond}
+use Prim.Native.Nat.{ℕ}
+use mathlib.Core.Bool.{Bool, true, false}
 use native.Mathlib.Omega.{arith}
 use lib.Dec.{eqb}
 use borrow.Author.Tests.{eq-eqb, ne-eqb, eqb-true, eqb-false}
@@ -53,7 +52,3 @@ refused-of n a b f h = go (eqb (f .number) 0) refl where
       let q : f .number ≡ a = cc in
       let r : f .place ≡ b = cc in
       (rw (← q, ← r), λ z. eqb-false (f .number) 0 e (q ∙ z))
-
-pub skip : (t : Bool) (n y : ℕ) → 0 < n → cond t n y ≡ 0 → (t ≡ false) × (y ≡ 0)
-skip true n y p h = absurd (omega arith)
-skip false n y p h = (refl, h)

@@ -4,14 +4,15 @@
 --   bad-start, bad-row, bad-time, good-pair      8 by head and length, 8 by a row, 9, then 10
 --   own-refused, alone, paired      1 to 7 first; then nothing more without a correction, else 8 to 10
 -- Assumes nothing.
-use mathlib.Core.Path.{_≡_, refl, sym, ap, _∙_, subst}
+use mathlib.Core.Path.{_≡_, refl, sym, ap, _∙_}
 use Prim.Native.Nat.{ℕ, suc, _+_, _-_, _*_, _≤_, _<_}
 use mathlib.Core.Bool.{Bool, true, false, not, cond, _&&_}
 use mathlib.Core.List.{List}
 use native.Mathlib.Omega.{arith}
-use lib.Dec.{T, eqb, leb}
+use lib.Dec.{eqb, leb}
 use lib.ListN.{length}
 use borrow.Author.Tests.{not-true, not-false, eq-eqb, ne-eqb, eqb-true, lt-ltb, le-ltb, le-leb, lt-leb}
+use Rattle.columns.proofs.First.{right-true}
 use Rattle.files.specs.Layout.{marked, letterK, rowAt, rowStart, correctionStart, correctionHeadAt, rowCount, correctionCount}
 use Rattle.files.specs.Fault.{Fault, fault, orElse, none, headFault, rowsFault, intervalFault, correctionStarts, asEight, correctionFault, timeFault, sameTerms, corrects, sameTime, namesFault, presentFault, pairFault, fileFault, verdict, verdictOf}
 use Rattle.files.specs.Range.{correctionHeadOk}
@@ -93,10 +94,7 @@ match-told s n i r q t l e h = rw (lt-ltb i n l, ← e) h
 
 pub starts-long : (k : List ℕ) → correctionStarts k ≡ true → length k ≡ correctionStart (correctionCount k)
 unfolding correctionStarts
-starts-long k e = eqb-true _ _ (last (leb 9 (length k) && marked k 0 letterK && correctionHeadOk (correctionHeadAt k)) _ e) where
-  last : (a b : Bool) → a && b ≡ true → b ≡ true
-  last true b e = e
-  last false b e = absurd (subst T (sym e) tt)
+starts-long k e = eqb-true _ _ (right-true (leb 9 (length k) && marked k 0 letterK && correctionHeadOk (correctionHeadAt k)) _ e)
 
 pub correction-there : (k : List ℕ) (b : Bool) → b ≡ correctionStarts k → not b ≡ false → 9 ≤ length k
 correction-there k b e n = omega (arith, starts-long k (sym e ∙ not-false b n))

@@ -19,6 +19,7 @@ use Rattle.columns.specs.Table.{table}
 use Rattle.columns.specs.Buffer.{put}
 use Rattle.columns.proofs.Table.{table-length, table-next}
 use Rattle.columns.proofs.Buffer.{put-length, put-none, put-put, set-put}
+use Rattle.columns.proofs.First.{left-true}
 use Rattle.columns.proofs.Sum.{lt-or-le}
 use Rattle.files.specs.Layout.{rowAt, rowStart, correctionStart, rowCount, correctionCount}
 use Rattle.files.specs.Fault.{findId, fileFault, verdictOf}
@@ -56,12 +57,8 @@ under-none s start id x l = absurd (omega arith)
 abbrev pub has : List ℕ → ℕ → ℕ → ℕ → ℕ → Bool
 has s start n r id = ltb r n && eqb (idOf s start r) id
 
-both-first : (a b : Bool) → a && b ≡ true → a ≡ true
-both-first true b e = refl
-both-first false b e = e
-
 pub has-below : (s : List ℕ) (start n r id : ℕ) (b : Bool) → b ≡ has s start n r id → b ≡ true → r < n
-has-below s start n r id b e h = ltb-true r n (both-first (ltb r n) (eqb (idOf s start r) id) (sym e ∙ h))
+has-below s start n r id b e h = ltb-true r n (left-true (ltb r n) (eqb (idOf s start r) id) (sym e ∙ h))
 
 pub has-in : (s : List ℕ) (start n r id : ℕ) (b : Bool) → Rows s start n → b ≡ has s start n r id → b ≡ true → start + r * 21 + 21 ≤ length s
 has-in s start n r id b rows e h = rows .inside r (has-below s start n r id b e h)

@@ -20,9 +20,8 @@ use lib.ListN.{length, take, replicate, length-replicate}
 use lib.Seq.{length-take-le}
 use Rattle.columns.specs.Sum.{countTo, sumWhere}
 use Rattle.columns.specs.Table.{at}
-use Rattle.columns.proofs.Sum.{sum-bound}
+use Rattle.columns.proofs.Sum.{sum-bound, count-zero}
 use Rattle.columns.proofs.Table.{table-is}
-use Rattle.columns.proofs.Mask.{count-zero}
 use Rattle.share.specs.Share.{whole}
 use Rattle.levy.specs.Rounds.{Standing, opens, closes, closed, next, run, opening}
 use Rattle.levy.specs.Capped.{marked}

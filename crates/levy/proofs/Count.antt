@@ -11,7 +11,7 @@
 use Prim.Native.Nat.{ℕ, suc, _+_, _≤_, _<_}
 use mathlib.Core.Path.{_≡_, refl, sym, _∙_}
 use mathlib.Core.Logic.{_⊎_, ⊎-elim}
-use mathlib.Core.Bool.{Bool, true, false, cond, not}
+use mathlib.Core.Bool.{Bool, true, false, cond}
 use mathlib.Core.List.{List}
 use native.Mathlib.Nat.{eq-zero-or-pos, le-refl}
 use native.Mathlib.Omega.{arith}
@@ -20,10 +20,11 @@ use lib.ListN.{length}
 use borrow.Author.Tests.{eqb-true}
 use Rattle.columns.specs.Sum.{countTo, maxTo}
 use Rattle.columns.specs.Table.{at, Below}
+use Rattle.columns.proofs.First.{right-true}
 use Rattle.columns.proofs.Sum.{lt-or-le, count-none, count-sub, max-bound, max-term}
 use Rattle.columns.proofs.Rank.{some-or-none}
 use Rattle.levy.specs.Rounds.{Standing, isOpen, payers, opens, closes, next, opening, final}
-use Rattle.levy.proofs.Step.{run-keeps, and-right, closes-unmarked, mark-next, next-rounds, opens-fall, final-sound}
+use Rattle.levy.proofs.Step.{run-keeps, closes-unmarked, mark-next, next-rounds, opens-fall, final-sound}
 
 pub record Counted (ws : List ℕ) (st : Standing) : Type 0 where
   pub early : st .rounds + opens ws (st .marks) ≤ payers ws
@@ -32,7 +33,7 @@ pub record Counted (ws : List ℕ) (st : Standing) : Type 0 where
 pub opens-payers : (ws marks : List ℕ) → opens ws marks ≤ payers ws
 unfolding opens payers
 opens-payers ws marks =
-    count-sub (length ws) (isOpen ws marks) (λ i. ltb 0 (at ws i)) (λ i l e. and-right (eqb (at marks i) 0) (ltb 0 (at ws i)) e)
+    count-sub (length ws) (isOpen ws marks) (λ i. ltb 0 (at ws i)) (λ i l e. right-true (eqb (at marks i) 0) (ltb 0 (at ws i)) e)
 
 pub opening-counted : (total : ℕ) (ws : List ℕ) → Counted ws (opening total ws)
 unfolding opening

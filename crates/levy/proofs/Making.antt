@@ -2,7 +2,7 @@
 --     open-split, made-asked, payments-made     payments: what the sharing asks, what the making asks, the column
 --     cut-split, cut-long, cut-small, cut-made     cuts: the same
 --     front-room                                the room lent for columns of n
---     payments-final, shortfall-final, cuts-final     what the code answers, of the last standing
+--     shortfall-final                           the shortfall that the code answers, of the last standing
 --     payable, cuttable                         what the makers of payments and cuts ask, from the answer of the rounds
 -- Assumes nothing.
 use Prim.Native.Nat.{ℕ, _≤_, _<_}
@@ -18,7 +18,7 @@ use Rattle.columns.proofs.Table.{table-length, table-same, front-long}
 use Rattle.share.specs.Share.{whole, shares}
 use Rattle.share.specs.Split.{Splittable}
 use Rattle.share.proofs.Laws.{shares-at, shares-length, share-le-weight}
-use Rattle.levy.specs.Rounds.{Standing, openWeights, final, paid, payments, shortfall, cuts}
+use Rattle.levy.specs.Rounds.{openWeights, final, paid, payments, shortfall}
 use Rattle.levy.specs.Asked.{standingOf, markedOnly, Small, Columns, Finished, Short, Payable, paidFrom, Made, Room, Cuttable}
 use Rattle.levy.specs.declared.Rest.{Rest}
 use Rattle.levy.proofs.Payment.{paid-le-cap, shortfall-le}
@@ -124,15 +124,5 @@ cuttable n weights caps marks rest compensations ended x short few first turn ou
 
 -- the answers of the code, said of the last standing
 module _ (total n : ℕ) (weights caps marks : List ℕ) (rest : Rest) (ended : Finished total n weights caps marks rest) where
-  pub payments-final : (first : ℕ) (out : List ℕ) → out ≡ payments (take n weights) (take n caps) (standingOf n marks rest) first
-      → out ≡ payments (take n weights) (take n caps) (final total (take n weights) (take n caps)) first
-  payments-final first out is = is ∙ ap (λ (st : Standing). payments (take n weights) (take n caps) st first) (ended .is)
-
   pub shortfall-final : (x : ℕ) → Short rest x → x ≡ shortfall (final total (take n weights) (take n caps))
   shortfall-final x short = short n marks ∙ ap shortfall (ended .is)
-
-  pub cuts-final : (x : ℕ) → Short rest x → (compensations : List ℕ) (first : ℕ) (out : List ℕ) → out ≡ shares x compensations first
-      → out ≡ cuts (final total (take n weights) (take n caps)) compensations first
-  unfolding cuts
-  cuts-final x short compensations first out is =
-      is ∙ ap (λ (y : ℕ). shares y compensations first) (shortfall-final x short)

@@ -1,6 +1,6 @@
 -- One round, and the run of rounds: what always holds between two rounds, and how `run` goes on and stops.
 --     Sound               how a standing hangs together with total, weights and caps
---     marked-up, up-marked      who has closed has a mark above 0, and the other way round
+--     marked-up           who has closed has a mark above 0
 --     sound-caps          the money and the caps of those that closed are the total
 --     sound-weight        the open weight is at most the whole weight
 --     opening-sound       it holds before the first round
@@ -35,8 +35,9 @@ use lib.ListN.{length, replicate, getD, List·getD-eq-default}
 use borrow.Author.Tests.{lt-ltb, ltb-true, leb-true, eq-eqb, ne-eqb, eqb-false, not-true}
 use Rattle.columns.specs.Sum.{bit, countTo, sumWhere}
 use Rattle.columns.specs.Table.{at}
-use Rattle.columns.proofs.Sum.{lt-or-le, count-le, count-none}
-use Rattle.columns.proofs.Mask.{where-same, where-parts, where-sub, where-whole, where-none, where-all, where-cross, where-term, count-parts, count-zero}
+use Rattle.columns.proofs.First.{left-true, right-true, and-false}
+use Rattle.columns.proofs.Sum.{lt-or-le, count-le, count-none, count-zero}
+use Rattle.columns.proofs.Mask.{where-same, where-parts, where-sub, where-whole, where-none, where-all, where-cross, where-term, count-parts}
 use Rattle.columns.proofs.Table.{table-length, table-at, table-past}
 use Rattle.columns.proofs.Rank.{test-or}
 use Rattle.share.specs.Share.{whole}
@@ -55,26 +56,9 @@ pub record Sound (total : ℕ) (ws cs : List ℕ) (st : Standing) : Type 0 where
   pub marks-le : (i : ℕ) → at (st .marks) i ≤ st .rounds
   pub payers : (i : ℕ) → 0 < at (st .marks) i → 0 < at ws i
 
-pub and-left : (s t : Bool) → s && t ≡ true → s ≡ true
-and-left true t e = refl
-and-left false t e = e
-
-pub and-right : (s t : Bool) → s && t ≡ true → t ≡ true
-and-right true t e = e
-and-right false true e = refl
-and-right false false e = e
-
-pub and-false : (t : Bool) → t && false ≡ false
-and-false true = refl
-and-false false = refl
-
--- whoever has closed has a mark above 0, and the other way round
 pub marked-up : (marks : List ℕ) (i : ℕ) → marked marks i ≡ true → 0 < at marks i
 marked-up marks i e =
     ⊎-elim (λ (z : at marks i ≡ 0). absurd (eqb-false (at marks i) 0 (not-true (eqb (at marks i) 0) e) z)) (λ up. up) (eq-zero-or-pos (at marks i))
-
-pub up-marked : (marks : List ℕ) (i : ℕ) → 0 < at marks i → marked marks i ≡ true
-up-marked marks i up = rw (ne-eqb (at marks i) 0 (omega arith))
 
 -- whoever has weight stands in the column
 pub inside-weight : (ws : List ℕ) (i : ℕ) → 0 < at ws i → i < length ws
@@ -85,17 +69,17 @@ module _ (ws cs : List ℕ) (st : Standing) where
   -- whoever closes was open, had weight, and owes its cap at least
   pub closes-open : (i : ℕ) → closes ws cs st i ≡ true → isOpen ws (st .marks) i ≡ true
   unfolding closes
-  closes-open i e = and-left (isOpen ws (st .marks) i) (leb (at cs i * st .weight) (st .money * at ws i)) e
+  closes-open i e = left-true (isOpen ws (st .marks) i) (leb (at cs i * st .weight) (st .money * at ws i)) e
 
   pub closes-unmarked : (i : ℕ) → closes ws cs st i ≡ true → unmarked (st .marks) i ≡ true
-  closes-unmarked i e = and-left (eqb (at (st .marks) i) 0) (ltb 0 (at ws i)) (closes-open i e)
+  closes-unmarked i e = left-true (eqb (at (st .marks) i) 0) (ltb 0 (at ws i)) (closes-open i e)
 
   pub closes-weight : (i : ℕ) → closes ws cs st i ≡ true → 0 < at ws i
-  closes-weight i e = ltb-true 0 (at ws i) (and-right (eqb (at (st .marks) i) 0) (ltb 0 (at ws i)) (closes-open i e))
+  closes-weight i e = ltb-true 0 (at ws i) (right-true (eqb (at (st .marks) i) 0) (ltb 0 (at ws i)) (closes-open i e))
 
   pub closes-owe : (i : ℕ) → closes ws cs st i ≡ true → at cs i * st .weight ≤ st .money * at ws i
   unfolding closes
-  closes-owe i e = leb-true (at cs i * st .weight) (st .money * at ws i) (and-right (isOpen ws (st .marks) i) (leb (at cs i * st .weight) (st .money * at ws i)) e)
+  closes-owe i e = leb-true (at cs i * st .weight) (st .money * at ws i) (right-true (isOpen ws (st .marks) i) (leb (at cs i * st .weight) (st .money * at ws i)) e)
 
   pub closed-is : (xs : List ℕ) → closed ws cs st xs ≡ sumWhere (length ws) (closes ws cs st) (at xs)
   unfolding closed sumWhere

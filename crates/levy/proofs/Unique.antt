@@ -18,12 +18,13 @@ use lib.ListN.{length}
 use borrow.Author.Tests.{lt-ltb, ltb-true, eqb-true, not-true, not-false}
 use Rattle.columns.specs.Sum.{countTo, sumWhere}
 use Rattle.columns.specs.Table.{at}
+use Rattle.columns.proofs.First.{left-true, right-true}
 use Rattle.columns.proofs.Sum.{lt-or-le, sum-same, count-some}
 use Rattle.columns.proofs.Mask.{where-parts, where-zero, where-term, where-cross, where-cross-lt}
 use Rattle.columns.proofs.Rank.{test-or}
 use Rattle.levy.specs.Rounds.{Standing, final}
 use Rattle.levy.specs.Capped.{marked, inside, outside, capsOf, leftBy, weightsBeside, Capped}
-use Rattle.levy.proofs.Step.{unmarked, and-left, and-right, inside-weight, marked-up, sound-caps, final-sound}
+use Rattle.levy.proofs.Step.{unmarked, inside-weight, marked-up, sound-caps, final-sound}
 use Rattle.levy.proofs.Rate.{capped-owe, open-owe}
 
 and-true : (s t : Bool) → s ≡ true → t ≡ true → s && t ≡ true
@@ -37,10 +38,10 @@ beside : (w : ℕ) (t : Bool) → 0 < w → t ≡ false → ltb 0 w && not t ≡
 beside w t some e = and-true (ltb 0 w) (not t) (lt-ltb 0 w some) (ap not e)
 
 in-set-is : (w : ℕ) (t : Bool) → ltb 0 w && t ≡ true → t ≡ true
-in-set-is w t e = and-right (ltb 0 w) t e
+in-set-is w t e = right-true (ltb 0 w) t e
 
 beside-is : (w : ℕ) (t : Bool) → ltb 0 w && not t ≡ true → t ≡ false
-beside-is w t e = not-true t (and-right (ltb 0 w) (not t) e)
+beside-is w t e = not-true t (right-true (ltb 0 w) (not t) e)
 
 -- no weight beside the set: nobody is beside it
 beside-none : (ws : List ℕ) (p : ℕ → Bool) → weightsBeside ws p ≡ 0 → (i : ℕ) → outside ws p i ≡ false
@@ -48,7 +49,7 @@ unfolding weightsBeside
 beside-none ws p z i =
     ⊎-elim
     (λ (o : outside ws p i ≡ true).
-    let some : 0 < at ws i = ltb-true 0 (at ws i) (and-left (ltb 0 (at ws i)) (not (p i)) o) in
+    let some : 0 < at ws i = ltb-true 0 (at ws i) (left-true (ltb 0 (at ws i)) (not (p i)) o) in
     absurd (omega (arith, where-term (length ws) (outside ws p) (at ws) i (inside-weight ws i some) o)))
     (λ e. e) (test-or (outside ws p i))
 
@@ -111,15 +112,15 @@ module _ (total : ℕ) (ws cs : List ℕ) where
     more-less : (i : ℕ) → more p q ws i ≡ true → leftBy total ws cs p * at ws i < weightsBeside ws p * at cs i
     unfolding more
     more-less i e =
-        let t : ltb 0 (at ws i) ≡ true = and-left (ltb 0 (at ws i)) (not (p i) && q i) e in
-        let o : not (p i) ≡ true = and-left (not (p i)) (q i) (and-right (ltb 0 (at ws i)) (not (p i) && q i) e) in
+        let t : ltb 0 (at ws i) ≡ true = left-true (ltb 0 (at ws i)) (not (p i) && q i) e in
+        let o : not (p i) ≡ true = left-true (not (p i)) (q i) (right-true (ltb 0 (at ws i)) (not (p i) && q i) e) in
         omega (arith, hp .less i (and-true (ltb 0 (at ws i)) (not (p i)) t o))
 
     more-enough : (i : ℕ) → more p q ws i ≡ true → weightsBeside ws q * at cs i ≤ leftBy total ws cs q * at ws i
     unfolding more
     more-enough i e =
-        let t : ltb 0 (at ws i) ≡ true = and-left (ltb 0 (at ws i)) (not (p i) && q i) e in
-        let o : q i ≡ true = and-right (not (p i)) (q i) (and-right (ltb 0 (at ws i)) (not (p i) && q i) e) in
+        let t : ltb 0 (at ws i) ≡ true = left-true (ltb 0 (at ws i)) (not (p i) && q i) e in
+        let o : q i ≡ true = right-true (not (p i)) (q i) (right-true (ltb 0 (at ws i)) (not (p i) && q i) e) in
         omega (arith, hq .enough i (and-true (ltb 0 (at ws i)) (q i) t o))
 
     left-more : leftBy total ws cs p ≡ leftBy total ws cs q + sumWhere (length ws) (more p q ws) (at cs)
@@ -151,7 +152,7 @@ module _ (total : ℕ) (ws cs : List ℕ) where
   rate-inside p q hp hq some rate i e =
       ⊎-elim (λ (f : q i ≡ true). f)
       (λ (f : q i ≡ false).
-      let up : 0 < at ws i = ltb-true 0 (at ws i) (and-left (ltb 0 (at ws i)) (p i) e) in
+      let up : 0 < at ws i = ltb-true 0 (at ws i) (left-true (ltb 0 (at ws i)) (p i) e) in
       absurd (omega (
         arith,
         mul-le-mul-right (weightsBeside ws q) (hp .enough i e),
@@ -182,7 +183,7 @@ module _ (total : ℕ) (ws cs : List ℕ) where
       (eq-zero-or-pos (weightsBeside ws p))
     where
       payer : (k : ℕ) (t : Bool) → ltb 0 (at ws k) && t ≡ true → 0 < at ws k
-      payer k t e = ltb-true 0 (at ws k) (and-left (ltb 0 (at ws k)) t e)
+      payer k t e = ltb-true 0 (at ws k) (left-true (ltb 0 (at ws k)) t e)
 
   -- the payers that have closed in the end, with money and weight as their set leaves them
   abbrev end : Standing
@@ -219,7 +220,7 @@ module _ (total : ℕ) (ws cs : List ℕ) where
   final-capped =
       record {
         less = λ i e. rw (closers-left, closers-beside)
-            (open-owe total ws cs i (beside-open i e) (ltb-true 0 (at ws i) (and-left (ltb 0 (at ws i)) (not (closers i)) e)));
+            (open-owe total ws cs i (beside-open i e) (ltb-true 0 (at ws i) (left-true (ltb 0 (at ws i)) (not (closers i)) e)));
         enough = λ i e. rw (closers-left, closers-beside) (capped-owe total ws cs i (marked-up (end .marks) i (in-set-is (at ws i) (closers i) e)));
         all = λ none. omega (arith, sound-caps total ws cs end (final-sound total ws cs));
       }

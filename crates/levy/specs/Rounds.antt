@@ -1,6 +1,6 @@
 -- Rounds (01, Rounds; Articles 31, 32): a total is shared over weights ws under caps cs; both are columns of one length.
 -- Nothing here knows of kinds, tariffs or regions. Assumes nothing.
-use Prim.Native.Nat.{ℕ, zero, suc, _+_, _-_, _*_}
+use Prim.Native.Nat.{ℕ, zero, suc, _-_, _*_}
 use mathlib.Core.Bool.{Bool, cond, _&&_}
 use mathlib.Core.List.{List}
 use lib.Dec.{leb, ltb, eqb}

@@ -1,8 +1,8 @@
 -- What a worked case shows: rounds and shortfall on one line, payments on the next. Assumes nothing.
-use Prim.Native.Nat.{ℕ, _≤_, _<_}
+use Prim.Native.Nat.{ℕ, _<_}
 use mathlib.Core.Path.{_≡_}
 use mathlib.Core.List.{List, [], _∷_}
-use lib.ListN.{length, take}
+use lib.ListN.{length}
 use Rattle.levy.specs.Rounds.{final, payments, shortfall}
 use Rattle.levy.specs.Asked.{Columns}
 

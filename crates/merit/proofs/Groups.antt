@@ -26,10 +26,10 @@ use Rattle.columns.specs.Table.{at, Below}
 use Rattle.columns.proofs.Sum.{lt-or-le, sum-same, sum-add, sum-le, sum-zero}
 use Rattle.columns.proofs.Table.{table-length, table-at, table-past}
 use Rattle.share.specs.Share.{whole}
+use Rattle.share.proofs.Laws.{whole-table}
 use Rattle.merit.specs.Band.{Tier, one, two, Bands, widths, rows, orderAt}
 use Rattle.merit.specs.Call.{cheaperIn, cheaper, group}
 use Rattle.merit.specs.Walk.{tierOf}
-use Rattle.merit.proofs.Steps.{whole-table}
 
 -- what is before the next number is before this one, or is this one
 pub cond-next : (o k w : ℕ) → cond (ltb o (suc k)) w 0 ≡ cond (ltb o k) w 0 + cond (eqb o k) w 0

@@ -34,13 +34,13 @@ use Rattle.columns.proofs.Sum.{lt-or-le, sum-same, sum-add, sum-zero, term-le, 
 use Rattle.columns.proofs.Table.{table-length, table-at, table-past}
 use Rattle.columns.proofs.Rank.{test-or}
 use Rattle.share.specs.Share.{whole, share, shares}
-use Rattle.share.proofs.Laws.{share-zero, share-le-amount, share-le-weight, share-is-weight, shares-sum, shares-at, shares-length}
+use Rattle.share.proofs.Laws.{share-zero, share-le-amount, share-le-weight, share-is-weight, shares-sum, shares-at, shares-length, whole-table}
 use Rattle.files.specs.declared.Row.{Row}
 use Rattle.merit.specs.Band.{Tier, one, two, Bands, width1, width2, widths, bids, rows, orderAt}
 use Rattle.merit.specs.Call.{cheaper, group, due, called, calls, uncovered}
 use Rattle.merit.specs.Price.{price}
 use Rattle.merit.specs.Ready.{Called}
-use Rattle.merit.proofs.Steps.{whole-table, width1-none, width1-is, width2-none, width2-is}
+use Rattle.merit.proofs.Steps.{width1-none, width1-is, width2-none, width2-is}
 use Rattle.merit.proofs.Groups.{cond-next, cond-le, group-length, group-past, group-le, group-here, group-not, groups-apart, groups-sum, cheaper-next, cheaper-tier, cheaper-rise, cheaper-zero, cheaper-all}
 
 -- shares of no more than the weights' sum add up to the amount

@@ -1,6 +1,5 @@
 -- The next order: how far the walk may go on, and that it leaves out no band with a width.
 --     next-from     the next order from k on is not before k
---     next-within   it is at most `past`
 --     next-empty    no band with a width has an order from k on and before it
 --     next-less     so the walk ends
 -- Assumes nothing.
@@ -66,15 +65,6 @@ module _ (b : Bands) (k : ℕ) where
   next-from h =
       in-from two k (nextIn one k past (b .widths1) (b .bids1) (rows b)) (b .widths2) (b .bids2)
       (in-from one k past (b .widths1) (b .bids1) h (rows b)) (rows b)
-
-  pub next-within : nextOrder b k ≤ past
-  unfolding nextOrder
-  next-within =
-      omega (
-        arith,
-        in-le two k (nextIn one k past (b .widths1) (b .bids1) (rows b)) (b .widths2) (b .bids2) (rows b),
-        in-le one k past (b .widths1) (b .bids1) (rows b),
-      )
 
   pub next-empty : (t : Tier) → Empty b t k (nextOrder b k)
   unfolding nextOrder

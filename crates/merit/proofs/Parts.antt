@@ -12,12 +12,11 @@ use Rattle.columns.proofs.Sum.{sum-bound}
 use Rattle.columns.proofs.Table.{table-length, front-long}
 use Rattle.share.specs.Share.{whole, shares}
 use Rattle.share.specs.Split.{Splittable}
-use Rattle.share.proofs.Laws.{shares-are-weights}
+use Rattle.share.proofs.Laws.{shares-are-weights, whole-table}
 use Rattle.merit.specs.Band.{Tier, one, two, orderOf}
 use Rattle.merit.specs.Call.{group}
 use Rattle.merit.specs.Ready.{bandsIn, ReadyIn, Columns, Ready}
 use Rattle.merit.specs.Walk.{Room, Blank, uncalled, memberIn, groupIn, partsIn, parts}
-use Rattle.merit.proofs.Steps.{whole-table}
 use Rattle.merit.proofs.Groups.{cond-le}
 
 module _ (left sum : ℕ) (g out : List ℕ) (first : ℕ) (is : sum ≡ whole g) where

@@ -11,12 +11,13 @@ use lib.ListN.{length, set}
 use borrow.Author.Tests.{lt-ltb, le-ltb, eq-eqb, ne-eqb}
 use Rattle.columns.specs.Sum.{sumTo, maxTo}
 use Rattle.columns.specs.Table.{at, table}
-use Rattle.columns.proofs.Sum.{sum-same, sum-next, max-next}
-use Rattle.columns.proofs.Table.{table-length, table-at, table-list}
+use Rattle.columns.proofs.Sum.{sum-next, max-next}
+use Rattle.columns.proofs.Table.{table-list}
 use Rattle.columns.proofs.Fill.{Reached, reached-next, reached-all}
 use Rattle.units.specs.Load.{forty, half}
 use Rattle.files.specs.declared.Row.{Row}
 use Rattle.share.specs.Share.{whole}
+use Rattle.share.proofs.Laws.{whole-table}
 use Rattle.merit.specs.Band.{Tier, one, two, width1, width2, orderOf}
 use Rattle.merit.specs.Price.{price}
 use Rattle.merit.specs.Ready.{bandsIn, ReadyIn}
@@ -134,12 +135,6 @@ highest-more bs cs i top r e f = rw (f, e) (sym (max-next i (λ j. cond (ltb 0 (
 pub highest-all : (bs cs : List ℕ) (i top : ℕ) → top ≡ highest bs cs i → i ≤ length bs → length bs ≤ i → top ≡ price bs cs
 unfolding highest price
 highest-all bs cs i top e l m = let s : i ≡ length bs = omega arith in rw (← s) e
-
--- the sum of a table
-pub whole-table : (n : ℕ) (f : ℕ → ℕ) → whole (table n f) ≡ sumTo n f
-unfolding whole
-whole-table n f =
-    ap (λ (m : ℕ). sumTo m (at (table n f))) (table-length n f) ∙ sum-same n (at (table n f)) f (λ i l. table-at 0 n f i l)
 
 pub more-here1 : (k i x : ℕ) (c : List ℕ) → k % 2 ≡ 0 → set c i (at c i + x) ≡ more one k i x c
 unfolding more

@@ -2,11 +2,10 @@
 --   bands-ready     they are such as the walk asks for
 --   bands-cleared   what the market made of them is what the definition says
 -- Assumes nothing.
-use Prim.Native.Nat.{ℕ, _≤_, _<_}
+use Prim.Native.Nat.{ℕ, _<_}
 use mathlib.Core.Path.{_≡_, sym, _∙_}
 use mathlib.Core.Bool.{true, false}
 use mathlib.Core.List.{List}
-use native.Mathlib.Omega.{arith}
 use lib.ListN.{length}
 use Rattle.columns.specs.Table.{table}
 use Rattle.files.specs.Counting.{countingRow}

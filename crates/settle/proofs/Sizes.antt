@@ -12,13 +12,13 @@
 --   head-fits, line-fits             so the statement's head and lines fit their fields
 --   accepted-rows-ranged, accepted-sized, accepted-head-fits, accepted-line-fits     the same of an accepted pair of files
 -- Assumes nothing.
-use Prim.Native.Nat.{ℕ, _+_, _*_, _≤_, _<_}
+use Prim.Native.Nat.{ℕ, _+_, _≤_, _<_}
 use mathlib.Core.Path.{_≡_, refl, sym, _∙_}
 use mathlib.Core.List.{List}
 use native.Mathlib.Omega.{arith}
 use lib.Dec.{ltb}
 use lib.ListN.{length}
-use Rattle.columns.specs.Table.{at, table}
+use Rattle.columns.specs.Table.{at}
 use Rattle.columns.proofs.Sum.{count-le}
 use Rattle.columns.proofs.Table.{table-length, table-most}
 use Rattle.columns.proofs.Reading.{number-bound}

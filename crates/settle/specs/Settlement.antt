@@ -7,7 +7,7 @@ use Rattle.units.specs.Load.{half}
 use Rattle.share.specs.Share.{whole}
 use Rattle.files.specs.declared.Head.{Head}
 use Rattle.files.specs.declared.Row.{Row}
-use Rattle.merit.specs.Band.{Tier, one, two, Bands, bandsOf}
+use Rattle.merit.specs.Band.{one, two, bandsOf}
 use Rattle.merit.specs.Call.{calls, uncovered}
 use Rattle.merit.specs.Price.{price}
 use Rattle.pay.specs.Pay.{compensation}

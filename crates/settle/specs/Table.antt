@@ -6,11 +6,10 @@ use mathlib.Core.Bool.{Bool, true, false, _&&_}
 use mathlib.Core.List.{List, [], _∷_, _++_}
 use lib.Dec.{eqb}
 use lib.ListN.{replicate}
-use Rattle.columns.specs.Table.{at}
 use Rattle.units.specs.Measure.{toFen, thermalCap}
 use Rattle.units.specs.Load.{half}
 use Rattle.share.specs.Share.{shares}
-use Rattle.merit.specs.Band.{Tier, one, Bands}
+use Rattle.merit.specs.Band.{one, Bands}
 use Rattle.merit.specs.Call.{calls}
 use Rattle.levy.specs.Weight.{thermalWeight}
 use Rattle.statement.specs.Statement.{lineStart, statementHeadAt, lineAt}

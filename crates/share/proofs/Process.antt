@@ -17,6 +17,7 @@ use lib.Seq.{getD-set-same, getD-set-other}
 use borrow.Author.Tests.{lt-ltb, le-ltb, eq-eqb, ne-eqb, eqb-true, eqb-false}
 use Rattle.columns.specs.Sum.{bit, countTo}
 use Rattle.columns.specs.Table.{at, table, Below}
+use Rattle.columns.proofs.First.{and-false}
 use Rattle.columns.proofs.Sum.{lt-or-le, count-none, count-some, count-zero}
 use Rattle.columns.proofs.Table.{table-length, table-at, table-is, table-same}
 use Rattle.columns.proofs.Rank.{test-or, ltb-same, find-is, find-passes, rank-order, rank-apart, rank-some}
@@ -29,10 +30,6 @@ use Rattle.share.proofs.Laws.{share-none}
 not-and : (b : Bool) → not b && b ≡ false
 not-and true = refl
 not-and false = refl
-
-and-false : (b : Bool) → b && false ≡ false
-and-false true = refl
-and-false false = refl
 
 both : (s t : Bool) → not s && t ≡ true → (s ≡ false) × (t ≡ true)
 both true t e = absurd (subst T (sym e) tt)

@@ -1,6 +1,5 @@
 -- `columns::put_fields` meets its contract: the fields from i on are still owed, from `end` on. Assumes nothing.
-use Prim.Native.Nat.{_+_, _-_, _≤_}
-use native.Mathlib.Omega.{arith}
+use Prim.Native.Nat.{_-_}
 use borrow.Author.Needs.{needs}
 use lib.ListN.{length}
 use Rattle.columns.proofs.Fields.{Owed, owed-none, owed-room, owed-next, owed-all}
