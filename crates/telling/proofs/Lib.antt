@@ -1,3 +1,4 @@
 pub mod Texts
 pub mod Spelled
 pub mod Size
+pub mod Printed
