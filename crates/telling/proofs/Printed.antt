@@ -5,9 +5,7 @@
 --   refusal-placed                  the word, the number and the place are the refusal's text
 --   told-settled, told-refused      what the engine answers decides which of the two `tell` prints
 --   settled-placed, refused-placed  the same of what it answered, and of the buffer that it was lent
---   told-front                      the front of the buffer is what `tell` prints
 --   told-rows                       a settlement has as many lines of text behind the head's as that one's last number says
---   told-refusal                    a refusal, letter by letter
 -- Assumes nothing.
 use mathlib.Core.Path.{_≡_, refl, sym, ap, _∙_}
 use mathlib.Core.List.{List, [], _∷_, _++_}
@@ -26,8 +24,8 @@ use Rattle.settle.specs.declared.Answer.the-variants.{Settled, Refused}
 use Rattle.settle.specs.Statement.{statementHead}
 use Rattle.settle.proofs.Demand1.{settled-accepted, accepted-settled, settled-first, settled-buffer, settled-front, settled-count}
 use Rattle.settle.proofs.Demand2.{statement-read-head}
-use Rattle.telling.specs.Text.{decimalIn, decimal, headFields, lineFields, lineText, linesTo, linesIn, statementText, refusedWord, refusedText, toldText, tellText, Placed}
-use Rattle.telling.proofs.Texts.{placed-none, placed-after, placed-front}
+use Rattle.telling.specs.Text.{decimal, headFields, lineFields, lineText, linesTo, linesIn, statementText, refusedWord, refusedText, toldText, tellText, Placed}
+use Rattle.telling.proofs.Texts.{placed-none, placed-after}
 
 pub head-placed : (l l′ fields b : List ℕ) (from end : ℕ) (h : StatementHead) → h ≡ statementHeadAt b → fields ≡ headFields h
     → Placed l l′ from (lineText fields) end 189 → Placed l l′ from (lineText (headFields (statementHeadAt b))) end 189
@@ -98,9 +96,6 @@ module _ (s out : List ℕ) (a : Answer) (room : length out ≡ 8739) (e : a ≡
       let h : answerOf s [] (length out) ≡ Refused number place = sym e ∙ f in
       rw (told-refused s number place (rw room at h)) (record { bytes = p .bytes; end-is = p .end-is; fits = omega (arith, p .fits) })
 
-pub told-front : (l l′ s : List ℕ) (end : ℕ) → Placed l l′ 0 (tellText s) end 48573 → take end l′ ≡ tellText s
-told-front l l′ s end p = placed-front l l′ (tellText s) end 48573 p
-
 pub told-rows : (s k : List ℕ) (room : ℕ) → numberOf (answerOf s k room) ≡ 0
     → linesIn (statementOf s k) ≡ statementHeadAt (statementOf s k) .rows
 unfolding statementHead
@@ -111,7 +106,3 @@ told-rows s k room h =
     let same : bufferAfter s k b ≡ b = settled-buffer s k b again ∙ put-whole b b refl in
     let read = ap (λ (x : StatementHead). x .rows) (statement-read-head s k b again) in
     omega (arith, settled-count s k, rw same at read)
-
-pub told-refusal : refusedText 5 2 ≡ 114 ∷ 101 ∷ 102 ∷ 117 ∷ 115 ∷ 101 ∷ 100 ∷ 32 ∷ 53 ∷ 32 ∷ 50 ∷ 10 ∷ []
-unfolding refusedText decimalIn
-told-refusal = refl

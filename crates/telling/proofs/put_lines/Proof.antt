@@ -1,8 +1,7 @@
 -- `telling::put_lines` meets its contract. Assumes nothing.
-use mathlib.Core.Path.{_≡_, _∙_}
+use mathlib.Core.Path.{_≡_}
 use Prim.Native.Nat.{_*_, _-_, _≤_}
 use lib.ListN.{length}
-use native.Mathlib.Omega.{arith}
 use borrow.Author.Needs.{needs}
 use Rattle.telling.specs.Text.{linesTo, Placed}
 use Rattle.telling.proofs.Printed.{no-lines, lines-more, lines-all}

@@ -2,7 +2,7 @@
 use mathlib.Core.Path.{sym}
 use native.Mathlib.Omega.{arith}
 use lib.Seq.{length-take-le}
-use Rattle.telling.proofs.Printed.{told-front}
+use Rattle.telling.proofs.Texts.{placed-front}
 use borrow.Author.Needs.{needs}
 use Rattle.telling.proofs.tell.Statement.{statement}
 use Rattle.telling.proofs.tell.Tie as tie
@@ -43,7 +43,7 @@ slice-aggregate-print-2 c =
     sym (length-take-le (call .result) (call .last .1 .1 .0) (omega (arith, call .ensures .0 .fits, call .kept .1 .1 .0)))
 
 print-requires : tie.Need-print-requires
-print-requires c κs = search told-front
+print-requires c κs = search placed-front
 
 returns : tie.Need-returns
 returns c = search needs
