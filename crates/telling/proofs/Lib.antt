@@ -1,2 +1,5 @@
+pub mod Texts
 pub mod Spelled
 pub mod Size
+pub mod Printed
+pub mod Shown

@@ -16,10 +16,11 @@ use lib.Dec.{lit<}
 use lib.ListN.{length, getD, take, set, length-append}
 use borrow.Author.Tests.{lt-ltb, le-ltb}
 use Rattle.columns.specs.Buffer.{put}
-use Rattle.columns.proofs.Buffer.{put-length, put-none, put-put, set-put}
+use Rattle.columns.proofs.Buffer.{put-length, put-put, set-put}
 use Rattle.columns.proofs.Sum.{lt-or-le}
 use Rattle.io.specs.Digits.{digits, glyph, Fewest}
 use Rattle.telling.specs.Text.{decimalIn, decimal, endOf, textTo, lineText, Placed}
+use Rattle.telling.proofs.Texts.{placed-none, placed-after}
 
 -- a decimal digit's glyph
 digit : (x : ℕ) → glyph (x % 10) ≡ 48 + x % 10
@@ -80,27 +81,20 @@ number-placed l ds at k x e room h n f d =
 -- no field yet; one field more
 pub no-fields : (l fields : List ℕ) (from : ℕ) → Placed l l from (textTo 0 fields) from 0
 unfolding textTo
-no-fields l fields from = record { bytes = sym (put-none l from); end-is = omega arith; fits = omega arith }
+no-fields l fields from = placed-none l from
 
 pub text-next : (i : ℕ) (fields : List ℕ) → textTo (i + 1) fields ≡ textTo i fields ++ (decimal (getD fields i 0) ++ (endOf i ∷ []))
 unfolding textTo
 text-next i fields = rw add-one
 
-pub fields-more : (l l′ l″ fields : List ℕ) (from at i end e : ℕ) → from + 189 ≤ length l → i < 9
+pub fields-more : (l l′ l″ fields : List ℕ) (from at i end e : ℕ) → from + 189 ≤ length l
     → Placed l l′ from (textTo i fields) at (i * 21) → e ≡ endOf i
     → Placed l′ l″ at (decimal (getD fields i 0) ++ (e ∷ [])) end 21
     → Placed l l″ from (textTo (i + 1) fields) end ((i + 1) * 21)
-fields-more l l′ l″ fields from at i end e room h p q r =
+fields-more l l′ l″ fields from at i end e room p q r =
     let new : List ℕ = decimal (getD fields i 0) ++ (endOf i ∷ []) in
-    let n : textTo (i + 1) fields ≡ textTo i fields ++ new = text-next i fields in
-    let r′ : Placed l′ l″ at new end 21 = rw q at r in
-    rw n (record {
-      bytes =
-          r′ .bytes ∙ ap (λ (t : List ℕ). put t at new) (p .bytes)
-          ∙ put-put l from at (textTo i fields) new (p .end-is) (omega arith);
-      end-is = omega (arith, r′ .end-is, p .end-is, length-append (textTo i fields) new);
-      fits = omega (arith, r′ .fits, p .fits);
-    })
+    rw (text-next i fields)
+    (placed-after l l′ l″ (textTo i fields) new from at end (i * 21) 21 ((i + 1) * 21) (omega arith) (omega arith) p (rw q at r))
 
 -- row 2 of interval X at tariff 1300: "2 0 0 0 0 15000 65000 65000 1" and the line's end
 pub told-line : lineText (2 ∷ 0 ∷ 0 ∷ 0 ∷ 0 ∷ 15000 ∷ 65000 ∷ 65000 ∷ 1 ∷ [])

@@ -1,14 +1,18 @@
--- What `tell` prints of a statement (01, Checked figures): each record's fields in order, without the mark, as decimal text.
--- Assumes nothing.
+-- What `tell` prints (01, Checked figures): of a statement each record's fields in order, without the mark, as decimal text; of a
+-- refusal its number and its place. `tellText` is the whole of it. Assumes nothing.
 use mathlib.Core.Path.{_≡_}
-use Prim.Native.Nat.{ℕ, zero, suc, _+_, _/_, _%_, _≤_}
+use Prim.Native.Nat.{ℕ, zero, suc, _+_, _-_, _/_, _%_, _≤_}
 use mathlib.Core.Bool.{cond}
 use mathlib.Core.List.{List, [], _∷_, _++_}
 use lib.Dec.{ltb, eqb}
 use lib.ListN.{length, getD}
 use Rattle.columns.specs.Buffer.{put}
+use Rattle.statement.specs.Statement.{lineStart, statementHeadAt, lineAt}
 use Rattle.statement.specs.declared.StatementHead.{StatementHead}
 use Rattle.statement.specs.declared.Line.{Line}
+use Rattle.settle.specs.Answer.{statementOf, answerOf}
+use Rattle.settle.specs.declared.Answer.{Answer}
+use Rattle.settle.specs.declared.Answer.the-variants.{Settled, Refused}
 
 -- a number's decimal text in ASCII with no zeros in front, if it has at most so many digits and one more
 unfoldable pub decimalIn : ℕ → ℕ → List ℕ
@@ -40,6 +44,37 @@ textTo (suc i) fields = textTo i fields ++ (decimal (getD fields i 0) ++ (endOf 
 -- a record's line of text
 abbrev pub lineText : List ℕ → List ℕ
 lineText fields = textTo 9 fields
+
+-- the text of the first so many lines of a statement's bytes
+unfoldable pub linesTo : ℕ → List ℕ → List ℕ
+linesTo zero b = []
+linesTo (suc i) b = linesTo i b ++ lineText (lineFields (lineAt b (lineStart i)))
+
+-- how many lines a statement's bytes hold behind the head; counted by their length, so that no field of them has to be believed
+-- (`told-rows` of proofs/Printed.antt: where the engine settles, the head's field says the same)
+abbrev pub linesIn : List ℕ → ℕ
+linesIn b = (length b - 35) / 34
+
+-- a statement's text: the head's line, then the lines in order
+unfoldable pub statementText : List ℕ → List ℕ
+statementText b = lineText (headFields (statementHeadAt b)) ++ linesTo (linesIn b) b
+
+-- "refused" and a space
+abbrev pub refusedWord : List ℕ
+refusedWord = 114 ∷ 101 ∷ 102 ∷ 117 ∷ 115 ∷ 101 ∷ 100 ∷ 32 ∷ []
+
+-- a refusal's text: the word, the number, a space, the place, the line's end
+unfoldable pub refusedText : ℕ → ℕ → List ℕ
+refusedText number place = refusedWord ++ (decimal number ++ (32 ∷ [])) ++ (decimal place ++ (10 ∷ []))
+
+-- the text of an engine's answer, where b is the statement's bytes
+unfoldable pub toldText : Answer → List ℕ → List ℕ
+toldText (Settled size) b = statementText b
+toldText (Refused number place) b = refusedText number place
+
+-- what `tell` prints for the interval file s: there is no correction, and room for the statement of 256 rows
+unfoldable pub tellText : List ℕ → List ℕ
+tellText s = toldText (answerOf s [] 8739) (statementOf s [])
 
 -- a text put into a buffer: nothing else changes, the position handed back is the one after it, and it has at most so many bytes
 pub record Placed (before after : List ℕ) (from : ℕ) (text : List ℕ) (end most : ℕ) : Type 0 where

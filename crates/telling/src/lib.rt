@@ -1,55 +1,97 @@
 // What the program `tell` does (01, Checked figures): an interval file from standard input, its statement or its refusal as
-// text on standard output. The engine does the work; this reads, spells numbers and prints.
+// text on standard output. The engine does the work; this reads, makes the whole text in one buffer and writes it.
 use settle::Answer;
 use statement::Line;
 use statement::StatementHead;
 ghost use mathlib.Core.Path.{_≡_};
 ghost use mathlib.Core.List.{[], _∷_, _++_};
-ghost use Prim.Native.Nat.{_+_, _≤_};
+ghost use Prim.Native.Nat.{_+_, _*_, _≤_};
 ghost use lib.ListN.{length};
-ghost use Rattle.telling.specs.Text.{decimal, headFields, lineFields, endOf, lineText, Placed};
+ghost use Rattle.statement.specs.Statement.{lineStart, statementHeadAt, lineAt};
+ghost use Rattle.settle.specs.Answer.{bufferAfter};
+ghost use Rattle.telling.specs.Text.{decimal, headFields, lineFields, endOf, lineText, linesTo, statementText, refusedText, tellText, Placed};
 
 // Reads one byte more than the longest interval file has, so that a longer one is refused and never cut. The statement of
-// 256 rows has room.
+// 256 rows has room, and so has its text: 257 lines of nine numbers, each of at most twenty digits and one byte more.
 pub fn tell() {
     let mut interval = [0u8; 5392];
     let mut statement = [0u8; 8739];
+    let mut text = [0u8; 48573];
     let n = io::read_full(0, &mut interval);
-    print_answer(&interval[..n], &mut statement);
+    let size = told(&interval[..n], &mut statement, &mut text);
+    print(&interval[..n], &text[..size]);
 }
 
-fn print_answer(interval: &[u8], statement: &mut [u8]) {
+// Writes a text that is the interval file's: what it asks of its caller is all that can be said of the bytes written.
+fn print(interval: &[u8], text: &[u8])
+    requires { ⌜ now text ≡ tellText (now interval) ⌝ }
+{
+    io::write_all(1, text);
+}
+
+// All that is to be printed, from the start of a buffer on; hands back how many bytes it is.
+fn told(interval: &[u8], statement: &mut [u8], text: &mut [u8]) -> usize
+    requires { ⌜ (length (now statement) ≡ 8739) × (48573 ≤ length (now text)) ⌝ }
+    ensures { λ r. ⌜ Placed (now (text .entry)) (now (text .exit)) 0 (tellText (now (interval .entry))) r 48573 ⌝ }
+    ensures { λ r. ⌜ now (statement .exit) ≡ bufferAfter (now (interval .entry)) [] (now (statement .entry)) ⌝ }
+{
     let correction: [u8; 0] = [];
     let answer = settle::settle(interval, &correction, statement);
     match answer {
-        Answer::Settled(size) => print_statement(&statement[..size]),
-        Answer::Refused(number, place) => print_refusal(number, place),
+        Answer::Settled(size) => put_statement(text, &statement[..size]),
+        Answer::Refused(number, place) => put_refusal(text, number, place),
     }
 }
 
-fn print_refusal(number: usize, place: usize) {
-    io::write_all(1, b"refused ");
-    io::print_decimal(1, number as u64);
-    io::write_all(1, b" ");
-    io::print_decimal(1, place as u64);
-    io::write_all(1, b"\n");
-}
-
-fn print_statement(statement: &[u8])
-    requires { ⌜ 35 ≤ length (now statement) ⌝ }
+// A refusal's one line: each number has at most twenty digits and one byte more.
+fn put_refusal(text: &mut [u8], number: usize, place: usize) -> usize
+    requires { ⌜ 50 ≤ length (now text) ⌝ }
+    ensures { λ r. ⌜ Placed (now (text .entry)) (now (text .exit)) 0 (refusedText number place) r 50 ⌝ }
 {
-    print_fields(head_fields(statement::statement_head_at(statement)));
-    let mut at = 35;
-    while at + 34 <= statement.len() {
-        print_fields(line_fields(statement::line_at(statement, at)));
-        at += 34;
-    }
+    columns::put_bytes(text, 0, b"refused ");
+    let at = put_number(text, 8, number as u64, b' ');
+    put_number(text, at, place as u64, b'\n')
 }
 
-fn print_fields(fields: [u64; 9]) {
-    let mut text = [0u8; 189];
-    let n = put_fields(&mut text, 0, &fields);
-    io::write_all(1, &text[..n]);
+// A statement's text. The lines are counted by the bytes that are there: no field of them has to be right for this to be safe.
+fn put_statement(text: &mut [u8], statement: &[u8]) -> usize
+    requires { ⌜ (35 ≤ length (now statement)) × (length (now statement) ≤ 8739) × (48573 ≤ length (now text)) ⌝ }
+    ensures { λ r. ⌜ Placed (now (text .entry)) (now (text .exit)) 0 (statementText (now (statement .entry))) r 48573 ⌝ }
+{
+    let at = put_head(text, statement);
+    put_lines(text, at, statement, (statement.len() - 35) / 34)
+}
+
+// The first n lines of a statement, from a position on.
+fn put_lines(text: &mut [u8], from: usize, statement: &[u8], n: usize) -> usize
+    requires { ⌜ (lineStart n ≤ length (now statement)) × (from + n * 189 ≤ length (now text)) ⌝ }
+    ensures { λ r. ⌜ Placed (now (text .entry)) (now (text .exit)) from (linesTo n (now (statement .entry))) r (n * 189) ⌝ }
+{
+    let mut at = from;
+    let mut i = 0;
+    while i < n {
+        at = put_line(text, at, statement, i);
+        i += 1;
+    }
+    at
+}
+
+// A statement's head, from the buffer's start on.
+fn put_head(text: &mut [u8], statement: &[u8]) -> usize
+    requires { ⌜ (35 ≤ length (now statement)) × (189 ≤ length (now text)) ⌝ }
+    ensures { λ r. ⌜ Placed (now (text .entry)) (now (text .exit)) 0 (lineText (headFields (statementHeadAt (now (statement .entry))))) r 189 ⌝ }
+{
+    let fields = head_fields(statement::statement_head_at(statement));
+    put_fields(text, 0, &fields)
+}
+
+// Line i of a statement, from a position on.
+fn put_line(text: &mut [u8], from: usize, statement: &[u8], i: usize) -> usize
+    requires { ⌜ (lineStart i + 34 ≤ length (now statement)) × (from + 189 ≤ length (now text)) ⌝ }
+    ensures { λ r. ⌜ Placed (now (text .entry)) (now (text .exit)) from (lineText (lineFields (lineAt (now (statement .entry)) (lineStart i)))) r 189 ⌝ }
+{
+    let fields = line_fields(statement::line_at(statement, 35 + i * 34));
+    put_fields(text, from, &fields)
 }
 
 // A head's fields in record order, as plain numbers.

@@ -44,7 +44,7 @@ loop-again c =
     let call = c .before .before .put-number in (
       omega arith,
       call .kept .0 ∙ l .inv .1,
-      fields-more _ _ _ _ _ _ _ _ _ (c .before .before .before .before .before .before .before .before .before .pre .1) (omega arith) (l .inv .2) (c .before .before .before .end-of .ensures) (call .ensures),
+      fields-more _ _ _ _ _ _ _ _ _ (c .before .before .before .before .before .before .before .before .before .pre .1) (l .inv .2) (c .before .before .before .end-of .ensures) (call .ensures),
     )
 
 same-length : tie.Need-same-length Inv-loop μ-loop

@@ -1,0 +1,89 @@
+-- `telling::told` meets its contract. Assumes nothing.
+use mathlib.Core.Path.{sym}
+use mathlib.Core.List.{List}
+use Prim.Native.Nat.{ℕ, _≤_}
+use native.Mathlib.Omega.{arith}
+use lib.ListN.{length}
+use lib.Seq.{length-take-le}
+use Rattle.telling.proofs.Size.{settled-size}
+use Rattle.telling.proofs.Printed.{settled-placed, refused-placed}
+use borrow.Author.Needs.{needs}
+use Rattle.telling.proofs.told.Statement.{statement}
+use Rattle.telling.proofs.told.Tie as tie
+
+-- where the answer is a settlement: its size, and what the engine left in the buffer
+abbrev size : tie.After-answer → ℕ
+size a = a .answer .given .0 .0
+
+abbrev left : tie.After-answer → List ℕ
+left a = a .before .before .before .before .settle .last .1 .1 .0
+
+held : (a : tie.After-answer) → (35 ≤ size a) × (size a ≤ length (left a)) × (size a ≤ 8739)
+held a =
+    let call = a .before .before .before .before .settle in
+    let fits = settled-size _ _ _ (size a) _ (call .ensures .0) (a .answer .given .1) in
+    (fits .0, omega (arith, fits .1, call .kept .1 .1 .0), omega (arith, fits .1, a .before .before .before .before .before .before .before .before .before .before .pre .0))
+
+slice-aggregate-settle : tie.Need-slice-aggregate-settle
+slice-aggregate-settle c = search needs
+
+settle-requires : tie.Need-settle-requires
+settle-requires c κs = search needs
+
+enum-known-answer : tie.Need-enum-known-answer
+enum-known-answer c = search needs
+
+slice-reshare-prefix-put-statement : tie.Need-slice-reshare-prefix-put-statement
+slice-reshare-prefix-put-statement c = held (c .before .before) .1
+
+slice-aggregate-put-statement : tie.Need-slice-aggregate-put-statement
+slice-aggregate-put-statement c = sym (length-take-le _ _ (held (c .before .before .before) .1))
+
+put-statement-requires : tie.Need-put-statement-requires
+put-statement-requires c κs =
+    let a = c .before .before .before in
+    let n = length-take-le (size a) (left a) (held a .1) in
+    (omega (arith, n, held a .0), omega (arith, n, held a .2), search needs)
+
+enum-known-answer-2 : tie.Need-enum-known-answer-2
+enum-known-answer-2 c = search needs
+
+put-refusal-requires : tie.Need-put-refusal-requires
+put-refusal-requires c κs = search needs
+
+same-length : tie.Need-same-length
+same-length c = search needs
+
+same-length-2 : tie.Need-same-length-2
+same-length-2 c = search needs
+
+returns : tie.Need-returns
+returns c = (search settled-placed, search needs)
+
+same-length-3 : tie.Need-same-length-3
+same-length-3 c = search needs
+
+same-length-4 : tie.Need-same-length-4
+same-length-4 c = search needs
+
+returns-2 : tie.Need-returns-2
+returns-2 c = (search refused-placed, search needs)
+
+pub told-spec : {M : Type 1} → statement M
+told-spec =
+    tie.close
+    (tie.spec
+    slice-aggregate-settle
+    settle-requires
+    enum-known-answer
+    slice-reshare-prefix-put-statement
+    slice-aggregate-put-statement
+    put-statement-requires
+    enum-known-answer-2
+    put-refusal-requires
+    same-length
+    same-length-2
+    returns
+    same-length-3
+    same-length-4
+    returns-2)
