@@ -1,6 +1,6 @@
 -- What `tell` prints, piece by piece, as the code asks for it.
 --   head-placed, line-placed        a record's fields make its line of text
---   no-lines, lines-more, lines-all the start, a turn and the end of `put_lines`
+--   no-lines, lines-more, lines-all the start, a turn and the end of `tell_lines`
 --   statement-placed                the head's line and the lines are the statement's text
 --   refusal-placed                  the word, the number and the place are the refusal's text
 --   told-settled, told-refused      what the engine answers decides which of the two `tell` prints

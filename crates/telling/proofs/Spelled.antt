@@ -1,11 +1,10 @@
 -- Numbers and fields as text in a buffer.
 --   spelled          the fewest digits that hold a number are its decimal text
 --   few-digits       a number of eight bytes has at most twenty
---   number-placed    the digits, then what stands after them: `put_number`
---   no-fields, fields-more   the start and a turn of `put_fields`
---   told-line        a line of interval X, letter by letter
+--   number-placed    the digits, then what stands after them: `tell_number`
+--   no-fields, fields-more   the start and a turn of `tell_fields`
 -- Assumes nothing.
-use mathlib.Core.Path.{_≡_, refl, sym, ap, _∙_}
+use mathlib.Core.Path.{_≡_, sym, ap, _∙_}
 use mathlib.Core.Logic.{_⊎_, ⊎-elim}
 use mathlib.Core.List.{List, [], _∷_, _++_}
 use Prim.Native.Nat.{ℕ, zero, suc, _+_, _-_, _*_, _/_, _%_, _^_, _≤_, _<_}
@@ -19,7 +18,7 @@ use Rattle.columns.specs.Buffer.{put}
 use Rattle.columns.proofs.Buffer.{put-length, put-put, set-put}
 use Rattle.columns.proofs.Sum.{lt-or-le}
 use Rattle.io.specs.Digits.{digits, glyph, Fewest}
-use Rattle.telling.specs.Text.{decimalIn, decimal, endOf, textTo, lineText, Placed}
+use Rattle.telling.specs.Text.{decimalIn, decimal, endOf, textTo, Placed}
 use Rattle.telling.proofs.Texts.{placed-none, placed-after}
 
 -- a decimal digit's glyph
@@ -95,9 +94,3 @@ fields-more l l′ l″ fields from at i end e room p q r =
     let new : List ℕ = decimal (getD fields i 0) ++ (endOf i ∷ []) in
     rw (text-next i fields)
     (placed-after l l′ l″ (textTo i fields) new from at end (i * 21) 21 ((i + 1) * 21) (omega arith) (omega arith) p (rw q at r))
-
--- row 2 of interval X at tariff 1300: "2 0 0 0 0 15000 65000 65000 1" and the line's end
-pub told-line : lineText (2 ∷ 0 ∷ 0 ∷ 0 ∷ 0 ∷ 15000 ∷ 65000 ∷ 65000 ∷ 1 ∷ [])
-    ≡ 50 ∷ 32 ∷ 48 ∷ 32 ∷ 48 ∷ 32 ∷ 48 ∷ 32 ∷ 48 ∷ 32 ∷ 49 ∷ 53 ∷ 48 ∷ 48 ∷ 48 ∷ 32 ∷ 54 ∷ 53 ∷ 48 ∷ 48 ∷ 48 ∷ 32 ∷ 54 ∷ 53 ∷ 48 ∷ 48 ∷ 48 ∷ 32 ∷ 49 ∷ 10 ∷ []
-unfolding textTo decimalIn
-told-line = refl

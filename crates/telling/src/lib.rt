@@ -38,60 +38,60 @@ fn told(interval: &[u8], statement: &mut [u8], text: &mut [u8]) -> usize
     let correction: [u8; 0] = [];
     let answer = settle::settle(interval, &correction, statement);
     match answer {
-        Answer::Settled(size) => put_statement(text, &statement[..size]),
-        Answer::Refused(number, place) => put_refusal(text, number, place),
+        Answer::Settled(size) => tell_statement(text, &statement[..size]),
+        Answer::Refused(number, place) => tell_refusal(text, number, place),
     }
 }
 
 // A refusal's one line: each number has at most twenty digits and one byte more.
-fn put_refusal(text: &mut [u8], number: usize, place: usize) -> usize
+fn tell_refusal(text: &mut [u8], number: usize, place: usize) -> usize
     requires { ⌜ 50 ≤ length (now text) ⌝ }
     ensures { λ r. ⌜ Placed (now (text .entry)) (now (text .exit)) 0 (refusedText number place) r 50 ⌝ }
 {
     columns::put_bytes(text, 0, b"refused ");
-    let at = put_number(text, 8, number as u64, b' ');
-    put_number(text, at, place as u64, b'\n')
+    let at = tell_number(text, 8, number as u64, b' ');
+    tell_number(text, at, place as u64, b'\n')
 }
 
 // A statement's text. The lines are counted by the bytes that are there: no field of them has to be right for this to be safe.
-fn put_statement(text: &mut [u8], statement: &[u8]) -> usize
+fn tell_statement(text: &mut [u8], statement: &[u8]) -> usize
     requires { ⌜ (35 ≤ length (now statement)) × (length (now statement) ≤ 8739) × (48573 ≤ length (now text)) ⌝ }
     ensures { λ r. ⌜ Placed (now (text .entry)) (now (text .exit)) 0 (statementText (now (statement .entry))) r 48573 ⌝ }
 {
-    let at = put_head(text, statement);
-    put_lines(text, at, statement, (statement.len() - 35) / 34)
+    let at = tell_head(text, statement);
+    tell_lines(text, at, statement, (statement.len() - 35) / 34)
 }
 
 // The first n lines of a statement, from a position on.
-fn put_lines(text: &mut [u8], from: usize, statement: &[u8], n: usize) -> usize
+fn tell_lines(text: &mut [u8], from: usize, statement: &[u8], n: usize) -> usize
     requires { ⌜ (lineStart n ≤ length (now statement)) × (from + n * 189 ≤ length (now text)) ⌝ }
     ensures { λ r. ⌜ Placed (now (text .entry)) (now (text .exit)) from (linesTo n (now (statement .entry))) r (n * 189) ⌝ }
 {
     let mut at = from;
     let mut i = 0;
     while i < n {
-        at = put_line(text, at, statement, i);
+        at = tell_line(text, at, statement, i);
         i += 1;
     }
     at
 }
 
 // A statement's head, from the buffer's start on.
-fn put_head(text: &mut [u8], statement: &[u8]) -> usize
+fn tell_head(text: &mut [u8], statement: &[u8]) -> usize
     requires { ⌜ (35 ≤ length (now statement)) × (189 ≤ length (now text)) ⌝ }
     ensures { λ r. ⌜ Placed (now (text .entry)) (now (text .exit)) 0 (lineText (headFields (statementHeadAt (now (statement .entry))))) r 189 ⌝ }
 {
     let fields = head_fields(statement::statement_head_at(statement));
-    put_fields(text, 0, &fields)
+    tell_fields(text, 0, &fields)
 }
 
 // Line i of a statement, from a position on.
-fn put_line(text: &mut [u8], from: usize, statement: &[u8], i: usize) -> usize
+fn tell_line(text: &mut [u8], from: usize, statement: &[u8], i: usize) -> usize
     requires { ⌜ (lineStart i + 34 ≤ length (now statement)) × (from + 189 ≤ length (now text)) ⌝ }
     ensures { λ r. ⌜ Placed (now (text .entry)) (now (text .exit)) from (lineText (lineFields (lineAt (now (statement .entry)) (lineStart i)))) r 189 ⌝ }
 {
     let fields = line_fields(statement::line_at(statement, 35 + i * 34));
-    put_fields(text, from, &fields)
+    tell_fields(text, from, &fields)
 }
 
 // A head's fields in record order, as plain numbers.
@@ -129,14 +129,14 @@ fn line_fields(l: Line) -> [u64; 9]
 }
 
 // The text of nine fields, from a position on; hands back the position after it.
-fn put_fields(text: &mut [u8], from: usize, fields: &[u64; 9]) -> usize
+fn tell_fields(text: &mut [u8], from: usize, fields: &[u64; 9]) -> usize
     requires { ⌜ (length (now fields) ≡ 9) × (from + 189 ≤ length (now text)) ⌝ }
     ensures { λ r. ⌜ Placed (now (text .entry)) (now (text .exit)) from (lineText (now (fields .entry))) r 189 ⌝ }
 {
     let mut at = from;
     let mut i = 0;
     while i < 9 {
-        at = put_number(text, at, fields[i], end_of(i));
+        at = tell_number(text, at, fields[i], end_of(i));
         i += 1;
     }
     at
@@ -150,7 +150,7 @@ fn end_of(i: usize) -> u8
 }
 
 // A number in decimal and what stands after it, from a position on; hands back the position after both.
-fn put_number(text: &mut [u8], at: usize, x: u64, end: u8) -> usize
+fn tell_number(text: &mut [u8], at: usize, x: u64, end: u8) -> usize
     requires { ⌜ at + 21 ≤ length (now text) ⌝ }
     ensures { λ r. ⌜ Placed (now (text .entry)) (now (text .exit)) at (decimal x ++ (end ∷ [])) r 21 ⌝ }
 {

@@ -33,14 +33,14 @@ settle-requires c κs = search needs
 enum-known-answer : tie.Need-enum-known-answer
 enum-known-answer c = search needs
 
-slice-reshare-prefix-put-statement : tie.Need-slice-reshare-prefix-put-statement
-slice-reshare-prefix-put-statement c = held (c .before .before) .1
+slice-reshare-prefix-tell-statement : tie.Need-slice-reshare-prefix-tell-statement
+slice-reshare-prefix-tell-statement c = held (c .before .before) .1
 
-slice-aggregate-put-statement : tie.Need-slice-aggregate-put-statement
-slice-aggregate-put-statement c = sym (length-take-le _ _ (held (c .before .before .before) .1))
+slice-aggregate-tell-statement : tie.Need-slice-aggregate-tell-statement
+slice-aggregate-tell-statement c = sym (length-take-le _ _ (held (c .before .before .before) .1))
 
-put-statement-requires : tie.Need-put-statement-requires
-put-statement-requires c κs =
+tell-statement-requires : tie.Need-tell-statement-requires
+tell-statement-requires c κs =
     let a = c .before .before .before in
     let n = length-take-le (size a) (left a) (held a .1) in
     (omega (arith, n, held a .0), omega (arith, n, held a .2), search needs)
@@ -48,8 +48,8 @@ put-statement-requires c κs =
 enum-known-answer-2 : tie.Need-enum-known-answer-2
 enum-known-answer-2 c = search needs
 
-put-refusal-requires : tie.Need-put-refusal-requires
-put-refusal-requires c κs = search needs
+tell-refusal-requires : tie.Need-tell-refusal-requires
+tell-refusal-requires c κs = search needs
 
 same-length : tie.Need-same-length
 same-length c = search needs
@@ -76,11 +76,11 @@ told-spec =
     slice-aggregate-settle
     settle-requires
     enum-known-answer
-    slice-reshare-prefix-put-statement
-    slice-aggregate-put-statement
-    put-statement-requires
+    slice-reshare-prefix-tell-statement
+    slice-aggregate-tell-statement
+    tell-statement-requires
     enum-known-answer-2
-    put-refusal-requires
+    tell-refusal-requires
     same-length
     same-length-2
     returns

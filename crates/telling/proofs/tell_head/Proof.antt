@@ -1,8 +1,8 @@
--- `telling::put_head` meets its contract. Assumes nothing.
+-- `telling::tell_head` meets its contract. Assumes nothing.
 use Rattle.telling.proofs.Printed.{head-placed}
 use borrow.Author.Needs.{needs}
-use Rattle.telling.proofs.put_head.Statement.{statement}
-use Rattle.telling.proofs.put_head.Tie as tie
+use Rattle.telling.proofs.tell_head.Statement.{statement}
+use Rattle.telling.proofs.tell_head.Tie as tie
 
 statement-head-at-requires : tie.Need-statement-head-at-requires
 statement-head-at-requires c κs = search needs
@@ -10,8 +10,8 @@ statement-head-at-requires c κs = search needs
 head-fields-requires : tie.Need-head-fields-requires
 head-fields-requires c κs = search needs
 
-put-fields-requires : tie.Need-put-fields-requires
-put-fields-requires c κs = search needs
+tell-fields-requires : tie.Need-tell-fields-requires
+tell-fields-requires c κs = search needs
 
 same-length : tie.Need-same-length
 same-length c = search needs
@@ -19,12 +19,12 @@ same-length c = search needs
 returns : tie.Need-returns
 returns c = search head-placed
 
-pub put-head-spec : {M : Type 1} → statement M
-put-head-spec =
+pub tell-head-spec : {M : Type 1} → statement M
+tell-head-spec =
     tie.close
     (tie.spec
     statement-head-at-requires
     head-fields-requires
-    put-fields-requires
+    tell-fields-requires
     same-length
     returns)

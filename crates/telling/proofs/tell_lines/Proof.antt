@@ -1,12 +1,12 @@
--- `telling::put_lines` meets its contract. Assumes nothing.
+-- `telling::tell_lines` meets its contract. Assumes nothing.
 use mathlib.Core.Path.{_≡_}
 use Prim.Native.Nat.{_*_, _-_, _≤_}
 use lib.ListN.{length}
 use borrow.Author.Needs.{needs}
 use Rattle.telling.specs.Text.{linesTo, Placed}
 use Rattle.telling.proofs.Printed.{no-lines, lines-more, lines-all}
-use Rattle.telling.proofs.put_lines.Statement.{statement}
-use Rattle.telling.proofs.put_lines.Tie as tie
+use Rattle.telling.proofs.tell_lines.Statement.{statement}
+use Rattle.telling.proofs.tell_lines.Tie as tie
 
 abbrev Inv-loop : tie.InvT-loop
 Inv-loop text₀ from statement n at₀ i₀ text at i = (i ≤ n) × (length text ≡ length text₀) × Placed text₀ text from (linesTo i statement) at (i * 189)
@@ -17,8 +17,8 @@ abbrev μ-loop : tie.MeasureT-loop
 loop-holds : tie.Need-loop-holds Inv-loop μ-loop
 loop-holds c = (search needs, search needs, search no-lines)
 
-put-line-requires : tie.Need-put-line-requires Inv-loop μ-loop
-put-line-requires c κs = search needs
+tell-line-requires : tie.Need-tell-line-requires Inv-loop μ-loop
+tell-line-requires c κs = search needs
 
 add-i : tie.Need-add-i Inv-loop μ-loop
 add-i c = search needs
@@ -35,14 +35,14 @@ same-length c = search needs
 returns : tie.Need-returns Inv-loop μ-loop
 returns c = search lines-all
 
-pub put-lines-spec : {M : Type 1} → statement M
-put-lines-spec =
+pub tell-lines-spec : {M : Type 1} → statement M
+tell-lines-spec =
     tie.close
     (tie.spec
     Inv-loop
     μ-loop
     loop-holds
-    put-line-requires
+    tell-line-requires
     add-i
     loop-less
     loop-again

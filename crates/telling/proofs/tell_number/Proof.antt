@@ -1,10 +1,10 @@
--- `telling::put_number` meets its contract. Assumes nothing.
+-- `telling::tell_number` meets its contract. Assumes nothing.
 use Prim.Native.Nat.{_≤_}
 use Rattle.telling.proofs.Spelled.{few-digits, number-placed}
 use native.Mathlib.Omega.{arith}
 use borrow.Author.Needs.{needs}
-use Rattle.telling.proofs.put_number.Statement.{statement}
-use Rattle.telling.proofs.put_number.Tie as tie
+use Rattle.telling.proofs.tell_number.Statement.{statement}
+use Rattle.telling.proofs.tell_number.Tie as tie
 
 -- the digits are at most twenty
 few : (d : tie.After-decimal) → d .decimal .result ≤ 20
@@ -48,8 +48,8 @@ returns c =
     (number-placed (given .text .now) (spelt .last .1 .0) (given .at) (spelt .result) (given .x) (given .end)
     (d .before .before .before .pre) (few d) (spelt .ensures .0 .1) (spelt .ensures .1 .0) (spelt .ensures .1 .1))
 
-pub put-number-spec : {M : Type 1} → statement M
-put-number-spec =
+pub tell-number-spec : {M : Type 1} → statement M
+tell-number-spec =
     tie.close
     (tie.spec
     decimal-requires

@@ -1,8 +1,8 @@
--- `telling::put_refusal` meets its contract. Assumes nothing.
+-- `telling::tell_refusal` meets its contract. Assumes nothing.
 use Rattle.telling.proofs.Printed.{refusal-placed}
 use borrow.Author.Needs.{needs}
-use Rattle.telling.proofs.put_refusal.Statement.{statement}
-use Rattle.telling.proofs.put_refusal.Tie as tie
+use Rattle.telling.proofs.tell_refusal.Statement.{statement}
+use Rattle.telling.proofs.tell_refusal.Tie as tie
 
 slice-aggregate-put-bytes : tie.Need-slice-aggregate-put-bytes
 slice-aggregate-put-bytes c = search needs
@@ -10,11 +10,11 @@ slice-aggregate-put-bytes c = search needs
 put-bytes-requires : tie.Need-put-bytes-requires
 put-bytes-requires c κs = search needs
 
-put-number-requires : tie.Need-put-number-requires
-put-number-requires c κs = search needs
+tell-number-requires : tie.Need-tell-number-requires
+tell-number-requires c κs = search needs
 
-put-number-requires-2 : tie.Need-put-number-requires-2
-put-number-requires-2 c κs = search needs
+tell-number-requires-2 : tie.Need-tell-number-requires-2
+tell-number-requires-2 c κs = search needs
 
 same-length : tie.Need-same-length
 same-length c = search needs
@@ -22,13 +22,13 @@ same-length c = search needs
 returns : tie.Need-returns
 returns c = search refusal-placed
 
-pub put-refusal-spec : {M : Type 1} → statement M
-put-refusal-spec =
+pub tell-refusal-spec : {M : Type 1} → statement M
+tell-refusal-spec =
     tie.close
     (tie.spec
     slice-aggregate-put-bytes
     put-bytes-requires
-    put-number-requires
-    put-number-requires-2
+    tell-number-requires
+    tell-number-requires-2
     same-length
     returns)

@@ -1,4 +1,4 @@
--- `telling::put_fields` meets its contract. Assumes nothing.
+-- `telling::tell_fields` meets its contract. Assumes nothing.
 use mathlib.Core.Path.{_≡_, refl, _∙_}
 use Prim.Native.Nat.{_*_, _-_, _≤_}
 use lib.ListN.{length}
@@ -6,8 +6,8 @@ use native.Mathlib.Omega.{arith}
 use borrow.Author.Needs.{needs}
 use Rattle.telling.specs.Text.{textTo, Placed}
 use Rattle.telling.proofs.Spelled.{no-fields, fields-more}
-use Rattle.telling.proofs.put_fields.Statement.{statement}
-use Rattle.telling.proofs.put_fields.Tie as tie
+use Rattle.telling.proofs.tell_fields.Statement.{statement}
+use Rattle.telling.proofs.tell_fields.Tie as tie
 
 abbrev Inv-loop : tie.InvT-loop
 Inv-loop text₀ from fields at₀ i₀ text at i = (i ≤ 9) × (length text ≡ length text₀) × Placed text₀ text from (textTo i fields) at (i * 21)
@@ -18,17 +18,17 @@ abbrev μ-loop : tie.MeasureT-loop
 loop-holds : tie.Need-loop-holds Inv-loop μ-loop
 loop-holds c = (omega arith, refl, no-fields _ _ _)
 
-mul-put-number : tie.Need-mul-put-number Inv-loop μ-loop
-mul-put-number c = search needs
+mul-tell-number : tie.Need-mul-tell-number Inv-loop μ-loop
+mul-tell-number c = search needs
 
-element-copy-out-put-number : tie.Need-element-copy-out-put-number Inv-loop μ-loop
-element-copy-out-put-number c = search needs
+element-copy-out-tell-number : tie.Need-element-copy-out-tell-number Inv-loop μ-loop
+element-copy-out-tell-number c = search needs
 
 end-of-requires : tie.Need-end-of-requires Inv-loop μ-loop
 end-of-requires c κs = search needs
 
-put-number-requires : tie.Need-put-number-requires Inv-loop μ-loop
-put-number-requires c κs =
+tell-number-requires : tie.Need-tell-number-requires Inv-loop μ-loop
+tell-number-requires c κs =
     let l = c .before .before .before .before .loop in
     omega (arith, l .inv .1, l .inv .2 .fits, c .before .before .before .before .before .before .pre .1)
 
@@ -41,7 +41,7 @@ loop-less c = search needs
 loop-again : tie.Need-loop-again Inv-loop μ-loop
 loop-again c =
     let l = c .before .before .before .before .before .before .before .loop in
-    let call = c .before .before .put-number in (
+    let call = c .before .before .tell-number in (
       omega arith,
       call .kept .0 ∙ l .inv .1,
       fields-more _ _ _ _ _ _ _ _ _ (c .before .before .before .before .before .before .before .before .before .pre .1) (l .inv .2) (c .before .before .before .end-of .ensures) (call .ensures),
@@ -56,17 +56,17 @@ returns c =
     let e : l .i ≡ 9 = omega arith in
     rw e at (l .inv .2)
 
-pub put-fields-spec : {M : Type 1} → statement M
-put-fields-spec =
+pub tell-fields-spec : {M : Type 1} → statement M
+tell-fields-spec =
     tie.close
     (tie.spec
     Inv-loop
     μ-loop
     loop-holds
-    mul-put-number
-    element-copy-out-put-number
+    mul-tell-number
+    element-copy-out-tell-number
     end-of-requires
-    put-number-requires
+    tell-number-requires
     add-i
     loop-less
     loop-again
