@@ -1,7 +1,5 @@
 -- `settle::settle` meets its contract: a refused pair keeps the buffer, an accepted one is for `settle_rows`. Assumes nothing.
-use mathlib.Core.Path.{sym}
-use Rattle.settle.proofs.Answered.{told}
-use Rattle.settle.proofs.Demand1.{files-refused, refused-buffer}
+use Rattle.settle.proofs.Answered.{told, refusal-told, refusal-left}
 use borrow.Author.Needs.{needs}
 use Rattle.settle.proofs.settle.Statement.{statement}
 use Rattle.settle.proofs.settle.Tie as tie
@@ -16,12 +14,10 @@ enum-known-verdict-2 : tie.Need-enum-known-verdict-2
 enum-known-verdict-2 c = search needs
 
 settle-rows-requires : tie.Need-settle-rows-requires
-settle-rows-requires c κs = told _ _ _ _ (c .before .before .before .before .check .ensures) (c .before .before .verdict2 .given .1)
+settle-rows-requires c κs = search told
 
 returns : tie.Need-returns
-returns c =
-    let no = told _ _ _ _ (c .before .before .before .check .ensures) (c .before .verdict .given .1) in
-    (sym (files-refused _ _ _ _ _ no), sym (refused-buffer _ _ _ _ _ (files-refused _ _ _ _ _ no)))
+returns c = (search refusal-told, search refusal-left)
 
 same-length : tie.Need-same-length
 same-length c = search needs
