@@ -2,6 +2,7 @@
 
 use crate::Case;
 use crate::file::{Correction, Interval, Row, SOLAR, THERMAL, WIND};
+use crate::ladder::ladder;
 use crate::many_rounds;
 use crate::random::Random;
 
@@ -82,8 +83,10 @@ fn case_of(random: &mut Random, shape: Shape, interval: Interval) -> Case {
 /// A valid interval of the given shape.
 pub fn interval(random: &mut Random, shape: Shape) -> Interval {
     if shape == Shape::ManyRounds {
-        let wanted = random.within(10..=28) as usize;
-        return many_rounds(random, wanted);
+        let wanted = random.within(10..=27) as usize;
+        let interval =
+            if random.once_in(2) { many_rounds::interval(random, wanted) } else { ladder(random, wanted).interval };
+        return dated(random, interval);
     }
     let count = match shape {
         Shape::NoRows => 0,
@@ -92,12 +95,6 @@ pub fn interval(random: &mut Random, shape: Shape) -> Interval {
         _ => random.within(1..=256),
     };
     interval_of(random, shape, count)
-}
-
-/// An interval in which up to so many rounds close somebody.
-pub fn many_rounds(random: &mut Random, wanted: usize) -> Interval {
-    let interval = many_rounds::interval(random, wanted);
-    dated(random, interval)
 }
 
 /// A valid interval of the given shape and number of rows. Many rounds and full files are not to be had with few rows.

@@ -67,7 +67,7 @@ fn many_rounds_are_reached() {
         })
         .collect();
     println!("rounds: {rounds:?}");
-    assert!(rounds.iter().any(|&rounds| rounds >= 15), "seed {seed}");
+    assert!(rounds.iter().any(|&rounds| rounds >= 25), "seed {seed}");
     assert!(rounds.iter().filter(|&&rounds| rounds >= 10).count() >= 80, "seed {seed}");
 }
 
