@@ -1,4 +1,4 @@
-// Statements in bytes (01, The files): a head and a line for each row, read by name and encoded.
+// Statements in bytes (01, The files): a head and a line for each row, read by name and written field by field.
 use columns::number_at;
 use columns::put_fields;
 use units::Fen;
