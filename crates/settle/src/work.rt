@@ -24,6 +24,9 @@ ghost use Rattle.settle.specs.Answer.{statementOf};
 ghost use Rattle.merit.specs.Ready.{bandsIn, Ready};
 ghost use Rattle.settle.specs.Asked.{Read, Clears, Scratch, headFrom, Levied, Compensated};
 
+// The position that goes first among equal remainders: the lower id.
+const FIRST_TURN: usize = 0;
+
 // What the calls come to: the need beyond all bands, and a price for each tier.
 pub struct Market {
     pub uncovered: u32,
@@ -51,7 +54,16 @@ fn clear(
     requires { ⌜ Ready (bandsIn (now widths1) (now widths2) (now bids1) (now bids2)) 0 (now called1) (now called2) ⌝ }
     ensures { λ r. ⌜ Clears need (bandsIn (now (widths1 .entry)) (now (widths2 .entry)) (now (bids1 .entry)) (now (bids2 .entry))) r (now (called1 .exit)) (now (called2 .exit)) ⌝ }
 {
-    let uncovered = merit::calls(need, 0, widths1, widths2, bids1, bids2, called1, called2);
+    let uncovered = merit::calls(
+        need,
+        FIRST_TURN,
+        widths1,
+        widths2,
+        bids1,
+        bids2,
+        called1,
+        called2,
+    );
     let price1 = merit::price(bids1, called1);
     let price2 = merit::price(bids2, called2);
     Market {
@@ -188,7 +200,7 @@ fn state(
     ensures { λ r. ⌜ now (statement .exit) ≡ put (now (statement .entry)) 0 (statementOf (now (interval .entry)) (now (correction .entry))) ⌝ }
 {
     let shortfall = levy::shortfall(rest);
-    levy::cuts(shortfall, pay, 0, cut);
+    levy::cuts(shortfall, pay, FIRST_TURN, cut);
     let top = head_of(head, n, market, total, shortfall, rest.rounds);
     put_statement(
         interval,
@@ -246,7 +258,7 @@ fn collect(
     );
     let total = total_of(pay);
     let rest = levy::rounds(total, n, &weights, &caps, &mut marks);
-    levy::payments(n, rest, &weights, &caps, &marks, 0, paid);
+    levy::payments(n, rest, &weights, &caps, &marks, FIRST_TURN, paid);
     state(
         interval,
         correction,
