@@ -1,6 +1,6 @@
 -- An ordered list of checks, and a list of tests: what their answers say of each.
 --   none-applies   a list of checks with numbers above 0 that gave 0: the check at any position does not apply
---   left-true, right-true      both of two tests pass: the one does, and the other
+--   both-left, both-right, left-true, right-true      both of two tests pass: the one does, and the other
 --   and-false      one of two tests fails: not both pass
 --   each           a list of tests that all pass: the test at any position does
 -- Assumes nothing.
@@ -19,11 +19,11 @@ abbrev pub numbered : List Check → Bool
 numbered [] = true
 numbered (c ∷ cs) = ltb 0 (c .number) && numbered cs
 
-both-left : (a b : Bool) → T (a && b) → T a
+pub both-left : (a b : Bool) → T (a && b) → T a
 both-left true b t = tt
 both-left false b t = t
 
-both-right : (a b : Bool) → T (a && b) → T b
+pub both-right : (a b : Bool) → T (a && b) → T b
 both-right true b t = t
 both-right false b t = absurd t
 

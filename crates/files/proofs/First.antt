@@ -15,7 +15,7 @@ use lib.Dec.{T, eqb, ltb, ltb→lt}
 use lib.ListN.{length, getD}
 use borrow.Author.Tests.{ne-eqb}
 use Rattle.columns.specs.Test.{Check, firstOf}
-use Rattle.columns.proofs.First.{numbered}
+use Rattle.columns.proofs.First.{numbered, both-left, both-right}
 use Rattle.files.specs.Layout.{rowAt, rowCount, correctionCount}
 use Rattle.files.specs.Fault.{Fault, fault, none, orElse, headChecks, headFault, rowChecksAt, rowFault, rowsFault, intervalFault, correctionStarts, asEight, correctionFault, sameTime, timeFault, corrects, namesFault, presentFault, pairFault, fileFault, verdictOf}
 use Rattle.files.specs.Order.{Refusal, refusal, placed, rowsOrder, eights, namesOrder, presentOrder, fileOrder, firstRefusal, noRefusal, Earliest, NoneApplies}
@@ -26,14 +26,6 @@ use Rattle.files.proofs.Answer.{or-first, or-next, verdict-yes, verdict
 abbrev positive : List Refusal → Bool
 positive [] = true
 positive (r ∷ rs) = ltb 0 (r .number) && positive rs
-
-left : (a b : Bool) → T (a && b) → T a
-left true b t = tt
-left false b t = t
-
-right : (a b : Bool) → T (a && b) → T b
-right true b t = t
-right false b t = absurd t
 
 both : (a b : Bool) → T a → T b → T (a && b)
 both true b s t = t
@@ -52,19 +44,19 @@ placed-first : (p : ℕ) (cs : List Check) (rs : List Refusal) → T (numbered c
 unfolding firstRefusal
 placed-first p [] rs t = or-next (fault 0 p) (firstRefusal rs) refl
 placed-first p (c ∷ cs) rs t =
-    go (c .applies) (placed-first p cs rs (right (ltb 0 (c .number)) (numbered cs) t)) where
+    go (c .applies) (placed-first p cs rs (both-right (ltb 0 (c .number)) (numbered cs) t)) where
       go : (b : Bool) → orElse (fault (firstOf cs) p) (firstRefusal rs) ≡ firstRefusal (placed p cs ++ rs)
           → orElse (fault (cond b (c .number) (firstOf cs)) p) (firstRefusal rs)
           ≡ cond b (fault (c .number) p) (firstRefusal (placed p cs ++ rs))
-      go true h = or-first (fault (c .number) p) (firstRefusal rs) (not-zero (c .number) (left (ltb 0 (c .number)) (numbered cs) t))
+      go true h = or-first (fault (c .number) p) (firstRefusal rs) (not-zero (c .number) (both-left (ltb 0 (c .number)) (numbered cs) t))
       go false h = h
 
 append-first : (xs ys : List Refusal) → T (positive xs) → orElse (firstRefusal xs) (firstRefusal ys) ≡ firstRefusal (xs ++ ys)
 unfolding firstRefusal
 append-first [] ys t = or-next none (firstRefusal ys) refl
 append-first (x ∷ xs) ys t =
-    put-first (x .applies) (x .number) (x .place) (firstRefusal xs) (firstRefusal ys) (left (ltb 0 (x .number)) (positive xs) t)
-    ∙ ap (λ (f : Fault). cond (x .applies) (fault (x .number) (x .place)) f) (append-first xs ys (right (ltb 0 (x .number)) (positive xs) t))
+    put-first (x .applies) (x .number) (x .place) (firstRefusal xs) (firstRefusal ys) (both-left (ltb 0 (x .number)) (positive xs) t)
+    ∙ ap (λ (f : Fault). cond (x .applies) (fault (x .number) (x .place)) f) (append-first xs ys (both-right (ltb 0 (x .number)) (positive xs) t))
 
 rows-first : (left : ℕ) (s : List ℕ) (k place last : ℕ) → rowsFault s k left place last ≡ firstRefusal (rowsOrder s k left place last)
 unfolding rowsFault rowsOrder rowFault firstRefusal
@@ -87,8 +79,8 @@ eights-first : (rs : List Refusal) → T (positive rs) → asEight (firstRefusal
 unfolding eights firstRefusal asEight
 eights-first [] t = refl
 eights-first (r ∷ rs) t =
-    eight-of (r .applies) (r .number) (r .place) (firstRefusal rs) (left (ltb 0 (r .number)) (positive rs) t)
-    ∙ ap (λ (f : Fault). cond (r .applies) (fault 8 (r .place)) f) (eights-first rs (right (ltb 0 (r .number)) (positive rs) t))
+    eight-of (r .applies) (r .number) (r .place) (firstRefusal rs) (both-left (ltb 0 (r .number)) (positive rs) t)
+    ∙ ap (λ (f : Fault). cond (r .applies) (fault 8 (r .place)) f) (eights-first rs (both-right (ltb 0 (r .number)) (positive rs) t))
 
 eights-positive : (rs : List Refusal) → T (positive (eights rs))
 unfolding eights
@@ -159,11 +151,11 @@ unfolding firstRefusal
 first-none [] t h i l = absurd (omega arith)
 first-none (r ∷ rs) t h zero l = go (r .applies) h where
   go : (b : Bool) → cond b (fault (r .number) (r .place)) (firstRefusal rs) .number ≡ 0 → b ≡ false
-  go true e = absurd (not-zero (r .number) (left (ltb 0 (r .number)) (positive rs) t) e)
+  go true e = absurd (not-zero (r .number) (both-left (ltb 0 (r .number)) (positive rs) t) e)
   go false e = refl
-first-none (r ∷ rs) t h (suc i) l = first-none rs (right (ltb 0 (r .number)) (positive rs) t) (go (r .applies) h) i (le-of-suc-le-suc l) where
+first-none (r ∷ rs) t h (suc i) l = first-none rs (both-right (ltb 0 (r .number)) (positive rs) t) (go (r .applies) h) i (le-of-suc-le-suc l) where
   go : (b : Bool) → cond b (fault (r .number) (r .place)) (firstRefusal rs) .number ≡ 0 → firstRefusal rs .number ≡ 0
-  go true e = absurd (not-zero (r .number) (left (ltb 0 (r .number)) (positive rs) t) e)
+  go true e = absurd (not-zero (r .number) (both-left (ltb 0 (r .number)) (positive rs) t) e)
   go false e = e
 
 none-first : (rs : List Refusal) → NoneApplies rs → firstRefusal rs ≡ none
@@ -217,8 +209,8 @@ first-earliest (r ∷ rs) n p z h = go (r .applies) refl (first-earliest rs n p 
 append-positive : (xs ys : List Refusal) → T (positive xs) → T (positive ys) → T (positive (xs ++ ys))
 append-positive [] ys s t = t
 append-positive (x ∷ xs) ys s t =
-    both (ltb 0 (x .number)) (positive (xs ++ ys)) (left (ltb 0 (x .number)) (positive xs) s)
-    (append-positive xs ys (right (ltb 0 (x .number)) (positive xs) s) t)
+    both (ltb 0 (x .number)) (positive (xs ++ ys)) (both-left (ltb 0 (x .number)) (positive xs) s)
+    (append-positive xs ys (both-right (ltb 0 (x .number)) (positive xs) s) t)
 
 file-positive : (s k : List ℕ) → T (positive (fileOrder s k))
 unfolding fileOrder presentOrder
@@ -234,8 +226,8 @@ file-positive s k =
 
 above : (rs : List Refusal) (i : ℕ) → T (positive rs) → i < length rs → T (ltb 0 (getD rs i noRefusal .number))
 above [] i t l = absurd (omega arith)
-above (r ∷ rs) zero t l = left (ltb 0 (r .number)) (positive rs) t
-above (r ∷ rs) (suc i) t l = above rs i (right (ltb 0 (r .number)) (positive rs) t) (le-of-suc-le-suc l)
+above (r ∷ rs) zero t l = both-left (ltb 0 (r .number)) (positive rs) t
+above (r ∷ rs) (suc i) t l = above rs i (both-right (ltb 0 (r .number)) (positive rs) t) (le-of-suc-le-suc l)
 
 number-above : (rs : List Refusal) (n p : ℕ) → T (positive rs) → Earliest rs n p → n ≡ 0 → ⊥
 number-above rs n p t e z = not-zero _ (above rs (e .at) t (e .inside)) (e .number ∙ z)

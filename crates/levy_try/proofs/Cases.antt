@@ -8,12 +8,13 @@
 -- Assumes nothing.
 use Prim.Native.Nat.{ℕ, zero, suc, _≤_, zero-le}
 use mathlib.Core.Path.{_≡_, refl, ap, _∙_}
-use mathlib.Core.Bool.{Bool, true, false, _&&_}
+use mathlib.Core.Bool.{Bool, true, _&&_}
 use mathlib.Core.List.{List, [], _∷_}
 use lib.Dec.{T, eqb, leb, ltb, leb→le, ltb→lt, eqb→eq}
 use lib.ListN.{length, take}
 use borrow.Author.Tests.{eq-eqb}
 use Rattle.columns.specs.Table.{at, table}
+use Rattle.columns.proofs.First.{both-left, both-right}
 use Rattle.columns.specs.Sum.{sumTo, countTo}
 use Rattle.share.specs.Share.{whole, quota, rest, turn, before, rank, left, share}
 use Rattle.levy.specs.Rounds.{Standing, closes, closed, next, run, opening, final, openWeights, paid, payments, shortfall}
@@ -33,18 +34,10 @@ abbrev pub lows : ℕ → List ℕ → Bool
 lows k [] = true
 lows k (x ∷ xs) = leb x k && lows k xs
 
-first-test : (s t : Bool) → T (s && t) → T s
-first-test true t h = tt
-first-test false t h = h
-
-second-test : (s t : Bool) → T (s && t) → T t
-second-test true t h = h
-second-test false t h = absurd h
-
 low-at : (k : ℕ) (xs : List ℕ) → T (lows k xs) → (i : ℕ) → at xs i ≤ k
 low-at k [] t i = zero-le
-low-at k (x ∷ xs) t zero = leb→le x k (first-test (leb x k) (lows k xs) t)
-low-at k (x ∷ xs) t (suc i) = low-at k xs (second-test (leb x k) (lows k xs) t) i
+low-at k (x ∷ xs) t zero = leb→le x k (both-left (leb x k) (lows k xs) t)
+low-at k (x ∷ xs) t (suc i) = low-at k xs (both-right (leb x k) (lows k xs) t) i
 
 pub ready : (total n : ℕ) (weights caps out : List ℕ) → T (leb n 256) → length weights ≡ 256 → length caps ≡ 256
     → T (lows 550000000 (take n weights)) → T (lows 44000000 (take n caps)) → T (leb total 6400000000) → T (ltb 0 n) → length out ≡ n
