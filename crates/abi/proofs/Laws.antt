@@ -4,14 +4,13 @@
 --   copied-short, copied-whole          the row that counts, by the room there is
 --   accepted-rewritten, accepted-buffer     an accepted file with room for it: 0 and its length, and its own bytes in front
 --   settled-unique, copied-unique, rewritten-unique (Unique.antt)    two words and two buffers that one contract allows are equal
--- Assumes nothing.
 use Prim.Native.Nat.{ℕ, _/_, _%_, _≤_, _<_}
 use mathlib.Core.Path.{_≡_}
 use mathlib.Core.List.{List}
 use native.Mathlib.Omega.{arith}
 use lib.ListN.{length, getD}
 use borrow.Author.Tests.{lt-ltb, le-ltb, eq-eqb}
-use Rattle.columns.specs.Buffer.{put}
+use Rattle.records.specs.Buffer.{put}
 use Rattle.files.specs.Fault.{intervalFault}
 use Rattle.files.specs.Counting.{countingBytes}
 use Rattle.contents.specs.Content.{contentsOf, readingOf}

@@ -2,7 +2,6 @@
 --   interval-small, file-small, writer-small     the faults of an interval file, of a pair of files, of contents and their buffer
 --   answer-fits, reading-fits, written-fits      number and value of the engine's answer, of the reader's, of the writer's
 --   part-short                                   the bytes that count for a row are at most 21
--- Assumes nothing.
 use Prim.Native.Nat.{ℕ, zero, suc, _+_, _≤_, _<_, zero-le}
 use mathlib.Core.Path.{_≡_, refl}
 use mathlib.Core.Bool.{Bool, true, false, cond, _&&_}

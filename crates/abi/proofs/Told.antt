@@ -4,14 +4,13 @@
 --   settled-told, refused-told, bytes-told, unwritten-told                the word is that of the answer
 --   unread-told, unread-buffer, read-told, read-buffer                    a file that is refused, and one that is accepted
 --   short-told, short-buffer, copied-told, copied-made                    no room for the row, and room
--- Assumes nothing.
 use Prim.Native.Nat.{ℕ, _≤_, _<_}
 use mathlib.Core.Path.{_≡_}
 use mathlib.Core.List.{List}
 use native.Mathlib.Omega.{arith}
 use lib.ListN.{length}
 use borrow.Author.Tests.{lt-ltb, le-ltb, eq-eqb, ne-eqb}
-use Rattle.columns.specs.Buffer.{put}
+use Rattle.records.specs.Buffer.{put}
 use Rattle.files.specs.Counting.{countingBytes}
 use Rattle.contents.specs.Content.{readingOf, writtenOf, writtenBuffer}
 use Rattle.contents.specs.declared.Contents.{Contents}

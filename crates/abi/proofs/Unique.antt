@@ -1,6 +1,5 @@
 -- Two results that one contract of the library allows are equal: the word and the buffer at exit.
 --   settled-unique, copied-unique, rewritten-unique      of wheatrudder_settle, wheatrudder_row, wheatrudder_rewrite
--- Assumes nothing.
 use mathlib.Core.Path.{_≡_}
 use mathlib.Core.List.{List}
 use Prim.Native.Nat.{ℕ}

@@ -1,11 +1,10 @@
 -- The library's answers to C: a number and a value in one word of 64 bits, and the buffers afterwards (01, The files; Numbers of refusal).
--- Assumes nothing.
 use Prim.Native.Nat.{ℕ, _+_, _*_}
 use mathlib.Core.Bool.{cond}
 use mathlib.Core.List.{List}
 use lib.Dec.{ltb, eqb}
 use lib.ListN.{length}
-use Rattle.columns.specs.Buffer.{put}
+use Rattle.records.specs.Buffer.{put}
 use Rattle.files.specs.Counting.{countingBytes}
 use Rattle.contents.specs.Content.{readingOf, writtenOf, writtenBuffer}
 use Rattle.contents.specs.declared.Written.{Written}

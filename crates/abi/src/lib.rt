@@ -1,9 +1,9 @@
 // The library for C and Rust: the engine's three public parts on numbers and byte slices. A slice is a pointer and a length.
 // Every answer is one word: number × 2^32 + value. Number 0 is success, and the value counts bytes; any other number is a
 // refusal, and the value is its place (01, Numbers of refusal).
-use columns::put_bytes;
 use contents::Contents;
 use contents::Written;
+use records::put_bytes;
 use settle::Answer;
 ghost use mathlib.Core.Path.{_≡_};
 ghost use Prim.Native.Nat.{_≤_, _<_};

@@ -4,7 +4,6 @@
 --   told-no, told-yes    the definition's test itself, where code negated a call's answer
 --   differ, agree        a negated test of equality
 --   checks               all of these, with the orders of numbers, as one set
--- Assumes nothing.
 use mathlib.Core.Path.{_≡_, sym, ap, _∙_}
 use Prim.Native.Nat.{ℕ}
 use mathlib.Core.Bool.{Bool, true, false, not, cond}

@@ -4,7 +4,7 @@
 --     reached-next     one store more
 --     reached-now      at i still stands what stood there at the start
 --     reached-all      at the end the list is the table of f
--- d stands past a list's end; 0 for a column. Assumes nothing.
+-- d stands past a list's end; 0 for a column.
 use Prim.Native.Nat.{ℕ, _+_, _≤_, _<_}
 use mathlib.Core.Path.{_≡_, refl, _∙_}
 use mathlib.Core.List.{List}

@@ -3,7 +3,6 @@
 --   both-left, both-right, left-true, right-true      both of two tests pass: the one does, and the other
 --   and-false      one of two tests fails: not both pass
 --   each           a list of tests that all pass: the test at any position does
--- Assumes nothing.
 use mathlib.Core.Path.{_≡_, refl, sym, subst}
 use Prim.Native.Nat.{ℕ, zero, suc, _<_}
 use mathlib.Core.Bool.{Bool, true, false, cond, _&&_}

@@ -1,13 +1,10 @@
 pub mod Product
 pub mod Sum
 pub mod Table
+pub mod Whole
 pub mod Rank
 pub mod Fill
 pub mod Mask
-pub mod Number
-pub mod Buffer
-pub mod Fields
-pub mod Reading
 pub mod Choice
 pub mod First
 pub mod Unique

@@ -12,7 +12,6 @@
 --     where-cross     a * f ≤ b * g at each that passes: a * (sum of f) ≤ b * (sum of g)
 --     where-cross-lt  the same with < at each: the gap is at least the number that pass
 --     count-parts     counts of two parts
--- Assumes nothing.
 use Prim.Native.Nat.{ℕ, zero, suc, _+_, _*_, _≤_, _<_, zero-le}
 use mathlib.Core.Path.{_≡_, refl, sym, _∙_}
 use mathlib.Core.Bool.{Bool, true, false, cond, not}

@@ -1,6 +1,5 @@
 -- When a product fits: two numbers with bounds whose product is below a limit.
 --   product   a ≤ A, b ≤ B and A * B < m give a * b < m; the last is a computed test at numerals
--- Assumes nothing.
 use Prim.Native.Nat.{ℕ, _*_, _≤_, _<_}
 use native.Mathlib.Nat.{mul-le-mul, lt-of-le-of-lt}
 use lib.Dec.{T, ltb, ltb→lt}

@@ -12,7 +12,6 @@
 --     rank-apart    no two positions have the same rank
 --     rank-count    exactly l positions have a rank below l, for l up to n
 --     rank-some     each rank below n is somebody's
--- Assumes nothing.
 use Prim.Native.Nat.{ℕ, zero, suc, _+_, _≤_, _<_}
 use mathlib.Core.Path.{_≡_, refl, ap, sym, _∙_}
 use mathlib.Core.Logic.{_⊎_, inl, inr, ⊎-elim}

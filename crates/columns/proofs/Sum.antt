@@ -13,7 +13,6 @@
 --     bit-le        a test counts for at most 1
 --     count-next, count-same, count-le, count-none, count-all, count-sub, count-some, count-zero     the same of counts
 --     max-next, max-term, max-bound, max-reached      the same of maxima
--- Assumes nothing.
 use Prim.Native.Nat.{ℕ, zero, suc, _+_, _*_, _≤_, _<_, max, zero-le, suc-le-suc}
 use mathlib.Core.Path.{_≡_, refl, ap, sym, _∙_}
 use mathlib.Core.Logic.{_⊎_, inl, inr, ⊎-elim}

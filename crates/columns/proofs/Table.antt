@@ -9,7 +9,6 @@
 --     fill-next       one store more of a loop that fills a slice
 --     table-most      terms of at most m: so is every number of the table
 --     front-long      the front of an array is as long as it was cut
--- Assumes nothing.
 use Prim.Native.Nat.{ℕ, zero, suc, _+_, _≤_, _<_}
 use mathlib.Core.Path.{_≡_, refl, sym, _∙_}
 use mathlib.Core.Logic.{⊎-elim}

@@ -1,8 +1,10 @@
 -- Sums, counts, maxima and searches over positions: f 0, f 1, .., f (n - 1), taken from the front, as a loop does.
--- Assumes nothing.
 use Prim.Native.Nat.{ℕ, zero, suc, _+_, max}
 use mathlib.Core.Bool.{Bool, true, false, cond}
+use mathlib.Core.List.{List}
 use lib.Dec.{ltb}
+use lib.ListN.{length}
+use Rattle.columns.specs.Table.{at}
 
 -- a test as a number: 1 where it passes
 abbrev pub bit : Bool → ℕ
@@ -13,6 +15,10 @@ bit false = 0
 unfoldable pub sumTo : ℕ → (ℕ → ℕ) → ℕ
 sumTo zero f = 0
 sumTo (suc n) f = sumTo n f + f n
+
+-- the sum of a column
+unfoldable pub whole : List ℕ → ℕ
+whole xs = sumTo (length xs) (at xs)
 
 -- how many positions below n pass the test
 unfoldable pub countTo : ℕ → (ℕ → Bool) → ℕ

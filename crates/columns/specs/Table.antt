@@ -1,5 +1,4 @@
 -- Lists by position: a column is a list of numbers with 0 past its end.
--- Assumes nothing.
 use Prim.Native.Nat.{ℕ, zero, suc, _<_}
 use mathlib.Core.List.{List, [], _∷_, _++_}
 use lib.ListN.{getD}

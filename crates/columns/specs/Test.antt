@@ -1,5 +1,4 @@
 -- Tests: a range by its ends, all of a list of tests, the first of an ordered list of checks that applies.
--- Assumes nothing.
 use Prim.Native.Nat.{ℕ}
 use mathlib.Core.Bool.{Bool, true, cond, _&&_}
 use mathlib.Core.List.{List, [], _∷_}

@@ -7,7 +7,6 @@
 --   head-then-rows        the bytes of the head, then those of the rows, are the file
 --   read-few, read-long   the same of a file that is accepted
 --   read-refused, read-done     the reader's result, by the file's answer
--- Assumes nothing.
 use mathlib.Core.Path.{_≡_, refl, sym, _∙_}
 use mathlib.Core.Bool.{Bool, true, false, not, cond}
 use mathlib.Core.List.{List}
@@ -16,8 +15,8 @@ use native.Mathlib.Omega.{arith}
 use borrow.Author.Tests.{not-true, not-false, lt-ltb, le-ltb, eq-eqb, ne-eqb, ltb-false}
 use lib.Dec.{ltb}
 use lib.ListN.{length, take}
-use Rattle.columns.specs.Buffer.{put}
-use Rattle.columns.proofs.Buffer.{put-put}
+use Rattle.records.specs.Buffer.{put}
+use Rattle.records.proofs.Buffer.{put-put}
 use Rattle.files.specs.Layout.{rowStart, headBytes, rowCount}
 use Rattle.files.specs.Range.{headOk}
 use Rattle.files.specs.Fault.{Fault, fault, none, orElse, intervalFault, verdict}

@@ -3,11 +3,10 @@
 --   x-said        its contents make that file
 --   x-read        and the file says these contents
 --   x-refused     with rows 2 and 3 exchanged the writer gives 7 at row 3; with a buffer one byte short, 11 at place 0
--- Assumes nothing.
 use mathlib.Core.Path.{_≡_, refl}
 use mathlib.Core.List.{List, [], _∷_, _++_}
 use Prim.Native.Nat.{ℕ}
-use Rattle.columns.specs.Number.{numberAt, numberBytes}
+use Rattle.records.specs.Number.{numberAt, numberBytes}
 use Rattle.columns.specs.Table.{table}
 use Rattle.files.specs.Layout.{headAt, headBytes, rowAt, rowBytes}
 use Rattle.files.specs.Range.{headOk, statusOk, notOffering, offering, rowTests, rowOk}

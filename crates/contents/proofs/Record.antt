@@ -6,7 +6,6 @@
 --   row-shift, mark-shift     a row or a mark further on in a list is one of the list's later part
 --   head-fits, row-fits       fields in their ranges fit their widths; an id's range is its width
 --   rows-few                  a head in its ranges has at most 256 rows
--- Assumes nothing.
 use mathlib.Core.Path.{_≡_, refl, sym, ap, _∙_}
 use mathlib.Core.Bool.{true}
 use mathlib.Core.List.{List, [], _∷_, _++_}
@@ -17,9 +16,9 @@ use borrow.Author.Tests.{eqb-true}
 use lib.Dec.{eqb}
 use lib.ListN.{length, getD, take, drop, length-drop}
 use lib.Seq.{drop-drop, take-add, getD-drop}
-use Rattle.columns.specs.Number.{numberAt, numberBytes}
-use Rattle.columns.specs.Fields.{fieldsBytes}
-use Rattle.columns.proofs.Number.{number-drop, number-is, number-write}
+use Rattle.records.specs.Number.{numberAt, numberBytes}
+use Rattle.records.specs.Fields.{fieldsBytes}
+use Rattle.records.proofs.Number.{number-drop, number-is, number-write}
 use Rattle.columns.proofs.First.{left-true, right-true}
 use Rattle.files.specs.Range.{headOk, rowOk}
 use Rattle.files.specs.Layout.{marked, letterH, letterR, headAt, headBytes, rowAt, rowBytes}

@@ -2,7 +2,6 @@
 --   list-valid    a list's rows without fault pass their ranges
 --   rows-agree    rows of a file with the right marks have the fault that the same rows have in a list
 --   head-none     a head without fault: long enough, marked, within its ranges, and the file as long as it says
--- Assumes nothing.
 use mathlib.Core.Path.{_≡_, refl, _∙_}
 use mathlib.Core.Bool.{true}
 use mathlib.Core.List.{List}

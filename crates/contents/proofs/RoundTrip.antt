@@ -6,7 +6,6 @@
 --   contents-again    and says these contents again
 --   contents-reread   so the reader of contents, on that file, answers 0 and these contents
 --   write-unique, read-unique   two results that one contract allows are equal
--- Assumes nothing.
 use mathlib.Core.Path.{_≡_, refl, sym, ap, _∙_}
 use mathlib.Core.Bool.{Bool, true, false, cond}
 use mathlib.Core.Logic.{⊎-elim}
@@ -19,7 +18,7 @@ use lib.Dec.{ltb}
 use lib.ListN.{length, getD, take}
 use lib.Seq.{length-take-le, getD-take, take-add, take-all}
 use Rattle.columns.specs.Table.{table, Below}
-use Rattle.columns.specs.Buffer.{put}
+use Rattle.records.specs.Buffer.{put}
 use Rattle.columns.proofs.Sum.{lt-or-le}
 use Rattle.columns.proofs.Table.{table-length, table-at, table-is}
 use Rattle.files.specs.Layout.{marked, letterR, rowStart, headAt, rowAt, rowCount}

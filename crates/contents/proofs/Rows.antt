@@ -5,7 +5,6 @@
 --   contents-head, contents-mark, contents-row, contents-row-mark
 --                     the file that contents make has their head and each row at its place, each with its mark
 --   rows-write        rows read from a file, written again, are the same bytes of it
--- Assumes nothing.
 use mathlib.Core.Path.{_≡_, refl, sym, ap, _∙_}
 use mathlib.Core.Bool.{true}
 use mathlib.Core.List.{List, [], _∷_, _++_, append-assoc, append-nil}
@@ -13,7 +12,7 @@ use Prim.Native.Nat.{ℕ, zero, suc, _+_, _*_, _≤_, _<_}
 use native.Mathlib.Omega.{arith}
 use lib.ListN.{length, getD, take, drop, length-append}
 use lib.Seq.{length-take-le, take-add, drop-drop, drop-at, getD-take}
-use Rattle.columns.specs.Number.{numberBytes}
+use Rattle.records.specs.Number.{numberBytes}
 use Rattle.columns.specs.Table.{table, Below}
 use Rattle.files.specs.Layout.{marked, letterH, letterR, rowStart, headAt, headBytes, rowAt, rowBytes}
 use Rattle.files.specs.declared.Row.{Row}

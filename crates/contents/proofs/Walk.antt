@@ -2,7 +2,6 @@
 --   Checked   the rows so far have no fault by 6 and 7; check-start, -next, -stops, -ends: its steps
 --   Placed    the bytes of the rows so far stand in the buffer; place-start, -next, -ends: its steps
 --   Filled    the rows so far are the file's, and zero rows past them; fill-start, -next, -ends: its steps
--- Assumes nothing.
 use mathlib.Core.Path.{_≡_, refl, sym, ap, _∙_}
 use mathlib.Core.Bool.{cond}
 use mathlib.Core.Logic.{⊎-elim}
@@ -16,11 +15,11 @@ use lib.Seq.{length-take-le, take-suc, getD-set-other}
 use borrow.Author.Tests.{lt-ltb, le-ltb}
 use Rattle.columns.specs.Table.{table, Below}
 use Rattle.columns.specs.Test.{firstOf}
-use Rattle.columns.specs.Buffer.{put}
+use Rattle.records.specs.Buffer.{put}
 use Rattle.columns.proofs.Sum.{lt-or-le}
 use Rattle.columns.proofs.Table.{table-length, table-at, table-past, table-is}
 use Rattle.columns.proofs.Table as tables
-use Rattle.columns.proofs.Buffer.{put-length, put-none, put-put}
+use Rattle.records.proofs.Buffer.{put-length, put-none, put-put}
 use Rattle.files.specs.Layout.{rowStart, headAt, rowAt, rowBytes, rowCount}
 use Rattle.files.specs.Fault.{Fault, fault, orElse, rowChecks, verdict}
 use Rattle.files.specs.declared.Head.{Head}

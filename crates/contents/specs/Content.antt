@@ -1,5 +1,4 @@
 -- The contents of an interval file, and the file that contents make (01, The files; the writer's refusals 3, 6, 7, 11).
--- Assumes nothing.
 use Prim.Native.Nat.{ℕ, zero, suc, _+_}
 use mathlib.Core.Bool.{cond}
 use mathlib.Core.List.{List, [], _∷_, _++_}
@@ -7,7 +6,7 @@ use lib.Dec.{ltb, eqb}
 use lib.ListN.{length, getD, take}
 use Rattle.columns.specs.Table.{table}
 use Rattle.columns.specs.Test.{firstOf}
-use Rattle.columns.specs.Buffer.{put}
+use Rattle.records.specs.Buffer.{put}
 use Rattle.files.specs.Layout.{rowStart, headAt, headBytes, rowAt, rowBytes, rowCount}
 use Rattle.files.specs.Range.{headOk}
 use Rattle.files.specs.Fault.{Fault, fault, none, orElse, rowChecks, intervalFault}

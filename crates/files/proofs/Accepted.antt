@@ -6,7 +6,6 @@
 --   accepted-theirs     the correction's, if there is one; if there is none, it has no rows
 --   accepted-few, theirs-few      at most 256 of either
 --   accepted-names      each of the correction's rows corrects one of the interval's
--- Assumes nothing.
 use mathlib.Core.Path.{_≡_, refl, sym, subst}
 use mathlib.Core.Logic.{⊎-elim}
 use Prim.Native.Nat.{ℕ, zero, suc, _+_, _-_, _*_, _≤_, _<_}
@@ -17,7 +16,7 @@ use native.Mathlib.Omega.{arith}
 use lib.Dec.{T, eqb, leb, lit<}
 use lib.ListN.{length}
 use borrow.Author.Tests.{not-false, ne-eqb, leb-true, eqb-true}
-use Rattle.columns.specs.Number.{numberAt}
+use Rattle.records.specs.Number.{numberAt}
 use Rattle.columns.specs.Test.{within}
 use Rattle.columns.proofs.First.{none-applies, right-true, each}
 use Rattle.columns.proofs.Sum.{lt-or-le}

@@ -4,7 +4,6 @@
 --   verdict-yes, -no      the answer of no fault, and of a fault
 --   accepted-of           an acceptance: there is no fault, and the count is the one stated
 --   refused-of            a refusal: its fault has this number and this place, and the number is not 0
--- Assumes nothing.
 use mathlib.Core.Path.{_≡_, refl, _∙_}
 use Prim.Native.Nat.{ℕ}
 use mathlib.Core.Bool.{Bool, true, false}

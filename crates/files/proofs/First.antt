@@ -4,7 +4,6 @@
 --   first-refused     and the other way round
 --   accepted-first    acceptance: no check applies
 --   first-accepted    and the other way round, with the head's count of rows
--- Assumes nothing.
 use mathlib.Core.Path.{_≡_, refl, sym, ap, _∙_}
 use Prim.Native.Nat.{ℕ, zero, suc, _+_, _<_}
 use mathlib.Core.Bool.{Bool, true, false, not, cond, _&&_}

@@ -3,7 +3,6 @@
 --   find-sought           rows with rising ids: the search's answer by where the walk stopped
 --   corrects-sought       whether a row corrects one of the interval's, by where the walk stopped
 --   under-next, sought-here, sought-none      the walk's steps
--- Assumes nothing.
 use mathlib.Core.Path.{_≡_, refl}
 use mathlib.Core.Logic.{⊎-elim}
 use Prim.Native.Nat.{ℕ, zero, suc, _+_, _*_, _≤_, _<_}

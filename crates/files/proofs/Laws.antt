@@ -16,7 +16,6 @@
 --   head-unique, row-unique, correction-head-unique, test-unique, number-unique, check-unique, interval-unique, counting-unique,
 --   sources-unique, counting-row-unique, seek-unique      two results that a contract allows are equal; test-unique serves the
 --                       tests, number-unique `row_checks`, `row_count`, `correction_count` and `id_at`
--- Assumes nothing.
 use mathlib.Core.Path.{_≡_, refl, _∙_}
 use Prim.Native.Nat.{ℕ, zero, suc, _+_, _*_, _≤_, _<_}
 use mathlib.Core.Logic.{⊎-elim}
@@ -28,9 +27,9 @@ use lib.Dec.{eqb, ltb}
 use lib.ListN.{getD}
 use borrow.Author.Tests.{ltb-true, eqb-true, eq-eqb}
 use Rattle.columns.specs.Table.{table}
-use Rattle.columns.specs.Buffer.{put}
+use Rattle.records.specs.Buffer.{put}
 use Rattle.columns.proofs.Table.{table-length, table-at}
-use Rattle.columns.proofs.Buffer.{put-inside}
+use Rattle.records.proofs.Buffer.{put-inside}
 use Rattle.columns.proofs.First.{right-true}
 use Rattle.columns.proofs.Unique.{unique}
 use Rattle.columns.proofs.Sum.{lt-or-le}

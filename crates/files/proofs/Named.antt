@@ -3,7 +3,6 @@
 --   under-beside               what the walk has passed in the interval lies below the correction's next id
 --   bad-start, bad-row, bad-time, good-pair      8 by head and length, 8 by a row, 9, then 10
 --   own-refused, alone, paired      1 to 7 first; then nothing more without a correction, else 8 to 10
--- Assumes nothing.
 use mathlib.Core.Path.{_≡_, refl, sym, ap, _∙_}
 use Prim.Native.Nat.{ℕ, suc, _+_, _-_, _*_, _≤_, _<_}
 use mathlib.Core.Bool.{Bool, true, false, not, cond, _&&_}

@@ -1,7 +1,6 @@
 -- What the ranges of an accepted head and of an accepted row say, as plain facts.
 --   head-ranges    a head in its ranges
 --   row-ranges     a row in its ranges
--- Assumes nothing.
 use mathlib.Core.Path.{_≡_, refl}
 use Prim.Native.Nat.{ℕ, _*_, _≤_, _<_}
 use mathlib.Core.Bool.{Bool, true, false, _||_}

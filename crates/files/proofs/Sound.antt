@@ -4,7 +4,6 @@
 --   rows-sound    n rows with no fault, all inside the file, are `Rows`
 --   row-in        row i of `Rows` lies inside the file
 --   rise          a later row has a larger id
--- Assumes nothing.
 use mathlib.Core.Path.{_≡_}
 use Prim.Native.Nat.{ℕ, zero, suc, _+_, _*_, _≤_, _<_}
 use mathlib.Core.Bool.{true}

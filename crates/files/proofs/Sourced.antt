@@ -5,7 +5,6 @@
 --   named-theirs, named-own, named-none           the bytes of an id's row
 --   Sourced                                       how far the column of sources has come; sourced-none, -next, -ends: its steps
 --   own-source, their-source, source-in           the row that counts, by its source
--- Assumes nothing.
 use mathlib.Core.Path.{_≡_, refl, sym, _∙_}
 use mathlib.Core.Logic.{⊎-elim}
 use Prim.Native.Nat.{ℕ, _+_, _-_, _*_, _≤_, _<_}
@@ -16,9 +15,9 @@ use lib.Dec.{eqb, ltb}
 use lib.ListN.{length, take, drop, set}
 use borrow.Author.Tests.{lt-ltb, le-ltb, ltb-true, eq-eqb, ne-eqb, not-false}
 use Rattle.columns.specs.Table.{table}
-use Rattle.columns.specs.Buffer.{put}
+use Rattle.records.specs.Buffer.{put}
 use Rattle.columns.proofs.Table.{table-length, table-next}
-use Rattle.columns.proofs.Buffer.{put-length, put-none, put-put, set-put}
+use Rattle.records.proofs.Buffer.{put-length, put-none, put-put, set-put}
 use Rattle.columns.proofs.First.{left-true}
 use Rattle.columns.proofs.Sum.{lt-or-le}
 use Rattle.files.specs.Layout.{rowAt, rowStart, correctionStart, rowCount, correctionCount}

@@ -4,7 +4,6 @@
 --   checks-told           6 and 7, made of a row that was read
 --   Walked                how far the walk over rows has come; walk-none, -next, -stops, -ends: its steps
 --   interval-refused, interval-rows      1 to 4 first, then the rows
--- Assumes nothing.
 use mathlib.Core.Path.{_≡_, sym, ap, _∙_}
 use Prim.Native.Nat.{ℕ, suc, _+_, _-_, _*_, _≤_, _<_}
 use mathlib.Core.Bool.{Bool, true, false, not}

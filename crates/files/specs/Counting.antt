@@ -1,5 +1,4 @@
 -- Which bytes count for a row, and the rows that count (01, The files).
--- Assumes nothing.
 use Prim.Native.Nat.{ℕ, _+_}
 use mathlib.Core.Bool.{cond}
 use mathlib.Core.List.{List, []}

@@ -1,5 +1,4 @@
 -- The refusals 1 to 10 in their order (01, Numbers of refusal), each with its place.
--- Assumes nothing.
 use Prim.Native.Nat.{ℕ, zero, suc, _+_}
 use mathlib.Core.Bool.{Bool, not, cond, _&&_}
 use mathlib.Core.List.{List, [], _∷_}

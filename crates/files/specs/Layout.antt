@@ -1,11 +1,10 @@
 -- Where each field stands in its record, and a record's bytes (01, The files).
--- Assumes nothing.
 use Prim.Native.Nat.{ℕ, _+_, _*_}
 use mathlib.Core.Bool.{Bool, _&&_}
 use mathlib.Core.List.{List, _∷_, _++_}
 use lib.Dec.{eqb}
 use lib.ListN.{getD}
-use Rattle.columns.specs.Number.{numberAt, numberBytes}
+use Rattle.records.specs.Number.{numberAt, numberBytes}
 use Rattle.files.specs.declared.Head.{Head}
 use Rattle.files.specs.declared.Row.{Row}
 use Rattle.files.specs.declared.CorrectionHead.{CorrectionHead}

@@ -1,3 +1,4 @@
+pub mod Terms
 pub mod Layout
 pub mod Range
 pub mod Fault

@@ -1,5 +1,4 @@
 -- All checks of a pair of files as one ordered list (01, Numbers of refusal): whether each applies, its number, its place.
--- Assumes nothing.
 use Prim.Native.Nat.{ℕ, zero, suc, _+_, _<_}
 use mathlib.Core.Path.{_≡_}
 use mathlib.Core.Bool.{Bool, true, false, not, cond}

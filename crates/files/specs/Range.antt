@@ -1,5 +1,4 @@
 -- Every range of a head and of a row (01, The files: Ranges; Article 25 for the limits of bids).
--- Assumes nothing.
 use Prim.Native.Nat.{ℕ}
 use mathlib.Core.Bool.{Bool, _&&_, _||_}
 use mathlib.Core.List.{List, [], _∷_}

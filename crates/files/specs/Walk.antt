@@ -1,5 +1,4 @@
 -- What a walk over rows rests on, once the checks by themselves have passed: where rows stand, and that their ids rise.
--- Assumes nothing.
 use Prim.Native.Nat.{ℕ, _+_, _*_, _≤_, _<_}
 use mathlib.Core.Path.{_≡_}
 use mathlib.Core.Bool.{true}

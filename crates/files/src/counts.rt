@@ -12,7 +12,7 @@ ghost use Prim.Native.Nat.{_+_, _*_, _≤_, _<_};
 ghost use lib.Dec.{ltb, eqb};
 ghost use lib.ListN.{length};
 ghost use Rattle.columns.specs.Table.{table};
-ghost use Rattle.columns.specs.Buffer.{put};
+ghost use Rattle.records.specs.Buffer.{put};
 ghost use Rattle.files.specs.Layout.{rowCount, correctionCount};
 ghost use Rattle.files.specs.Fault.{verdictOf};
 ghost use Rattle.files.specs.Walk.{idOf, Rows};

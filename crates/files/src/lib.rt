@@ -44,6 +44,24 @@ pub struct Row {
     pub bid2: Li,
 }
 
+// The terms of a trade: the baseline in percent of full load, the limits of both tiers' bids.
+pub struct Terms {
+    pub percent: u8,
+    pub lowest1: Li,
+    pub highest1: Li,
+    pub lowest2: Li,
+    pub highest2: Li,
+}
+
+// Those of document 01.
+pub const TERMS_01: Terms = Terms {
+    percent: 50,
+    lowest1: Li(100),
+    highest1: Li(320),
+    lowest2: Li(320),
+    highest2: Li(750),
+};
+
 // A correction's head, without its mark.
 pub struct CorrectionHead {
     pub day: u32,

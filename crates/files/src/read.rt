@@ -2,7 +2,7 @@
 use crate::CorrectionHead;
 use crate::Head;
 use crate::Row;
-use columns::number_at;
+use records::number_at;
 use units::Hao;
 use units::Kwh;
 use units::Li;

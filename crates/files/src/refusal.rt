@@ -9,7 +9,7 @@ use crate::read::head_at;
 use crate::read::id_at;
 use crate::read::marked;
 use crate::read::row_at;
-use columns::number_at;
+use records::number_at;
 ghost use mathlib.Core.Path.{_≡_};
 ghost use mathlib.Core.Bool.{_&&_};
 ghost use Prim.Native.Nat.{_+_, _*_, _≤_, _<_};

@@ -1,11 +1,10 @@
 -- The figures by the definitions: which number each trial file gets.
--- Assumes nothing.
 use mathlib.Core.Path.{_≡_, refl, _∙_}
 use Prim.Native.Nat.{ℕ}
 use mathlib.Core.Bool.{true}
 use lib.Dec.{eqb}
 use borrow.Author.Tests.{eq-eqb}
-use Rattle.columns.specs.Number.{numberAt}
+use Rattle.records.specs.Number.{numberAt}
 use Rattle.files.specs.Layout.{headAt, rowAt, correctionHeadAt}
 use Rattle.files.specs.Range.{headOk, statusOk, notOffering, offering, rowTests, rowOk}
 use Rattle.files.specs.Fault.{orElse, headFault, rowFault, rowsFault, intervalFault, presentFault, pairFault, fileFault, verdictOf}

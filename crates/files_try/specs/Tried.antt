@@ -1,5 +1,4 @@
 -- An interval file of one thermal row that offers, with a capacity and a tier 1 bid to try (01, Checked figures).
--- Assumes nothing.
 use Prim.Native.Nat.{ℕ, _/_, _%_}
 use mathlib.Core.List.{List, [], _∷_}
 use Rattle.files.specs.Fault.{verdictOf, numberOf}

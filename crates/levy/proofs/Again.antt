@@ -9,7 +9,6 @@
 --     went-on                the answer, from the answer of the next call
 --     rounds-begin           what the first call asks
 --     rounds-end             the answer of all rounds
--- Assumes nothing.
 use Prim.Native.Nat.{ℕ, suc, _+_, _-_, _*_, _^_, _≤_, _<_}
 use mathlib.Core.Path.{_≡_, refl, ap, sym, _∙_, subst}
 use mathlib.Core.Bool.{cond}
@@ -22,7 +21,7 @@ use Rattle.columns.specs.Sum.{countTo, sumWhere}
 use Rattle.columns.specs.Table.{at}
 use Rattle.columns.proofs.Sum.{sum-bound, count-zero}
 use Rattle.columns.proofs.Table.{table-is}
-use Rattle.share.specs.Share.{whole}
+use Rattle.columns.specs.Sum.{whole}
 use Rattle.levy.specs.Rounds.{Standing, opens, closes, closed, next, run, opening}
 use Rattle.levy.specs.Capped.{marked}
 use Rattle.levy.specs.Asked.{standing, Columns, Round, Shut, Ready, Ended, Finished}

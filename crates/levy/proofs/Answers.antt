@@ -3,7 +3,6 @@
 --     rounds-unique         marks and what is left
 --     shortfall-unique
 --     payments-unique, cuts-unique      the columns
--- Assumes nothing.
 use Prim.Native.Nat.{ℕ}
 use mathlib.Core.Path.{_≡_, ap, sym, _∙_}
 use mathlib.Core.Bool.{Bool}

@@ -1,7 +1,6 @@
 -- Columns in arrays: the sum of the first n, and a cleared array.
 --     whole-end        the sum of the first n positions is the whole of the column
 --     take-replicate, drop-replicate     the first n of a cleared array, and the rest of it
--- Assumes nothing.
 use Prim.Native.Nat.{ℕ, zero, suc, _-_, _≤_}
 use mathlib.Core.Path.{_≡_, refl, ap, sym, _∙_}
 use mathlib.Core.List.{List, _∷_}
@@ -11,7 +10,7 @@ use lib.Seq.{getD-take, length-take-le}
 use Rattle.columns.specs.Sum.{sumTo}
 use Rattle.columns.specs.Table.{at}
 use Rattle.columns.proofs.Sum.{sum-same}
-use Rattle.share.specs.Share.{whole}
+use Rattle.columns.specs.Sum.{whole}
 
 pub whole-end : (n : ℕ) (weights : List ℕ) → n ≤ 256 → length weights ≡ 256 → (sum i : ℕ) → i ≤ n → sum ≡ sumTo i (at weights) → n ≤ i
     → sum ≡ whole (take n weights)

@@ -7,7 +7,6 @@
 --     marks-rounds       no closing round is above the number of rounds
 --     round-somebody     somebody closed in each round
 --     rounds-max         the number of rounds is the largest closing round
--- Assumes nothing.
 use Prim.Native.Nat.{ℕ, suc, _+_, _≤_, _<_}
 use mathlib.Core.Path.{_≡_, refl, sym, _∙_}
 use mathlib.Core.Logic.{_⊎_, ⊎-elim}

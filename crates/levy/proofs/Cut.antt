@@ -5,7 +5,6 @@
 --     cut-capped      somebody is cut: every payer of weight above 0 closed
 --     cuts-length     as many cuts as compensations
 --     balance         what is paid is what receivers keep
--- Assumes nothing.
 use Prim.Native.Nat.{ℕ, _+_, _-_, _≤_, _<_}
 use mathlib.Core.Path.{_≡_, ap, sym, _∙_}
 use mathlib.Core.Logic.{⊎-elim}
@@ -16,7 +15,8 @@ use lib.ListN.{length}
 use Rattle.columns.specs.Sum.{sumTo}
 use Rattle.columns.specs.Table.{at}
 use Rattle.columns.proofs.Sum.{sum-same, sum-add}
-use Rattle.share.specs.Share.{whole, share}
+use Rattle.columns.specs.Sum.{whole}
+use Rattle.share.specs.Share.{share}
 use Rattle.share.proofs.Laws.{share-le-amount, share-le-weight, shares-sum, shares-length, shares-at, shares-are-weights}
 use Rattle.levy.specs.Rounds.{final, payments, shortfall, cuts}
 use Rattle.levy.proofs.Payment.{paid-total, shortfall-none, shortfall-all, shortfall-le}

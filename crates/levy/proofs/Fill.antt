@@ -7,7 +7,6 @@
 --     open-at, open-end             the column of open weights
 --     part-fits, paid-part, paid-cap, made-at, paid-at     one payment
 --     whole-small                   the sum of such a column fits 64 bits
--- Assumes nothing.
 use Prim.Native.Nat.{ℕ, _+_, _^_, _≤_, _<_}
 use mathlib.Core.Path.{_≡_, sym, _∙_}
 use mathlib.Core.Logic.{⊎-elim}
@@ -23,7 +22,7 @@ use Rattle.columns.specs.Table.{at, table, Below}
 use Rattle.columns.proofs.Sum.{lt-or-le, sum-bound}
 use Rattle.columns.proofs.Table.{table-is}
 use Rattle.columns.proofs.Fill.{Reached, reached-none, reached-next, reached-all}
-use Rattle.share.specs.Share.{whole}
+use Rattle.columns.specs.Sum.{whole}
 use Rattle.levy.specs.Rounds.{openWeights}
 use Rattle.levy.specs.Asked.{markedOnly, Small, paidFrom, Made}
 

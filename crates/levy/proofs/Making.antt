@@ -4,7 +4,6 @@
 --     front-room                                the room lent for columns of n
 --     shortfall-final                           the shortfall that the code answers, of the last standing
 --     payable, cuttable                         what the makers of payments and cuts ask, from the answer of the rounds
--- Assumes nothing.
 use Prim.Native.Nat.{ℕ, _≤_, _<_}
 use mathlib.Core.Path.{_≡_, ap, sym, _∙_}
 use mathlib.Core.Bool.{cond}
@@ -15,7 +14,8 @@ use lib.ListN.{length, take}
 use lib.Seq.{getD-take, length-take-le}
 use Rattle.columns.specs.Table.{at, table}
 use Rattle.columns.proofs.Table.{table-length, table-same, front-long}
-use Rattle.share.specs.Share.{whole, shares}
+use Rattle.columns.specs.Sum.{whole}
+use Rattle.share.specs.Share.{shares}
 use Rattle.share.specs.Split.{Splittable}
 use Rattle.share.proofs.Laws.{shares-at, shares-length, share-le-weight}
 use Rattle.levy.specs.Rounds.{openWeights, final, paid, payments, shortfall}

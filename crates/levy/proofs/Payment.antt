@@ -16,7 +16,6 @@
 --     shortfall-all      there is a shortfall: every payer of weight above 0 closed
 --     all-capped         every payer of weight above 0 closed: the shortfall is the total less their caps
 --     shortfall-le       the shortfall is at most the total
--- Assumes nothing.
 use Prim.Native.Nat.{ℕ, _+_, _-_, _*_, _≤_, _<_}
 use mathlib.Core.Path.{_≡_, refl, ap, sym, _∙_}
 use mathlib.Core.Logic.{⊎-elim}
@@ -31,7 +30,8 @@ use Rattle.columns.specs.Sum.{sumTo, sumWhere}
 use Rattle.columns.specs.Table.{at}
 use Rattle.columns.proofs.Sum.{lt-or-le, sum-same, sum-add, sum-zero}
 use Rattle.columns.proofs.Table.{table-length, table-at, table-past}
-use Rattle.share.specs.Share.{whole, share, shares}
+use Rattle.columns.specs.Sum.{whole}
+use Rattle.share.specs.Share.{share, shares}
 use Rattle.share.proofs.Laws.{share-zero, share-under, share-near-over, share-near-short, shares-sum, shares-none, shares-length, shares-at}
 use Rattle.levy.specs.Rounds.{Standing, final, openWeights, paid, payments, shortfall}
 use Rattle.levy.specs.Capped.{marked, capsOf}

@@ -9,7 +9,6 @@
 --     open-weight      while somebody is open there is weight left
 --     weight-closed    no weight is left: every payer of weight above 0 has closed
 --     closed-weight    every payer of weight above 0 has closed: no weight is left
--- Assumes nothing.
 use Prim.Native.Nat.{ℕ, suc, _+_, _*_, _≤_, _<_}
 use mathlib.Core.Path.{_≡_, refl, _∙_}
 use mathlib.Core.Logic.{⊎-elim}
@@ -24,7 +23,7 @@ use Rattle.columns.specs.Table.{at}
 use Rattle.columns.proofs.Sum.{lt-or-le, count-some}
 use Rattle.columns.proofs.Mask.{where-zero, where-term}
 use Rattle.columns.proofs.Rank.{test-or}
-use Rattle.share.specs.Share.{whole}
+use Rattle.columns.specs.Sum.{whole}
 use Rattle.levy.specs.Rounds.{Standing, closes, closed, next, run, opening, final}
 use Rattle.levy.proofs.Step.{Sound, unmarked, run-keeps, closed-cross, closed-caps-le, closed-weights-le, closes-owe, mark-next, mark-past, next-money, next-weight, next-sound, opening-sound, opening-mark, final-ends, inside-weight}
 

@@ -3,7 +3,6 @@
 --     pays-thermal, pays-other          who pays, at each of the two returns
 --     none-of, thermal-of, other-of     the figure at each of the three returns
 --     weight-most, cap-most             the largest weight and cap within the ranges of document 01
--- Assumes nothing.
 use Prim.Native.Nat.{ℕ, _*_, _/_, _≤_, zero-le}
 use mathlib.Core.Path.{_≡_}
 use mathlib.Core.Bool.{Bool, true, false, cond, not, _&&_}

@@ -22,7 +22,6 @@
 --     final-run           the last standing, with any such number of rounds
 --     run-keeps           what each round keeps, all rounds keep
 --     run-ends            after enough rounds nobody closes
--- Assumes nothing.
 use Prim.Native.Nat.{ℕ, zero, suc, _+_, _-_, _*_, _≤_, _<_}
 use mathlib.Core.Path.{_≡_, refl, ap, sym, _∙_}
 use mathlib.Core.Logic.{⊎-elim}
@@ -40,7 +39,7 @@ use Rattle.columns.proofs.Sum.{lt-or-le, count-le, count-none, count-zero}
 use Rattle.columns.proofs.Mask.{where-same, where-parts, where-sub, where-whole, where-none, where-all, where-cross, where-term, count-parts}
 use Rattle.columns.proofs.Table.{table-length, table-at, table-past}
 use Rattle.columns.proofs.Rank.{test-or}
-use Rattle.share.specs.Share.{whole}
+use Rattle.columns.specs.Sum.{whole}
 use Rattle.levy.specs.Rounds.{Standing, isOpen, opens, closes, closed, next, run, opening, final}
 use Rattle.levy.specs.Capped.{inside, capsOf}
 pub use Rattle.levy.specs.Capped.{marked}

@@ -5,7 +5,6 @@
 --     turn-end         after the last one the round is that of `next` and `closed`
 --     products         both products of the closing test fit
 --     caps-fit, weights-fit     the sums fit
--- Assumes nothing.
 use Prim.Native.Nat.{ℕ, suc, _+_, _*_, _^_, _≤_, _<_}
 use mathlib.Core.Path.{_≡_, refl, ap, sym, _∙_}
 use mathlib.Core.Bool.{Bool, true, false, cond, _&&_}

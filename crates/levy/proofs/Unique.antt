@@ -5,7 +5,6 @@
 --     capped-same      two sets with the property have the same payers
 --     capped-unique    a set with the property is the set of those that closed
 -- Two sets are compared by their rates; rounds play no part in it.
--- Assumes nothing.
 use Prim.Native.Nat.{ℕ, _+_, _-_, _*_, _≤_, _<_}
 use mathlib.Core.Path.{_≡_, refl, ap, sym, _∙_, subst}
 use mathlib.Core.Logic.{⊎-elim}

@@ -1,5 +1,5 @@
 -- What the functions of the rounds ask of their callers, and what they answer. Their columns of n positions stand in arrays of
--- 256; the numbers are those of the ranges, with room for what later requests need. Assumes nothing.
+-- 256; the numbers are those of the ranges, with room for what later requests need.
 use Prim.Native.Nat.{ℕ, _+_, _-_, _^_, _≤_, _<_}
 use mathlib.Core.Path.{_≡_}
 use mathlib.Core.Bool.{cond}
@@ -8,7 +8,7 @@ use lib.Dec.{eqb}
 use lib.ListN.{length, take, drop, replicate}
 use Rattle.columns.specs.Sum.{sumWhere}
 use Rattle.columns.specs.Table.{at}
-use Rattle.share.specs.Share.{whole}
+use Rattle.columns.specs.Sum.{whole}
 use Rattle.levy.specs.Rounds.{Standing, opens, closed, next, run, final, paid, shortfall}
 use Rattle.levy.specs.declared.Closed.{Closed}
 use Rattle.levy.specs.declared.Rest.{Rest}

@@ -1,5 +1,5 @@
 -- Which payers are capped (01, Rounds; Article 31), said of any set of payers and without a word of rounds.
--- A set p answers yes or no at each position; only payers, positions of weight above 0, count. Assumes nothing.
+-- A set p answers yes or no at each position; only payers, positions of weight above 0, count.
 use Prim.Native.Nat.{ℕ, _-_, _*_, _≤_, _<_}
 use mathlib.Core.Path.{_≡_}
 use mathlib.Core.Bool.{Bool, true, false, _&&_, not}

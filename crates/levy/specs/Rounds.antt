@@ -1,5 +1,5 @@
 -- Rounds (01, Rounds; Articles 31, 32): a total is shared over weights ws under caps cs; both are columns of one length.
--- Nothing here knows of kinds, tariffs or regions. Assumes nothing.
+-- Nothing here knows of kinds, tariffs or regions.
 use Prim.Native.Nat.{ℕ, zero, suc, _-_, _*_}
 use mathlib.Core.Bool.{Bool, cond, _&&_}
 use mathlib.Core.List.{List}
@@ -7,7 +7,8 @@ use lib.Dec.{leb, ltb, eqb}
 use lib.ListN.{length, replicate}
 use Rattle.columns.specs.Sum.{sumTo, countTo}
 use Rattle.columns.specs.Table.{at, table}
-use Rattle.share.specs.Share.{whole, share, shares}
+use Rattle.columns.specs.Sum.{whole}
+use Rattle.share.specs.Share.{share, shares}
 
 -- how things stand between two rounds: each payer's closing round (0 while it has not closed), the money and the weight
 -- that are left, and how many rounds somebody closed in

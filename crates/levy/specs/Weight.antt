@@ -1,5 +1,5 @@
 -- Who pays, by which weight, up to which cap (01, Weights and caps; Articles 21, 29, 30). The row's baseline is an argument:
--- half load in the base. Assumes nothing.
+-- half load in the base.
 use Prim.Native.Nat.{ℕ, _+_, _-_, _*_, min}
 use mathlib.Core.Bool.{Bool, cond, not, _&&_}
 use lib.Dec.{leb, eqb}

@@ -6,7 +6,7 @@ ghost use mathlib.Core.Bool.{cond, _&&_};
 ghost use Prim.Native.Nat.{_*_, _^_, _≤_, _<_};
 ghost use lib.Dec.{leb, ltb, eqb};
 ghost use lib.ListN.{length, take, replicate};
-ghost use Rattle.share.specs.Share.{whole};
+ghost use Rattle.columns.specs.Sum.{whole};
 ghost use Rattle.levy.specs.Asked.{standing, Columns, Round, Shut, Ready, Ended, Finished, Short};
 
 // Whether an open payer owes its cap or more. Both sides are whole numbers: there is no division.

@@ -5,7 +5,6 @@
 --     pay-asked      what the payments of a case ask
 --     told, made     what the code answers is the outcome, and the payments, of the case
 --     p4, p5, four   what the cases come to, and with -paid what is paid in them
--- Assumes nothing.
 use Prim.Native.Nat.{ℕ, zero, suc, _≤_, zero-le}
 use mathlib.Core.Path.{_≡_, refl, ap, _∙_}
 use mathlib.Core.Bool.{Bool, true, _&&_}
@@ -16,7 +15,8 @@ use borrow.Author.Tests.{eq-eqb}
 use Rattle.columns.specs.Table.{at, table}
 use Rattle.columns.proofs.First.{both-left, both-right}
 use Rattle.columns.specs.Sum.{sumTo, countTo}
-use Rattle.share.specs.Share.{whole, quota, rest, turn, before, rank, left, share}
+use Rattle.columns.specs.Sum.{whole}
+use Rattle.share.specs.Share.{quota, rest, turn, before, rank, left, share}
 use Rattle.levy.specs.Rounds.{Standing, closes, closed, next, run, opening, final, openWeights, paid, payments, shortfall}
 use Rattle.levy.specs.Asked.{standingOf, Finished, Short, Payable}
 use Rattle.levy.specs.declared.Rest.{Rest}

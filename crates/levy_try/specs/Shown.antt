@@ -1,4 +1,4 @@
--- What a worked case shows: rounds and shortfall on one line, payments on the next. Assumes nothing.
+-- What a worked case shows: rounds and shortfall on one line, payments on the next.
 use Prim.Native.Nat.{ℕ, _<_}
 use mathlib.Core.Path.{_≡_}
 use mathlib.Core.List.{List, [], _∷_}

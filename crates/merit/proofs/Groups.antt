@@ -11,7 +11,6 @@
 --     cheaper-skip     nothing is added by orders at which no band has a width
 --     cheaper-all      past every order stand all bands
 --     cheaper-le       before any order stand at most all bands
--- Assumes nothing.
 use Prim.Native.Nat.{ℕ, suc, _+_, _-_, _%_, _≤_, _<_, zero-le}
 use mathlib.Core.Path.{_≡_, refl, ap, sym, _∙_}
 use mathlib.Core.Logic.{_⊎_, inl, inr, ⊎-elim}
@@ -25,8 +24,8 @@ use Rattle.columns.specs.Sum.{sumTo}
 use Rattle.columns.specs.Table.{at, Below}
 use Rattle.columns.proofs.Sum.{lt-or-le, sum-same, sum-add, sum-le, sum-zero}
 use Rattle.columns.proofs.Table.{table-length, table-at, table-past}
-use Rattle.share.specs.Share.{whole}
-use Rattle.share.proofs.Laws.{whole-table}
+use Rattle.columns.specs.Sum.{whole}
+use Rattle.columns.proofs.Whole.{whole-table}
 use Rattle.merit.specs.Band.{Tier, one, two, Bands, widths, rows, orderAt}
 use Rattle.merit.specs.Call.{cheaperIn, cheaper, group}
 use Rattle.merit.specs.Walk.{tierOf}

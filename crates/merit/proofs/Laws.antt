@@ -17,7 +17,6 @@
 --     price-le             it is at most B if all bids are
 --     width1-le, width2-le     a band's width is at most 25 and 100 kWh for each MW
 --     calls-unique, price-unique, width1-unique, width2-unique     two results that the contract allows are equal
--- Assumes nothing.
 use Prim.Native.Nat.{ℕ, zero, suc, _+_, _-_, _*_, _≤_, _<_, min, zero-le}
 use mathlib.Core.Path.{_≡_, ap, sym, _∙_}
 use mathlib.Core.Logic.{_⊎_, inl, inr, ⊎-elim}
@@ -33,8 +32,10 @@ use Rattle.columns.specs.Table.{at, Below}
 use Rattle.columns.proofs.Sum.{lt-or-le, sum-same, sum-add, sum-zero, term-le, max-term, max-bound, max-reached}
 use Rattle.columns.proofs.Table.{table-length, table-at, table-past}
 use Rattle.columns.proofs.Rank.{test-or}
-use Rattle.share.specs.Share.{whole, share, shares}
-use Rattle.share.proofs.Laws.{share-zero, share-le-amount, share-le-weight, share-is-weight, shares-sum, shares-at, shares-length, whole-table}
+use Rattle.columns.specs.Sum.{whole}
+use Rattle.share.specs.Share.{share, shares}
+use Rattle.columns.proofs.Whole.{whole-table}
+use Rattle.share.proofs.Laws.{share-zero, share-le-amount, share-le-weight, share-is-weight, shares-sum, shares-at, shares-length}
 use Rattle.files.specs.declared.Row.{Row}
 use Rattle.merit.specs.Band.{Tier, one, two, Bands, width1, width2, widths, bids, rows, orderAt}
 use Rattle.merit.specs.Call.{cheaper, group, due, called, calls, uncovered}

@@ -2,7 +2,6 @@
 --     next-from     the next order from k on is not before k
 --     next-empty    no band with a width has an order from k on and before it
 --     next-less     so the walk ends
--- Assumes nothing.
 use Prim.Native.Nat.{ℕ, zero, suc, _+_, _-_, _≤_, _<_}
 use mathlib.Core.Path.{_≡_}
 use mathlib.Core.Logic.{⊎-elim}

@@ -1,5 +1,4 @@
 -- What the bands of one order are called for, from the code's steps: each lemma in the shape of one need.
--- Assumes nothing.
 use Prim.Native.Nat.{ℕ, _*_, _%_, _≤_, _<_, min}
 use mathlib.Core.Path.{_≡_, refl, ap, sym, _∙_}
 use mathlib.Core.List.{List}
@@ -10,9 +9,11 @@ use borrow.Author.Tests.{eq-eqb, ne-eqb}
 use Rattle.columns.specs.Table.{at, table}
 use Rattle.columns.proofs.Sum.{sum-bound}
 use Rattle.columns.proofs.Table.{table-length, front-long}
-use Rattle.share.specs.Share.{whole, shares}
+use Rattle.columns.specs.Sum.{whole}
+use Rattle.share.specs.Share.{shares}
 use Rattle.share.specs.Split.{Splittable}
-use Rattle.share.proofs.Laws.{shares-are-weights, whole-table}
+use Rattle.columns.proofs.Whole.{whole-table}
+use Rattle.share.proofs.Laws.{shares-are-weights}
 use Rattle.merit.specs.Band.{Tier, one, two, orderOf}
 use Rattle.merit.specs.Call.{group}
 use Rattle.merit.specs.Ready.{bandsIn, ReadyIn, Columns, Ready}

@@ -1,5 +1,4 @@
 -- What the small steps of the code come to, each lemma in the shape of one need.
--- Assumes nothing.
 use Prim.Native.Nat.{ℕ, _+_, _-_, _*_, _%_, _≤_, _<_, min, max}
 use mathlib.Core.Path.{_≡_, refl, ap, sym, _∙_}
 use mathlib.Core.Bool.{cond}
@@ -16,8 +15,8 @@ use Rattle.columns.proofs.Table.{table-list}
 use Rattle.columns.proofs.Fill.{Reached, reached-next, reached-all}
 use Rattle.units.specs.Load.{forty, half}
 use Rattle.files.specs.declared.Row.{Row}
-use Rattle.share.specs.Share.{whole}
-use Rattle.share.proofs.Laws.{whole-table}
+use Rattle.columns.specs.Sum.{whole}
+use Rattle.columns.proofs.Whole.{whole-table}
 use Rattle.merit.specs.Band.{Tier, one, two, width1, width2, orderOf}
 use Rattle.merit.specs.Price.{price}
 use Rattle.merit.specs.Ready.{bandsIn, ReadyIn}

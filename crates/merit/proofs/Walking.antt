@@ -6,7 +6,6 @@
 --     roomy          and no call wraps
 --     ended-met      the walk may end as soon as nothing is left
 --     ended-past     or past every order
--- Assumes nothing.
 use Prim.Native.Nat.{ℕ, suc, _+_, _-_, _%_, _≤_, _<_, min, zero-le}
 use mathlib.Core.Path.{_≡_, refl, ap, sym, _∙_}
 use mathlib.Core.Logic.{_⊎_, inl, inr, ⊎-elim}
@@ -24,7 +23,8 @@ use Rattle.columns.specs.Table.{at, table}
 use Rattle.columns.proofs.Sum.{lt-or-le, sum-same, sum-next, sum-shorter}
 use Rattle.columns.proofs.Rank.{test-or}
 use Rattle.columns.proofs.Table.{table-length, table-at, table-past, table-is}
-use Rattle.share.specs.Share.{whole, share, shares}
+use Rattle.columns.specs.Sum.{whole}
+use Rattle.share.specs.Share.{share, shares}
 use Rattle.share.proofs.Laws.{shares-at, shares-length}
 use Rattle.merit.specs.Band.{Tier, one, two, Bands, widths, rows, orderAt}
 use Rattle.merit.specs.Call.{cheaper, group, due, called, calls, uncovered}

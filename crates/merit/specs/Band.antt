@@ -1,5 +1,4 @@
 -- The two bands of an offering row below its baseline (01, Calls and prices; Articles 23 to 25).
--- Assumes nothing.
 use Prim.Native.Nat.{ℕ, _+_, _-_, _*_, max}
 use mathlib.Core.Bool.{cond}
 use mathlib.Core.List.{List}

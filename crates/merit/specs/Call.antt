@@ -1,12 +1,12 @@
 -- What each band is called for (01, Calls and prices; Article 26), without the order in which a walk finds it out.
--- Assumes nothing.
 use Prim.Native.Nat.{ℕ, _+_, _-_, min}
 use mathlib.Core.Bool.{cond}
 use mathlib.Core.List.{List}
 use lib.Dec.{ltb, eqb}
 use Rattle.columns.specs.Sum.{sumTo}
 use Rattle.columns.specs.Table.{at, table}
-use Rattle.share.specs.Share.{whole, share}
+use Rattle.columns.specs.Sum.{whole}
+use Rattle.share.specs.Share.{share}
 use Rattle.merit.specs.Band.{Tier, one, two, Bands, widths, rows, orderAt}
 
 -- the widths of a tier's bands that come before order k, added up

@@ -1,5 +1,4 @@
 -- A tier's clearing price (01, Calls and prices; Article 27).
--- Assumes nothing.
 use Prim.Native.Nat.{ℕ}
 use mathlib.Core.Bool.{cond}
 use mathlib.Core.List.{List}

@@ -1,5 +1,4 @@
 -- What `calls` asks of its columns, and what it leaves in them.
--- Assumes nothing.
 use Prim.Native.Nat.{ℕ, _≤_, _<_}
 use mathlib.Core.Path.{_≡_}
 use mathlib.Core.List.{List}

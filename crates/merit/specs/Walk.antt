@@ -1,5 +1,4 @@
 -- What the steps of the walk come to. No promise of a public function speaks of them.
--- Assumes nothing.
 use Prim.Native.Nat.{ℕ, zero, suc, _+_, _%_, _^_, _<_, min}
 use mathlib.Core.Path.{_≡_}
 use mathlib.Core.Bool.{cond}
@@ -7,7 +6,8 @@ use mathlib.Core.List.{List}
 use lib.Dec.{ltb, eqb}
 use lib.ListN.{length, set}
 use Rattle.columns.specs.Table.{at, table}
-use Rattle.share.specs.Share.{whole, shares}
+use Rattle.columns.specs.Sum.{whole}
+use Rattle.share.specs.Share.{shares}
 use Rattle.merit.specs.Band.{Tier, one, two, Bands, rows, orderOf}
 use Rattle.merit.specs.Call.{group}
 

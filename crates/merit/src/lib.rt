@@ -5,7 +5,7 @@ ghost use Prim.Native.Nat.{_*_, _<_, _≤_, max};
 ghost use lib.Dec.{ltb, eqb};
 ghost use lib.ListN.{length};
 ghost use Rattle.columns.specs.Table.{table};
-ghost use Rattle.share.specs.Share.{whole};
+ghost use Rattle.columns.specs.Sum.{whole};
 ghost use Rattle.share.specs.Split.{Splittable};
 ghost use Rattle.merit.specs.Band.{one, two, width1, width2, orderOf};
 ghost use Rattle.merit.specs.Price.{price};

@@ -9,7 +9,6 @@
 --     at-baseline           nor does a row metered at its baseline or above
 --     compensation-most     at most 16,600,000 fen for a capacity of up to 2,000 MW, half load as its baseline, and prices up to the highest bids
 --     paid1-unique, paid2-unique, compensation-unique     two results that the contract allows are equal
--- Assumes nothing.
 use Prim.Native.Nat.{ℕ, _+_, _*_, _≤_, _<_}
 use mathlib.Core.Path.{_≡_}
 use mathlib.Core.Logic.{⊎-elim}

@@ -1,5 +1,4 @@
 -- What a called row is paid (01, Compensation; Article 27). The row's baseline is an argument: half load in the base.
--- Assumes nothing.
 use Prim.Native.Nat.{ℕ, _+_, _-_, min, max}
 use mathlib.Core.Bool.{cond, _&&_}
 use lib.Dec.{ltb, eqb}

@@ -5,15 +5,14 @@
 --   written-told, written-left     the statement is written: the same
 --   few-rows                   an accepted pair has at most 256 rows
 --   read-of                    the sources that the files' reader made are those of the rows that count
--- Assumes nothing.
 use Prim.Native.Nat.{ℕ, _≤_, _<_}
 use mathlib.Core.Path.{_≡_, sym, ap, _∙_}
 use mathlib.Core.List.{List}
 use native.Mathlib.Omega.{arith}
 use lib.ListN.{length}
-use Rattle.columns.specs.Buffer.{put}
+use Rattle.records.specs.Buffer.{put}
 use Rattle.columns.specs.Table.{table}
-use Rattle.columns.proofs.Buffer.{put-length}
+use Rattle.records.proofs.Buffer.{put-length}
 use Rattle.columns.proofs.Table.{table-length}
 use Rattle.files.specs.Fault.{verdictOf}
 use Rattle.files.specs.Counting.{sourceOf}

@@ -1,7 +1,6 @@
 -- The bands that the code fills are those of the definition, so its calls and prices are too.
 --   bands-ready     they are such as the walk asks for
 --   bands-cleared   what the market made of them is what the definition says
--- Assumes nothing.
 use Prim.Native.Nat.{ℕ, _<_}
 use mathlib.Core.Path.{_≡_, sym, _∙_}
 use mathlib.Core.Bool.{true, false}

@@ -6,14 +6,13 @@
 --   compensated-levied     how far the settlement has come then
 --   compensated            the same, from what the stages before hand on
 --   read-long, called-long a head is there; a call for each row
--- Assumes nothing.
 use Prim.Native.Nat.{ℕ, _≤_, _<_}
 use mathlib.Core.Path.{_≡_, ap, _∙_}
 use mathlib.Core.List.{List}
 use native.Mathlib.Omega.{arith}
 use lib.ListN.{length, take}
 use Rattle.columns.specs.Table.{at}
-use Rattle.share.specs.Share.{whole}
+use Rattle.columns.specs.Sum.{whole}
 use Rattle.files.specs.Layout.{headAt}
 use Rattle.files.specs.Counting.{countingRow}
 use Rattle.files.specs.declared.Head.{Head}

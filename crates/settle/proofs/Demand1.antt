@@ -17,7 +17,6 @@
 --   settled-accepted, settled-room     a settlement: the files are accepted, and the buffer is long enough
 --   accepted-settled   and the other way round
 -- The list of the checks is `settleOrder` (specs/Promise.antt); `Earliest` and `NoneApplies` are of files (specs/Order.antt).
--- Assumes nothing.
 use Prim.Native.Nat.{ℕ, zero, suc, _+_, _≤_, _<_, zero-le}
 use mathlib.Core.Path.{_≡_, refl, sym, ap, _∙_}
 use mathlib.Core.Logic.{_⊎_, inl, inr, ⊎-elim}
@@ -29,11 +28,11 @@ use lib.Dec.{leb, ltb, eqb}
 use lib.ListN.{length, getD, take, length-append, List·getD-append}
 use lib.Seq.{getD-at}
 use borrow.Author.Tests.{lt-ltb, le-ltb, ltb-true, ltb-false, leb-true, eq-eqb, ne-eqb, eqb-true, eqb-false}
-use Rattle.columns.specs.Buffer.{put}
+use Rattle.records.specs.Buffer.{put}
 use Rattle.columns.specs.Table.{at}
 use Rattle.columns.proofs.First.{left-true, right-true}
 use Rattle.columns.proofs.Sum.{lt-or-le}
-use Rattle.columns.proofs.Buffer.{put-length, put-after, take-put}
+use Rattle.records.proofs.Buffer.{put-length, put-after, take-put}
 use Rattle.files.specs.Layout.{headAt, rowAt, rowCount, correctionCount}
 use Rattle.files.specs.Fault.{Fault, fault, none, headChecks, sameTime, fileFault, verdictOf}
 use Rattle.files.specs.Order.{Refusal, refusal, placed, rowsOrder, eights, namesOrder, presentOrder, fileOrder, noRefusal, Earliest, NoneApplies}

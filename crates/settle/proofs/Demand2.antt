@@ -4,13 +4,12 @@
 --   statement-read-line    line i read back is that of row i: its id and its figures
 --   statement-figures      all figures read back are those of the rules, `figures`
 --   settle-unique          two results that the contract of `settle` allows are equal
--- Assumes nothing.
 use Prim.Native.Nat.{ℕ, _+_, _<_}
 use mathlib.Core.Path.{_≡_, refl, sym, ap, _∙_}
 use mathlib.Core.List.{List, _++_, append-assoc}
 use native.Mathlib.Omega.{arith}
 use lib.ListN.{length, drop}
-use Rattle.columns.specs.Buffer.{put}
+use Rattle.records.specs.Buffer.{put}
 use Rattle.columns.specs.Table.{at, table, Below}
 use Rattle.columns.proofs.Table.{table-length, table-at, table-is}
 use Rattle.files.specs.Layout.{headAt, rowCount}

@@ -15,7 +15,7 @@
 --   rounds-at-most-payers     Rounds in which somebody closes number at most those payers ..
 --     rounds-are-closings, somebody-closes    .. and the rounds told are those.
 --   demand3, accepted-demand3, statement-demand3     all of it: of figures, of an accepted pair, of a statement's bytes
--- Nothing is asked of the rows: the sentences hold of any. Assumes nothing.
+-- Nothing is asked of the rows: the sentences hold of any.
 use Prim.Native.Nat.{ℕ, _+_, _-_, _*_, _≤_, _<_}
 use mathlib.Core.Path.{_≡_, refl, ap, _∙_}
 use mathlib.Core.Logic.{⊎-elim}
@@ -28,7 +28,7 @@ use borrow.Author.Tests.{lt-ltb, eq-eqb, ne-eqb}
 use Rattle.columns.specs.Sum.{sumTo, sumWhere, maxTo}
 use Rattle.columns.specs.Table.{at}
 use Rattle.columns.proofs.Sum.{sum-same, sum-add}
-use Rattle.share.specs.Share.{whole}
+use Rattle.columns.specs.Sum.{whole}
 use Rattle.files.specs.Layout.{headAt, rowCount}
 use Rattle.files.specs.Fault.{verdictOf}
 use Rattle.files.specs.Counting.{countingRow}

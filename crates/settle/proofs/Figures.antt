@@ -1,7 +1,6 @@
 -- The worked figures of document 01, proved together.
 --   all-right   one test, computed by the checker over the whole table
 --   worked-figures   every line of the table works out to what the paper says
--- Assumes nothing.
 use Prim.Native.Nat.{ℕ, zero, suc, _<_}
 use native.Mathlib.Nat.{le-of-suc-le-suc, not-suc-le-zero}
 use mathlib.Core.Path.{_≡_, refl, sym, subst, ap₂}
@@ -12,9 +11,10 @@ use lib.ListN.{length, getD}
 use borrow.Author.Tests.{eqb-true}
 use Rattle.columns.specs.Sum.{sumTo, countTo, maxTo}
 use Rattle.columns.specs.Table.{table}
-use Rattle.columns.specs.Number.{numberAt, numberBytes}
-use Rattle.columns.specs.Buffer.{put}
-use Rattle.share.specs.Share.{whole, quota, rest, turn, before, rank, left, share, shares}
+use Rattle.records.specs.Number.{numberAt, numberBytes}
+use Rattle.records.specs.Buffer.{put}
+use Rattle.columns.specs.Sum.{whole}
+use Rattle.share.specs.Share.{quota, rest, turn, before, rank, left, share, shares}
 use Rattle.files.specs.Layout.{headAt, rowAt, correctionHeadAt}
 use Rattle.files.specs.Range.{headOk, statusOk, notOffering, offering, rowTests, rowOk}
 use Rattle.files.specs.Fault.{orElse, headFault, rowFault, rowsFault, intervalFault, findId, pairFault, fileFault}

@@ -5,7 +5,6 @@
 --   ranged                           what the ranges of an accepted row give the code
 --   filled, filled-part, kept-part   a filled column, and the filled front of an array and the rest of it
 --   weigh-unique                     two columns that the contract of `weigh` allows are equal; so of its other column
--- Assumes nothing.
 use Prim.Native.Nat.{ℕ, _+_, _*_, _≤_, _<_}
 use mathlib.Core.Path.{_≡_, ap, sym, _∙_}
 use mathlib.Core.Bool.{Bool}

@@ -11,7 +11,6 @@
 --   figures-sized                    every figure of a statement by its bound (record Sized)
 --   head-fits, line-fits             so the statement's head and lines fit their fields
 --   accepted-rows-ranged, accepted-sized, accepted-head-fits, accepted-line-fits     the same of an accepted pair of files
--- Assumes nothing.
 use Prim.Native.Nat.{ℕ, _+_, _≤_, _<_}
 use mathlib.Core.Path.{_≡_, refl, sym, _∙_}
 use mathlib.Core.List.{List}
@@ -21,9 +20,9 @@ use lib.ListN.{length}
 use Rattle.columns.specs.Table.{at}
 use Rattle.columns.proofs.Sum.{count-le}
 use Rattle.columns.proofs.Table.{table-length, table-most}
-use Rattle.columns.proofs.Reading.{number-bound}
-use Rattle.share.specs.Share.{whole}
-use Rattle.share.proofs.Laws.{whole-bound}
+use Rattle.records.proofs.Reading.{number-bound}
+use Rattle.columns.specs.Sum.{whole}
+use Rattle.columns.proofs.Whole.{whole-bound}
 use Rattle.files.specs.Layout.{rowStart, headAt, rowAt}
 use Rattle.files.specs.Fault.{verdictOf}
 use Rattle.files.specs.Counting.{countingRow}

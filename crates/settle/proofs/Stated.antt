@@ -5,14 +5,14 @@
 --   levied-lines      the lines may be put
 --   levied-figures    every figure is the definition's
 --   levied-bytes      the bytes put are those of the definition's statement
--- Assumes nothing.
 use Prim.Native.Nat.{ℕ, _+_, _≤_}
 use mathlib.Core.Path.{_≡_, sym, ap, _∙_, fun-ext}
 use mathlib.Core.List.{List, _++_}
 use native.Mathlib.Omega.{arith}
 use lib.ListN.{length}
-use Rattle.columns.specs.Buffer.{put}
-use Rattle.share.specs.Share.{whole, shares}
+use Rattle.records.specs.Buffer.{put}
+use Rattle.columns.specs.Sum.{whole}
+use Rattle.share.specs.Share.{shares}
 use Rattle.share.proofs.Laws.{shares-length}
 use Rattle.files.specs.Layout.{headAt}
 use Rattle.files.specs.Counting.{countingRow}

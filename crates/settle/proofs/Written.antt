@@ -6,15 +6,14 @@
 --   lines-all     after the last turn all lines are put
 --   statement-put  the head, and lines behind it, are one run
 --   line-made     a line made of its fields, its money read off the columns
--- Assumes nothing.
 use mathlib.Core.Path.{_≡_, sym, ap, _∙_}
 use mathlib.Core.List.{List, [], _∷_, _++_, append-nil}
 use Prim.Native.Nat.{ℕ, _+_, _*_, _≤_}
 use native.Mathlib.Omega.{arith}
 use lib.ListN.{length}
-use Rattle.columns.specs.Buffer.{put}
+use Rattle.records.specs.Buffer.{put}
 use Rattle.columns.specs.Table.{at, table}
-use Rattle.columns.proofs.Buffer.{put-length, put-none, put-put}
+use Rattle.records.proofs.Buffer.{put-length, put-none, put-put}
 use Rattle.columns.proofs.Table.{table-next, table-length}
 use Rattle.units.specs.declared.Fen.{Fen}
 use Rattle.statement.specs.Statement.{statementHeadBytes, lineBytes, linesBytes}

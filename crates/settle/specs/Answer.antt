@@ -1,11 +1,10 @@
 -- The engine's answer to any two files and any buffer, and the buffer afterwards (01, Numbers of refusal).
--- Assumes nothing.
 use Prim.Native.Nat.{ℕ}
 use mathlib.Core.Bool.{cond}
 use mathlib.Core.List.{List}
 use lib.Dec.{ltb, eqb}
 use lib.ListN.{length}
-use Rattle.columns.specs.Buffer.{put}
+use Rattle.records.specs.Buffer.{put}
 use Rattle.files.specs.Layout.{headAt, rowCount}
 use Rattle.files.specs.Fault.{Fault, fault, none, orElse, fileFault}
 use Rattle.files.specs.Counting.{countingRow}

@@ -1,4 +1,4 @@
--- What the engine's parts ask of their callers. Assumes nothing.
+-- What the engine's parts ask of their callers.
 use Prim.Native.Nat.{ℕ, _*_, _≤_, _<_}
 use mathlib.Core.Path.{_≡_}
 use mathlib.Core.List.{List}
@@ -14,7 +14,7 @@ use Rattle.files.specs.declared.Verdict.the-variants.{Accepted}
 use Rattle.merit.specs.Band.{one, two, Bands, width1, width2, bandsOf}
 use Rattle.merit.specs.Call.{calls, uncovered}
 use Rattle.merit.specs.Price.{price}
-use Rattle.share.specs.Share.{whole}
+use Rattle.columns.specs.Sum.{whole}
 use Rattle.levy.specs.Rounds.{Standing, payments}
 use Rattle.levy.specs.declared.Rest.{Rest}
 use Rattle.statement.specs.Statement.{lineStart}

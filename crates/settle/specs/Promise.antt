@@ -1,5 +1,5 @@
 -- What the promises of the engine speak of besides its definitions: all its checks in order, the figures that a
--- statement's bytes hold, and demand 3 said of any figures. Assumes nothing.
+-- statement's bytes hold, and demand 3 said of any figures.
 use Prim.Native.Nat.{ℕ, _+_, _-_, _*_, _≤_, _<_}
 use mathlib.Core.Path.{_≡_}
 use mathlib.Core.Bool.{Bool}
@@ -8,7 +8,7 @@ use lib.Dec.{ltb}
 use lib.ListN.{length}
 use Rattle.columns.specs.Sum.{sumTo, sumWhere, maxTo}
 use Rattle.columns.specs.Table.{at, table}
-use Rattle.share.specs.Share.{whole}
+use Rattle.columns.specs.Sum.{whole}
 use Rattle.levy.specs.Rounds.{payers}
 use Rattle.levy.specs.Capped.{marked, outside, capsOf, leftBy, weightsBeside, Capped}
 use Rattle.files.specs.Layout.{rowCount}

@@ -1,10 +1,9 @@
 -- The rules put together: from a head and the rows that count to the figures of a statement (01, Calls and prices to Rounds).
--- Assumes nothing.
 use Prim.Native.Nat.{ℕ}
 use mathlib.Core.List.{List}
 use Rattle.columns.specs.Table.{at, table}
 use Rattle.units.specs.Load.{half}
-use Rattle.share.specs.Share.{whole}
+use Rattle.columns.specs.Sum.{whole}
 use Rattle.files.specs.declared.Head.{Head}
 use Rattle.files.specs.declared.Row.{Row}
 use Rattle.merit.specs.Band.{one, two, bandsOf}

@@ -1,5 +1,4 @@
 -- The statement that the figures make (01, The files).
--- Assumes nothing.
 use Prim.Native.Nat.{ℕ}
 use mathlib.Core.List.{List, _++_}
 use Rattle.columns.specs.Table.{at, table}

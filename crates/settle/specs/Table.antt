@@ -1,6 +1,5 @@
 -- The worked figures P1 to P11 of document 01 as one table: what the definitions work out beside what the paper says.
 -- P1 to P5 go the whole way, from the bytes of interval X through the settlement to the statement's bytes read back.
--- Assumes nothing.
 use Prim.Native.Nat.{ℕ, _/_, _%_}
 use mathlib.Core.Bool.{Bool, true, false, _&&_}
 use mathlib.Core.List.{List, [], _∷_, _++_}

@@ -9,7 +9,7 @@ use units::Kwh;
 ghost use mathlib.Core.Path.{_≡_};
 ghost use mathlib.Core.List.{_++_};
 ghost use lib.ListN.{length};
-ghost use Rattle.columns.specs.Buffer.{put};
+ghost use Rattle.records.specs.Buffer.{put};
 ghost use Rattle.statement.specs.Statement.{statementHeadBytes, linesBytes};
 ghost use Rattle.settle.specs.Statement.{lineOf, linesOf};
 ghost use Rattle.settle.specs.Asked.{columns, idAt, Within, Lines};

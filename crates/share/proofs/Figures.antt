@@ -5,12 +5,12 @@
 --     wide            products that pass 64 bits, with a weight above 2^63
 --     wide-tie        products that pass 64 bits, equal remainders, the second goes first
 --     no-weight       nobody has a weight
--- Assumes nothing.
 use mathlib.Core.Path.{_≡_, refl}
 use mathlib.Core.List.{[], _∷_}
 use Rattle.columns.specs.Sum.{sumTo, countTo, findTo}
 use Rattle.columns.specs.Table.{table}
-use Rattle.share.specs.Share.{whole, quota, rest, turn, before, rank, left, share, shares}
+use Rattle.columns.specs.Sum.{whole}
+use Rattle.share.specs.Share.{quota, rest, turn, before, rank, left, share, shares}
 use Rattle.share.specs.Process.{among, next, handOut, oneByOne}
 
 pub p7 : shares 100 (1 ∷ 1 ∷ 1 ∷ []) 0 ≡ 34 ∷ 33 ∷ 33 ∷ []

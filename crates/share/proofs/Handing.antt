@@ -5,7 +5,6 @@
 --     handed         what it gives are the shares
 --     cleared        if nobody has a weight everybody gets 0
 --     quotable       the room for the remainders
--- Assumes nothing.
 use Prim.Native.Nat.{ℕ, _-_, _*_, _^_, _≤_, _<_}
 use mathlib.Core.Path.{_≡_, ap, sym, _∙_}
 use mathlib.Core.Logic.{⊎-elim}
@@ -18,7 +17,8 @@ use Rattle.columns.specs.Sum.{bit, sumTo}
 use Rattle.columns.specs.Table.{at, table}
 use Rattle.columns.proofs.Sum.{lt-or-le, sum-same, count-same}
 use Rattle.columns.proofs.Table.{table-length, table-at, table-past, table-same, front-long}
-use Rattle.share.specs.Share.{whole, quota, rest, turn, before, rank, left, share, shares}
+use Rattle.columns.specs.Sum.{whole}
+use Rattle.share.specs.Share.{quota, rest, turn, before, rank, left, share, shares}
 use Rattle.share.specs.Split.{Splittable}
 use Rattle.share.specs.Steps.{Quotable, Quoted, Handable, goesBefore, ahead, place, extra, raised, nothing}
 use Rattle.share.proofs.Rests.{quotas-le, left-is, rest-none, share-is}

@@ -18,10 +18,6 @@
 -- Each takes amount, weights and first, then the position, then what it asks.
 -- For whoever has to show what `split` asks:
 --     weight-le          a weight is at most the sum of the weights
---     whole-is           the sum of the weights, as a sum
---     whole-table        the same of a column that is a table
---     whole-bound        weights of at most b: their sum is at most b * length
--- Assumes nothing.
 use Prim.Native.Nat.{ℕ, _+_, _-_, _*_, _≤_, _<_}
 use mathlib.Core.Path.{_≡_, refl, ap, sym, _∙_}
 use mathlib.Core.Logic.{⊎-elim}
@@ -34,21 +30,11 @@ use Rattle.columns.specs.Sum.{sumTo}
 use Rattle.columns.specs.Table.{at, table}
 use Rattle.columns.proofs.Sum.{lt-or-le, sum-same, sum-bound}
 use Rattle.columns.proofs.Table.{table-length, table-at, table-past, table-same, table-list}
-use Rattle.share.specs.Share.{whole, share, shares}
+use Rattle.columns.proofs.Whole.{whole-table}
+use Rattle.columns.specs.Sum.{whole}
+use Rattle.share.specs.Share.{share, shares}
 pub use Rattle.share.proofs.Rests.{weight-le}
 use Rattle.share.proofs.Rests.{some-length, over, short, shares-all}
-
-pub whole-is : (ws : List ℕ) → whole ws ≡ sumTo (length ws) (at ws)
-unfolding whole
-whole-is ws = refl
-
-pub whole-table : (n : ℕ) (f : ℕ → ℕ) → whole (table n f) ≡ sumTo n f
-whole-table n f =
-    whole-is (table n f) ∙ rw table-length (sum-same n (at (table n f)) f (λ i l. table-at 0 n f i l))
-
-pub whole-bound : (ws : List ℕ) (b : ℕ) → ((i : ℕ) → at ws i ≤ b) → whole ws ≤ b * length ws
-unfolding whole
-whole-bound ws b h = sum-bound (length ws) b (at ws) (λ i l. h i)
 
 module _ (a : ℕ) (ws : List ℕ) (first : ℕ) where
   pub share-none : whole ws ≡ 0 → (i : ℕ) → share a ws first i ≡ 0

@@ -5,7 +5,6 @@
 --     long-holds, long-ready, long-again, long-end    the loop over the digits
 --     divided-none, divided-fits, divided-plain       the plain way
 --     quota-is, rest-is     there is one quota and one remainder
--- Assumes nothing.
 use Prim.Native.Nat.{ℕ, suc, _+_, _-_, _*_, _/_, _%_, _^_, _≤_, _<_}
 use mathlib.Core.Path.{_≡_, ap, sym, _∙_}
 use native.Mathlib.Nat.{lt-of-mul-lt-mul-left, mul-le-mul, mul-lt-mul-of-pos-right, div-le-self, div-eq-of-lt, div-div-eq-div-mul, div-one, pow-suc, div-mul-le-self, div-add-mod, mod-lt, mul-add-div, mul-add-mod-self-left, mod-eq-of-lt, le-refl}

@@ -4,7 +4,6 @@
 --     key-apart                 no two positions have the same key
 --     before-key                standing before is having the smaller key
 --     rank-under                the rank counts the smaller keys
--- Assumes nothing.
 use Prim.Native.Nat.{ℕ, _+_, _-_, _*_, _%_, _≤_, _<_}
 use mathlib.Core.Path.{_≡_, ap, sym, _∙_}
 use mathlib.Core.Logic.{⊎-elim}
@@ -18,7 +17,8 @@ use borrow.Author.Tests.{lt-ltb, le-ltb, eq-eqb, ne-eqb}
 use Rattle.columns.specs.Table.{at}
 use Rattle.columns.proofs.Sum.{lt-or-le, count-same}
 use Rattle.columns.proofs.Rank.{ltb-same, under, Apart}
-use Rattle.share.specs.Share.{whole, rest, turn, before, rank}
+use Rattle.columns.specs.Sum.{whole}
+use Rattle.share.specs.Share.{rest, turn, before, rank}
 
 pub turn-late : (n first i : ℕ) → first ≤ i → i < n → turn n first i ≡ i - first
 unfolding turn

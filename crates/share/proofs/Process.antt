@@ -3,7 +3,6 @@
 --     next-waits    nobody else who waits stands before whoever is next
 --     next-inside   there is such a position as long as fewer than all were served
 --     process       handing out one by one gives the shares
--- Assumes nothing.
 use Prim.Native.Nat.{ℕ, zero, suc, _+_, _≤_, _<_}
 use mathlib.Core.Path.{_≡_, refl, ap, sym, _∙_, subst}
 use mathlib.Core.Logic.{⊎-elim}
@@ -21,7 +20,8 @@ use Rattle.columns.proofs.First.{and-false}
 use Rattle.columns.proofs.Sum.{lt-or-le, count-none, count-some, count-zero}
 use Rattle.columns.proofs.Table.{table-length, table-at, table-is, table-same}
 use Rattle.columns.proofs.Rank.{test-or, ltb-same, find-is, find-passes, rank-order, rank-apart, rank-some}
-use Rattle.share.specs.Share.{whole, quota, before, rank, left, share, shares}
+use Rattle.columns.specs.Sum.{whole}
+use Rattle.share.specs.Share.{quota, before, rank, left, share, shares}
 use Rattle.share.specs.Process.{among, next, handOut, oneByOne}
 use Rattle.share.proofs.Order.{key, key-apart, before-key, rank-under}
 use Rattle.share.proofs.Rests.{some-length, left-le, share-is}

@@ -8,7 +8,6 @@
 --     share-is        the share where a weight is above 0
 --     over, short     the share is off by less than one
 --     shares-all      the shares sum to the amount
--- Assumes nothing.
 use Prim.Native.Nat.{ℕ, _+_, _-_, _*_, _≤_, _<_}
 use mathlib.Core.Path.{_≡_, ap}
 use mathlib.Core.Logic.{⊎-elim}
@@ -23,7 +22,8 @@ use Rattle.columns.specs.Sum.{bit, sumTo, countTo}
 use Rattle.columns.specs.Table.{at}
 use Rattle.columns.proofs.Sum.{lt-or-le, sum-same, sum-add, sum-mul, sum-bound, sum-le, term-le, bit-le, count-same, count-sub}
 use Rattle.columns.proofs.Rank.{test-or, rank-count, under}
-use Rattle.share.specs.Share.{whole, quota, rest, before, rank, left, share}
+use Rattle.columns.specs.Sum.{whole}
+use Rattle.share.specs.Share.{quota, rest, before, rank, left, share}
 use Rattle.share.proofs.Order.{key, key-apart, rank-under}
 
 -- a weight is at most the sum

@@ -6,7 +6,6 @@
 --     turned-early, turned-late, byte-le, rank-next, rank-end     turns and ranks
 --     extra-none, extra-byte    what a position gets of what is left
 --     raised-ready, raised-fits, raised-next, raised-all     the loop that hands it out
--- Assumes nothing.
 use Prim.Native.Nat.{ℕ, _+_, _-_, _*_, _/_, _%_, _^_, _≤_, _<_}
 use mathlib.Core.Path.{_≡_, refl, ap, sym, _∙_}
 use mathlib.Core.Bool.{Bool, true, false}
@@ -22,7 +21,8 @@ use Rattle.columns.specs.Table.{at, table, Below}
 use Rattle.columns.proofs.Sum.{sum-next, sum-shorter, count-next}
 use Rattle.columns.proofs.Table.{table-is, fill-next}
 use Rattle.columns.proofs.Fill.{Reached, reached-now, reached-next, reached-all}
-use Rattle.share.specs.Share.{whole, quota, rest, turn}
+use Rattle.columns.specs.Sum.{whole}
+use Rattle.share.specs.Share.{quota, rest, turn}
 use Rattle.share.specs.declared.Division.{Division}
 use Rattle.share.specs.Steps.{Divided, Divisible, Quotable, Quoted, Rankable, Sparing, Handable, goesBefore, ahead, place, extra, raised}
 use Rattle.share.proofs.Order.{turn-early, turn-late}

@@ -1,5 +1,5 @@
 -- The sharing rule as it is told (01, Sharing a whole amount): the quotas first, then what is left, one after the other.
--- `oneByOne` gives what `shares` gives in one step: proofs/Process.antt. Assumes nothing.
+-- `oneByOne` gives what `shares` gives in one step: proofs/Process.antt.
 use Prim.Native.Nat.{ℕ, zero, suc, _+_}
 use mathlib.Core.Bool.{Bool, false, cond, not, _&&_, _||_}
 use mathlib.Core.List.{List, [], _∷_}
@@ -7,7 +7,8 @@ use lib.Dec.{eqb}
 use lib.ListN.{length, set}
 use Rattle.columns.specs.Sum.{countTo, findTo}
 use Rattle.columns.specs.Table.{at, table}
-use Rattle.share.specs.Share.{whole, quota, before, left}
+use Rattle.columns.specs.Sum.{whole}
+use Rattle.share.specs.Share.{quota, before, left}
 
 -- position i is in the list
 unfoldable pub among : List ℕ → ℕ → Bool

@@ -1,17 +1,13 @@
 -- The sharing rule (01, Sharing a whole amount): an amount a is divided over the column ws of weights.
 -- `shares` is the rule; `rank` orders the leftovers. `first` is the position whose turn comes first among equal
--- remainders: 0 in the base, which is the lower id. Assumes nothing.
+-- remainders: 0 in the base, which is the lower id.
 use Prim.Native.Nat.{ℕ, _+_, _-_, _*_, _/_, _%_}
 use mathlib.Core.Bool.{Bool, cond, _&&_, _||_}
 use mathlib.Core.List.{List}
 use lib.Dec.{ltb, eqb}
 use lib.ListN.{length}
-use Rattle.columns.specs.Sum.{bit, sumTo, countTo}
+use Rattle.columns.specs.Sum.{bit, sumTo, countTo, whole}
 use Rattle.columns.specs.Table.{at, table}
-
--- the sum of the weights
-unfoldable pub whole : List ℕ → ℕ
-whole ws = sumTo (length ws) (at ws)
 
 -- what position i gets first: amount times weight divided by the sum, cut to a whole number
 unfoldable pub quota : ℕ → List ℕ → ℕ → ℕ

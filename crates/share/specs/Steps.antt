@@ -1,5 +1,4 @@
 -- What the parts of `split` ask and answer. They are private: a reader of the rule needs none of this.
--- Assumes nothing.
 use Prim.Native.Nat.{ℕ, _+_, _*_, _≤_, _<_, _^_}
 use mathlib.Core.Path.{_≡_}
 use mathlib.Core.Bool.{Bool, _&&_, _||_}
@@ -8,7 +7,8 @@ use lib.Dec.{ltb, eqb}
 use lib.ListN.{length}
 use Rattle.columns.specs.Sum.{bit, countTo}
 use Rattle.columns.specs.Table.{at, table}
-use Rattle.share.specs.Share.{whole, quota, rest, turn}
+use Rattle.columns.specs.Sum.{whole}
+use Rattle.share.specs.Share.{quota, rest, turn}
 use Rattle.share.specs.declared.Division.{Division}
 
 -- v divided by W: the quota, and a remainder below W

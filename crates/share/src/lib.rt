@@ -3,7 +3,8 @@ ghost use Prim.Native.Nat.{_+_, _*_, _≤_, _<_, _^_};
 ghost use mathlib.Core.Path.{_≡_};
 ghost use lib.ListN.{length};
 ghost use Rattle.columns.specs.Table.{table};
-ghost use Rattle.share.specs.Share.{whole, turn, shares};
+ghost use Rattle.columns.specs.Sum.{whole};
+ghost use Rattle.share.specs.Share.{turn, shares};
 ghost use Rattle.share.specs.Split.{Splittable};
 ghost use Rattle.share.specs.Steps.{Divided, Carries, Digits, Divisible, Quotable, Quoted, Rankable, Sparing, Handable, goesBefore, place, extra, raised, nothing};
 

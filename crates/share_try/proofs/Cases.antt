@@ -1,7 +1,6 @@
 -- What the proof of `main` leans on: three weights may be split, and a result is read off its figure.
 --     ready     three weights whose sum fits, and a first position among them
 --     got       what stands at a position of a result, by the figure of the shares
--- Assumes nothing.
 use Prim.Native.Nat.{ℕ, _+_, _^_}
 use mathlib.Core.Path.{_≡_, refl, _∙_, ap}
 use mathlib.Core.Bool.{true}
@@ -11,7 +10,8 @@ use lib.Dec.{T, ltb, eqb, ltb→lt}
 use lib.ListN.{getD}
 use borrow.Author.Tests.{eq-eqb}
 use Rattle.columns.specs.Sum.{sumTo}
-use Rattle.share.specs.Share.{whole, shares}
+use Rattle.columns.specs.Sum.{whole}
+use Rattle.share.specs.Share.{shares}
 use Rattle.share.specs.Split.{Splittable}
 
 pub ready : (a b c first : ℕ) → T (ltb (0 + a + b + c) (2 ^ 64)) → T (ltb first 3)

@@ -1,12 +1,11 @@
 -- A record by its fields: what the writers hand over, and what the readers make.
 --   head-fields, line-fields   the fields of a head and of a line by their widths are its bytes
 --   line-told                  a line made of the numbers at its places is the line read
--- Assumes nothing.
 use mathlib.Core.Path.{_≡_, refl}
 use mathlib.Core.List.{List, [], _∷_}
 use Prim.Native.Nat.{ℕ, _+_}
-use Rattle.columns.specs.Number.{numberAt, numberBytes}
-use Rattle.columns.specs.Fields.{fieldsBytes}
+use Rattle.records.specs.Number.{numberAt, numberBytes}
+use Rattle.records.specs.Fields.{fieldsBytes}
 use Rattle.statement.specs.Statement.{statementHeadBytes, lineBytes, lineAt}
 use Rattle.statement.specs.declared.StatementHead.{StatementHead}
 use Rattle.statement.specs.declared.Line.{Line}

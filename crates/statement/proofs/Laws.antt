@@ -6,7 +6,6 @@
 --   line-shift     a line further on in a list is one of the list's later part
 --   lines-joined   the bytes of lines joined are those of both, one after the other
 --   statement-read a statement's head and its i-th line, read from the whole
--- Assumes nothing.
 use mathlib.Core.Path.{_≡_, refl, sym, ap, _∙_}
 use mathlib.Core.List.{List, [], _∷_, _++_, append-assoc}
 use Prim.Native.Nat.{ℕ, zero, suc, _+_, _*_, _^_, _<_}
@@ -14,8 +13,8 @@ use native.Mathlib.Nat.{add-assoc}
 use native.Mathlib.Omega.{arith}
 use lib.ListN.{length, getD, drop, length-append}
 use lib.Seq.{drop-at}
-use Rattle.columns.specs.Number.{numberAt, numberBytes}
-use Rattle.columns.proofs.Number.{number-drop, number-is}
+use Rattle.records.specs.Number.{numberAt, numberBytes}
+use Rattle.records.proofs.Number.{number-drop, number-is}
 use Rattle.statement.specs.Statement.{lineStart, statementHeadAt, statementHeadBytes, lineAt, lineBytes, linesBytes}
 use Rattle.statement.specs.declared.StatementHead.{StatementHead}
 use Rattle.statement.specs.declared.Line.{Line}

@@ -3,11 +3,10 @@
 --   line-unique         of `line_at`
 --   put-head-unique     what `put_statement_head` leaves in the buffer
 --   put-line-unique     what `put_line` leaves there
--- Assumes nothing.
 use Prim.Native.Nat.{ℕ}
 use mathlib.Core.Path.{_≡_}
 use mathlib.Core.List.{List}
-use Rattle.columns.specs.Buffer.{put}
+use Rattle.records.specs.Buffer.{put}
 use Rattle.columns.proofs.Unique.{unique}
 use Rattle.statement.specs.Statement.{statementHeadAt, statementHeadBytes, lineAt, lineBytes}
 use Rattle.statement.specs.declared.StatementHead.{StatementHead}

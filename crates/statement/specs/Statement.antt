@@ -1,8 +1,7 @@
 -- Statements in bytes: the head, a line, many lines, and the way back (01, The files).
--- Assumes nothing.
 use Prim.Native.Nat.{ℕ, _+_, _*_}
 use mathlib.Core.List.{List, [], _∷_, _++_}
-use Rattle.columns.specs.Number.{numberAt, numberBytes}
+use Rattle.records.specs.Number.{numberAt, numberBytes}
 use Rattle.statement.specs.declared.StatementHead.{StatementHead}
 use Rattle.statement.specs.declared.Line.{Line}
 

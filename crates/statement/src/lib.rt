@@ -1,13 +1,13 @@
 // Statements in bytes (01, The files): a head and a line for each row, read by name and written field by field.
-use columns::number_at;
-use columns::put_fields;
+use records::number_at;
+use records::put_fields;
 use units::Fen;
 use units::Kwh;
 use units::Li;
 ghost use mathlib.Core.Path.{_≡_};
 ghost use Prim.Native.Nat.{_+_, _≤_};
 ghost use lib.ListN.{length};
-ghost use Rattle.columns.specs.Buffer.{put};
+ghost use Rattle.records.specs.Buffer.{put};
 ghost use Rattle.statement.specs.Statement.{statementHeadAt, statementHeadBytes, lineAt, lineBytes};
 
 // A statement's head, without its mark.

@@ -6,15 +6,14 @@
 --   told-settled, told-refused      what the engine answers decides which of the two `tell` prints
 --   settled-placed, refused-placed  the same of what it answered, and of the buffer that it was lent
 --   told-rows                       a settlement has as many lines of text behind the head's as that one's last number says
--- Assumes nothing.
 use mathlib.Core.Path.{_≡_, refl, sym, ap, _∙_}
 use mathlib.Core.List.{List, [], _∷_, _++_}
 use Prim.Native.Nat.{ℕ, _+_, _*_, _≤_}
 use native.Mathlib.Numerals.{add-one}
 use native.Mathlib.Omega.{arith}
 use lib.ListN.{length, take}
-use Rattle.columns.specs.Buffer.{put}
-use Rattle.columns.proofs.Buffer.{put-whole}
+use Rattle.records.specs.Buffer.{put}
+use Rattle.records.proofs.Buffer.{put-whole}
 use Rattle.statement.specs.Statement.{lineStart, statementHeadAt, lineAt}
 use Rattle.statement.specs.declared.StatementHead.{StatementHead}
 use Rattle.statement.specs.declared.Line.{Line}

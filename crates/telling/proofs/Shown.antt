@@ -1,11 +1,10 @@
 -- What `tell` prints, letter by letter: two examples.
 --   shown-statement   the statement of interval X at tariff 1300: a head and three lines (01, Checked figures)
 --   shown-refusal     number 5 at place 2
--- Assumes nothing.
 use mathlib.Core.Path.{_≡_, refl}
 use mathlib.Core.List.{List, [], _∷_, _++_}
 use Prim.Native.Nat.{ℕ}
-use Rattle.columns.specs.Number.{numberAt, numberBytes}
+use Rattle.records.specs.Number.{numberAt, numberBytes}
 use Rattle.statement.specs.Statement.{statementHeadBytes, statementHeadAt, lineBytes, lineAt, linesBytes}
 use Rattle.statement.specs.declared.StatementHead.{StatementHead}
 use Rattle.statement.specs.declared.Line.{Line}

@@ -1,6 +1,5 @@
 -- The length of a statement that the engine has settled.
 --   settled-size   it has a head, and the buffer that was lent holds it
--- Assumes nothing.
 use mathlib.Core.Path.{_≡_, sym, ap, _∙_}
 use mathlib.Core.List.{List}
 use Prim.Native.Nat.{ℕ, _≤_}

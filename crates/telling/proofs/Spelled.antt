@@ -3,7 +3,6 @@
 --   few-digits       a number of eight bytes has at most twenty
 --   number-placed    the digits, then what stands after them: `tell_number`
 --   no-fields, fields-more   the start and a turn of `tell_fields`
--- Assumes nothing.
 use mathlib.Core.Path.{_≡_, sym, ap, _∙_}
 use mathlib.Core.Logic.{_⊎_, ⊎-elim}
 use mathlib.Core.List.{List, [], _∷_, _++_}
@@ -14,8 +13,8 @@ use native.Mathlib.Omega.{arith}
 use lib.Dec.{lit<}
 use lib.ListN.{length, getD, take, set, length-append}
 use borrow.Author.Tests.{lt-ltb, le-ltb}
-use Rattle.columns.specs.Buffer.{put}
-use Rattle.columns.proofs.Buffer.{put-length, put-put, set-put}
+use Rattle.records.specs.Buffer.{put}
+use Rattle.records.proofs.Buffer.{put-length, put-put, set-put}
 use Rattle.columns.proofs.Sum.{lt-or-le}
 use Rattle.io.specs.Digits.{digits, glyph, Fewest}
 use Rattle.telling.specs.Text.{decimalIn, decimal, endOf, textTo, Placed}

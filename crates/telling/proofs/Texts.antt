@@ -2,14 +2,13 @@
 --   placed-none    no text yet
 --   placed-after   one text more, right behind the first
 --   placed-front   a text put at the start is the buffer's front
--- Assumes nothing.
 use mathlib.Core.Path.{_≡_, sym, ap, _∙_}
 use mathlib.Core.List.{List, [], _++_}
 use Prim.Native.Nat.{ℕ, _+_, _≤_}
 use native.Mathlib.Omega.{arith}
 use lib.ListN.{length, take, length-append}
-use Rattle.columns.specs.Buffer.{put}
-use Rattle.columns.proofs.Buffer.{put-none, put-put, take-put}
+use Rattle.records.specs.Buffer.{put}
+use Rattle.records.proofs.Buffer.{put-none, put-put, take-put}
 use Rattle.telling.specs.Text.{Placed}
 
 pub placed-none : (l : List ℕ) (from : ℕ) → Placed l l from [] from 0

@@ -1,12 +1,12 @@
 -- What `tell` prints (01, Checked figures): of a statement each record's fields in order, without the mark, as decimal text; of a
--- refusal its number and its place. `tellText` is the whole of it. Assumes nothing.
+-- refusal its number and its place. `tellText` is the whole of it.
 use mathlib.Core.Path.{_≡_}
 use Prim.Native.Nat.{ℕ, zero, suc, _+_, _-_, _/_, _%_, _≤_}
 use mathlib.Core.Bool.{cond}
 use mathlib.Core.List.{List, [], _∷_, _++_}
 use lib.Dec.{ltb, eqb}
 use lib.ListN.{length, getD}
-use Rattle.columns.specs.Buffer.{put}
+use Rattle.records.specs.Buffer.{put}
 use Rattle.statement.specs.Statement.{lineStart, statementHeadAt, lineAt}
 use Rattle.statement.specs.declared.StatementHead.{StatementHead}
 use Rattle.statement.specs.declared.Line.{Line}

@@ -48,7 +48,7 @@ fn tell_refusal(text: &mut [u8], number: usize, place: usize) -> usize
     requires { ⌜ 50 ≤ length (now text) ⌝ }
     ensures { λ r. ⌜ Placed (now (text .entry)) (now (text .exit)) 0 (refusedText number place) r 50 ⌝ }
 {
-    columns::put_bytes(text, 0, b"refused ");
+    records::put_bytes(text, 0, b"refused ");
     let at = tell_number(text, 8, number as u64, b' ');
     tell_number(text, at, place as u64, b'\n')
 }
@@ -156,7 +156,7 @@ fn tell_number(text: &mut [u8], at: usize, x: u64, end: u8) -> usize
 {
     let mut digits = [0u8; 20];
     let k = io::decimal(x, &mut digits);
-    columns::put_bytes(text, at, &digits[..k]);
+    records::put_bytes(text, at, &digits[..k]);
     text[at + k] = end;
     at + k + 1
 }

@@ -3,7 +3,6 @@
 --   kwh-unique   of `forty`, `half`, `sixty`, `seventy`, `most`
 --   li-unique    of `Kwh::priced` and `Li::plus`
 --   fen-unique   of `Kwh::thermal_cap`, `Kwh::renewable_cap` and `Li::to_fen`
--- Assumes nothing.
 use Prim.Native.Nat.{ℕ}
 use mathlib.Core.Path.{_≡_, ap}
 use Rattle.columns.proofs.Unique.{unique}

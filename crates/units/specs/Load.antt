@@ -1,6 +1,9 @@
 -- Loads of a capacity of c MW over a quarter hour, in kWh (01, Units of account): full load is 250c.
--- Assumes nothing.
-use Prim.Native.Nat.{ℕ, _*_}
+use Prim.Native.Nat.{ℕ, _*_, _/_}
+
+-- so many percent of full load, cut to whole kWh
+abbrev pub load : ℕ → ℕ → ℕ
+load c percent = c * 250 * percent / 100
 
 -- 40 percent: where tier 1 ends and tier 2 begins
 abbrev pub forty : ℕ → ℕ

@@ -1,5 +1,4 @@
 -- From one measure to another (01, Units of account): energy in kWh, bids in li, tariffs in hao, money in fen.
--- Assumes nothing.
 use Prim.Native.Nat.{ℕ, _+_, _*_, _/_}
 
 -- energy at a price in li for each kWh, in li

@@ -3,7 +3,7 @@
 ghost use mathlib.Core.Path.{_≡_};
 ghost use Prim.Native.Nat.{_+_, _*_, _^_, _<_};
 ghost use Rattle.units.specs.Measure.{toFen, priced, thermalCap, renewableCap};
-ghost use Rattle.units.specs.Load.{forty, half, sixty, seventy, most};
+ghost use Rattle.units.specs.Load.{load, forty, half, sixty, seventy, most};
 
 pub struct Kwh(pub u32);
 
@@ -52,6 +52,13 @@ impl Li {
     {
         Fen(self.0 / 10 + (self.0 % 10 + 5) / 10)
     }
+}
+
+// So many percent of a capacity in MW over a quarter hour, cut to whole kWh.
+pub fn load(capacity: u16, percent: u8) -> Kwh
+    ensures { λ r. ⌜ r .0 ≡ load capacity percent ⌝ }
+{
+    Kwh((capacity as u32) * 250 * (percent as u32) / 100)
 }
 
 // 40 percent of a capacity in MW over a quarter hour: where tier 1 ends and tier 2 begins.

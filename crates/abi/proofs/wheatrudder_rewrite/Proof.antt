@@ -1,4 +1,4 @@
--- `abi::wheatrudder_rewrite` meets its contract, for a file that is refused and for one that is read. Assumes nothing.
+-- `abi::wheatrudder_rewrite` meets its contract, for a file that is refused and for one that is read.
 use Rattle.abi.proofs.Told.{read-number-fits, read-place-fits, unread-told, unread-buffer, read-told, read-buffer}
 use borrow.Author.Needs.{needs}
 use Rattle.abi.proofs.wheatrudder_rewrite.Statement.{statement}

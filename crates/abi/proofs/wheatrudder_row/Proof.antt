@@ -1,4 +1,4 @@
--- `abi::wheatrudder_row` meets its contract, for a buffer that is too short and for one with room. Assumes nothing.
+-- `abi::wheatrudder_row` meets its contract, for a buffer that is too short and for one with room.
 use Rattle.abi.proofs.Told.{part-fits, short-told, short-buffer, copied-told, copied-made}
 use borrow.Author.Needs.{needs}
 use Rattle.abi.proofs.wheatrudder_row.Statement.{statement}

@@ -1,4 +1,4 @@
--- `abi::wheatrudder_settle` meets its contract, for a statement and for a refusal. Assumes nothing.
+-- `abi::wheatrudder_settle` meets its contract, for a statement and for a refusal.
 use Rattle.abi.proofs.Told.{count-fits, number-fits, place-fits, settled-told, refused-told}
 use borrow.Author.Needs.{needs}
 use Rattle.abi.proofs.wheatrudder_settle.Statement.{statement}

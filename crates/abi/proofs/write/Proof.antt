@@ -1,4 +1,4 @@
--- `abi::write` meets its contract, for bytes written and for a refusal. Assumes nothing.
+-- `abi::write` meets its contract, for bytes written and for a refusal.
 use Rattle.abi.proofs.Told.{written-count-fits, written-number-fits, written-place-fits, bytes-told, unwritten-told}
 use borrow.Author.Needs.{needs}
 use Rattle.abi.proofs.write.Statement.{statement}

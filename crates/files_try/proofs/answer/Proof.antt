@@ -1,4 +1,4 @@
--- `files_try::answer` meets its contract. Assumes nothing.
+-- `files_try::answer` meets its contract.
 use borrow.Author.Needs.{needs}
 use Rattle.files_try.specs.Tried.{answerOf}
 use Rattle.files_try.proofs.answer.Statement.{statement}

@@ -1,4 +1,4 @@
--- `files_try::main` meets its contract. Assumes nothing.
+-- `files_try::main` meets its contract.
 use borrow.Author.Needs.{needs}
 use Rattle.files_try.proofs.Figures.{figures, told}
 use Rattle.files_try.proofs.main.Statement.{statement}

@@ -1,4 +1,4 @@
--- `levy_try::interval` meets its contract. Assumes nothing.
+-- `levy_try::interval` meets its contract.
 use mathlib.Core.Path.{refl}
 use borrow.Author.Needs.{needs}
 use Rattle.levy_try.proofs.Cases.{got-at, ready, p4, p4-paid, p5, p5-paid}

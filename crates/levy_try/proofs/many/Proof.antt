@@ -1,4 +1,4 @@
--- `levy_try::many` meets its contract. Assumes nothing.
+-- `levy_try::many` meets its contract.
 use mathlib.Core.Path.{refl}
 use borrow.Author.Needs.{needs}
 use Rattle.levy_try.proofs.Cases.{got-at, ready, four, four-paid}

@@ -1,4 +1,4 @@
--- `levy_try::rows` meets its contract. Assumes nothing.
+-- `levy_try::rows` meets its contract.
 use borrow.Author.Needs.{needs}
 use Rattle.levy_try.proofs.Cases.{got}
 use Rattle.levy_try.proofs.rows.Statement.{statement}

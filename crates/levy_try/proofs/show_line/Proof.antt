@@ -1,4 +1,4 @@
--- `levy_try::show_line` meets its contract. Assumes nothing.
+-- `levy_try::show_line` meets its contract.
 use Prim.Native.Nat.{_-_, _≤_}
 use lib.ListN.{length}
 use borrow.Author.Needs.{needs}

@@ -1,4 +1,4 @@
--- `levy_try::shown` meets its contract. Assumes nothing.
+-- `levy_try::shown` meets its contract.
 use borrow.Author.Needs.{needs}
 use Rattle.levy_try.proofs.Cases.{pay-asked, told, made}
 use Rattle.levy_try.proofs.shown.Statement.{statement}

@@ -1,4 +1,4 @@
--- `levy_try::shown_cap` meets its contract. Assumes nothing.
+-- `levy_try::shown_cap` meets its contract.
 use borrow.Author.Needs.{needs}
 use Rattle.levy.specs.Weight.{payer, cap}
 use Rattle.levy_try.proofs.shown_cap.Statement.{statement}

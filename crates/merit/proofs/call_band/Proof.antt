@@ -1,4 +1,4 @@
--- `merit::call_band` meets its contract: the part is added in its own tier only. Assumes nothing.
+-- `merit::call_band` meets its contract: the part is added in its own tier only.
 use borrow.Author.Needs.{needs}
 use Rattle.merit.proofs.Steps.{more-here1, more-there1, more-here2, more-there2}
 use Rattle.merit.proofs.call_band.Statement.{statement}

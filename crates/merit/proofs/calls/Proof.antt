@@ -1,4 +1,4 @@
--- `merit::calls` meets its contract: it only clears both columns and lends room for the parts. Assumes nothing.
+-- `merit::calls` meets its contract: it only clears both columns and lends room for the parts.
 use borrow.Author.Needs.{needs}
 use Rattle.merit.proofs.Parts.{front-ready, blank}
 use Rattle.merit.proofs.calls.Statement.{statement}

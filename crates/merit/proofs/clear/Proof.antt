@@ -1,4 +1,4 @@
--- `merit::clear` meets its contract: the positions passed are 0. Assumes nothing.
+-- `merit::clear` meets its contract: the positions passed are 0.
 use Prim.Native.Nat.{_-_}
 use lib.ListN.{length}
 use borrow.Author.Needs.{needs}

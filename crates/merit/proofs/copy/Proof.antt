@@ -1,4 +1,4 @@
--- `merit::copy` meets its contract: the positions passed are copied. Assumes nothing.
+-- `merit::copy` meets its contract: the positions passed are copied.
 use Prim.Native.Nat.{_-_, _≤_}
 use lib.ListN.{length}
 use borrow.Author.Needs.{needs}

@@ -1,4 +1,4 @@
--- `merit::group_of` meets its contract: the positions passed are written, and the sum is theirs. Assumes nothing.
+-- `merit::group_of` meets its contract: the positions passed are written, and the sum is theirs.
 use Prim.Native.Nat.{_*_, _-_, _≤_}
 use mathlib.Core.Path.{_≡_}
 use native.Mathlib.Omega.{arith}

@@ -1,4 +1,4 @@
--- `merit::higher` meets its contract: the larger of two, or the top where nothing was called. Assumes nothing.
+-- `merit::higher` meets its contract: the larger of two, or the top where nothing was called.
 use Rattle.merit.proofs.Steps.{higher-none, higher-it, higher-not}
 use Rattle.merit.proofs.higher.Statement.{statement}
 use Rattle.merit.proofs.higher.Tie as tie

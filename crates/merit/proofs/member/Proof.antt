@@ -1,4 +1,4 @@
--- `merit::member` meets its contract: a band of this order has its width, any other 0. Assumes nothing.
+-- `merit::member` meets its contract: a band of this order has its width, any other 0.
 use native.Mathlib.Omega.{arith}
 use borrow.Author.Needs.{needs}
 use Rattle.merit.proofs.Steps.{member-it, member-not}

@@ -1,4 +1,4 @@
--- `merit::next_in` meets its contract: the best order so far is that of the positions passed. Assumes nothing.
+-- `merit::next_in` meets its contract: the best order so far is that of the positions passed.
 use Prim.Native.Nat.{_-_, _≤_}
 use mathlib.Core.Path.{_≡_}
 use native.Mathlib.Omega.{arith}

@@ -1,4 +1,4 @@
--- `merit::next_order` meets its contract: the best of both tiers. Assumes nothing.
+-- `merit::next_order` meets its contract: the best of both tiers.
 use borrow.Author.Needs.{needs}
 use Rattle.merit.proofs.Steps.{next-both}
 use Rattle.merit.proofs.next_order.Statement.{statement}

@@ -1,4 +1,4 @@
--- `merit::order_of` meets its contract: twice the bid, and one more in tier 2. Assumes nothing.
+-- `merit::order_of` meets its contract: twice the bid, and one more in tier 2.
 use native.Mathlib.Omega.{arith}
 use borrow.Author.Needs.{needs}
 use Rattle.merit.proofs.Steps.{order-one, order-two}

@@ -1,4 +1,4 @@
--- `merit::parts_at` meets its contract: the order says its tier. Assumes nothing.
+-- `merit::parts_at` meets its contract: the order says its tier.
 use borrow.Author.Needs.{needs}
 use Rattle.merit.proofs.Parts.{room1, room2, front1, parts-one, parts-two}
 use Rattle.merit.proofs.parts_at.Statement.{statement}

@@ -1,4 +1,4 @@
--- `merit::parts_in` meets its contract: the group that is shared is the tier's bands of this order. Assumes nothing.
+-- `merit::parts_in` meets its contract: the group that is shared is the tier's bands of this order.
 use borrow.Author.Needs.{needs}
 use Rattle.merit.proofs.Parts.{splittable, parts-of}
 use Rattle.merit.proofs.parts_in.Statement.{statement}

@@ -1,4 +1,4 @@
--- `merit::price` meets its contract: the top is the highest called bid of the positions passed. Assumes nothing.
+-- `merit::price` meets its contract: the top is the highest called bid of the positions passed.
 use Prim.Native.Nat.{_-_, _≤_}
 use mathlib.Core.Path.{_≡_}
 use native.Mathlib.Omega.{arith}

@@ -1,4 +1,4 @@
--- `merit::share_group` meets its contract: a group within what is left is called in full, any other shares it. Assumes nothing.
+-- `merit::share_group` meets its contract: a group within what is left is called in full, any other shares it.
 use borrow.Author.Needs.{needs}
 use Rattle.merit.proofs.Parts.{called-in-full, called-in-part}
 use Rattle.merit.proofs.share_group.Statement.{statement}

@@ -1,4 +1,4 @@
--- `merit::sooner` meets its contract: one of the two orders, by the definition's own tests. Assumes nothing.
+-- `merit::sooner` meets its contract: one of the two orders, by the definition's own tests.
 use Rattle.merit.proofs.Steps.{sooner-none, sooner-early, sooner-it, sooner-not}
 use Rattle.merit.proofs.sooner.Statement.{statement}
 use Rattle.merit.proofs.sooner.Tie as tie

@@ -1,4 +1,4 @@
--- `merit::walk` meets its contract: what was called so far is what the definition calls down to this order. Assumes nothing.
+-- `merit::walk` meets its contract: what was called so far is what the definition calls down to this order.
 use Prim.Native.Nat.{_-_, _<_}
 use mathlib.Core.Logic.{⊎-elim}
 use mathlib.Core.Path.{sym, _∙_}

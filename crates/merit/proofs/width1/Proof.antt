@@ -1,4 +1,4 @@
--- `merit::width1` meets its contract: each return is the definition's, by what is offered and where the minimum lies. Assumes nothing.
+-- `merit::width1` meets its contract: each return is the definition's, by what is offered and where the minimum lies.
 use native.Mathlib.Omega.{arith}
 use borrow.Author.Needs.{needs}
 use Rattle.merit.proofs.Steps.{width1-none, width1-foot, width1-shut, width1-min}

@@ -1,4 +1,4 @@
--- `merit::width2` meets its contract: each return is the definition's, by what is offered and where the minimum lies. Assumes nothing.
+-- `merit::width2` meets its contract: each return is the definition's, by what is offered and where the minimum lies.
 use native.Mathlib.Omega.{arith}
 use borrow.Author.Needs.{needs}
 use Rattle.merit.proofs.Steps.{width2-none, width2-shut, width2-min}

@@ -1,4 +1,4 @@
--- `merit_try::show_calls` meets its contract: two rows are few enough, their widths and bids small enough. Assumes nothing.
+-- `merit_try::show_calls` meets its contract: two rows are few enough, their widths and bids small enough.
 use Prim.Native.Nat.{ℕ, zero, suc, _≤_, zero-le}
 use mathlib.Core.Path.{refl}
 use mathlib.Core.List.{[], _∷_}

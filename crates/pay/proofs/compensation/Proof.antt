@@ -1,4 +1,4 @@
--- `pay::compensation` meets its contract: a row that receives gets both tiers, any other nothing. Assumes nothing.
+-- `pay::compensation` meets its contract: a row that receives gets both tiers, any other nothing.
 use borrow.Author.Needs.{needs}
 use Rattle.pay.proofs.Laws.{not-thermal, not-normal, both-added}
 use Rattle.pay.proofs.compensation.Statement.{statement}

@@ -1,4 +1,4 @@
--- `pay::tier_pay` meets its contract: nothing where it was not called, else energy by price. Assumes nothing.
+-- `pay::tier_pay` meets its contract: nothing where it was not called, else energy by price.
 use Prim.Native.Nat.{_^_}
 use native.Mathlib.Omega.{arith}
 use borrow.Author.Needs.{needs}

@@ -1,4 +1,4 @@
--- `settle::settle` meets its contract: a refused pair keeps the buffer, an accepted one is for `settle_rows`. Assumes nothing.
+-- `settle::settle` meets its contract: a refused pair keeps the buffer, an accepted one is for `settle_rows`.
 use Rattle.settle.proofs.Answered.{told, refusal-told, refusal-left}
 use borrow.Author.Needs.{needs}
 use Rattle.settle.proofs.settle.Statement.{statement}

@@ -1,4 +1,4 @@
--- `settle::settle_rows` meets its contract: too short a buffer gets 11 and is kept, any other holds the statement. Assumes nothing.
+-- `settle::settle_rows` meets its contract: too short a buffer gets 11 and is kept, any other holds the statement.
 use Rattle.settle.proofs.Answered.{few-rows, short-told, short-left, written-told, written-left}
 use borrow.Author.Needs.{needs}
 use Rattle.settle.proofs.settle_rows.Statement.{statement}

@@ -1,4 +1,4 @@
--- `share::carry` meets its contract: a remainder that reaches the sum becomes one of the quota. Assumes nothing.
+-- `share::carry` meets its contract: a remainder that reaches the sum becomes one of the quota.
 use Rattle.share.proofs.Long.{carry-sum, carry-more, carry-over}
 use borrow.Author.Needs.{needs}
 use Rattle.share.proofs.carry.Statement.{statement}

@@ -1,4 +1,4 @@
--- `share::clear` meets its contract: the positions passed are 0. Assumes nothing.
+-- `share::clear` meets its contract: the positions passed are 0.
 use Prim.Native.Nat.{_-_}
 use lib.ListN.{length}
 use Rattle.columns.proofs.Fill.{Reached, reached-none, reached-next, reached-all}

@@ -1,4 +1,4 @@
--- `share::divide` meets its contract: plainly where the product fits, else the long way, with the same answer. Assumes nothing.
+-- `share::divide` meets its contract: plainly where the product fits, else the long way, with the same answer.
 use Rattle.share.proofs.Long.{divided-none, divided-fits, divided-plain}
 use borrow.Author.Needs.{needs}
 use Rattle.share.proofs.divide.Statement.{statement}

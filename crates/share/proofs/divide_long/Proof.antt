@@ -1,5 +1,4 @@
 -- `share::divide_long` meets its contract: before digit k the amount without its last k digits is divided.
--- Assumes nothing.
 use Prim.Native.Nat.{_≤_, _*_, _/_, _^_}
 use native.Mathlib.Omega.{arith}
 use Rattle.share.specs.Steps.{Divided}

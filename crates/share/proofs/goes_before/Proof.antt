@@ -1,4 +1,4 @@
--- `share::goes_before` meets its contract: the test is the definition's own. Assumes nothing.
+-- `share::goes_before` meets its contract: the test is the definition's own.
 use mathlib.Core.Path.{refl}
 use Rattle.share.proofs.goes_before.Statement.{statement}
 use Rattle.share.proofs.goes_before.Tie as tie

@@ -1,4 +1,4 @@
--- `share::hand_out` meets its contract: below i everybody has what is due. Assumes nothing.
+-- `share::hand_out` meets its contract: below i everybody has what is due.
 use Prim.Native.Nat.{_-_}
 use lib.ListN.{length}
 use Rattle.columns.proofs.Fill.{Reached, reached-none}

@@ -1,4 +1,4 @@
--- `share::next_digit` meets its contract: twice what was divided so far, and the weight if the digit is 1. Assumes nothing.
+-- `share::next_digit` meets its contract: twice what was divided so far, and the weight if the digit is 1.
 use Rattle.share.proofs.Long.{twice-fits, digit-0, digit-1-ready, digit-1}
 use borrow.Author.Needs.{needs}
 use Rattle.share.proofs.next_digit.Statement.{statement}

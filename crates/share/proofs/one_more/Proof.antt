@@ -1,4 +1,4 @@
--- `share::one_more` meets its contract: a position without a remainder is served after all that are handed out. Assumes nothing.
+-- `share::one_more` meets its contract: a position without a remainder is served after all that are handed out.
 use Rattle.share.proofs.Steps.{extra-none, extra-byte}
 use borrow.Author.Needs.{needs}
 use Rattle.share.proofs.one_more.Statement.{statement}

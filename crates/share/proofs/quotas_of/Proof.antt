@@ -1,4 +1,4 @@
--- `share::quotas_of` meets its contract: both ways fill the same columns, and the plain one is taken where products fit. Assumes nothing.
+-- `share::quotas_of` meets its contract: both ways fill the same columns, and the plain one is taken where products fit.
 use Rattle.share.proofs.Long.{divided-fits}
 use borrow.Author.Needs.{needs}
 use Rattle.share.proofs.quotas_of.Statement.{statement}

@@ -1,4 +1,4 @@
--- `share::quotas_plain` meets its contract: both columns are filled up to i. Assumes nothing.
+-- `share::quotas_plain` meets its contract: both columns are filled up to i.
 use Prim.Native.Nat.{_-_}
 use lib.ListN.{length}
 use Rattle.share.proofs.Steps.{Filled, filled-none, filled-plain, filled-all, plain-fits}

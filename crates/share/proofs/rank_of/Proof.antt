@@ -1,4 +1,4 @@
--- `share::rank_of` meets its contract: the loop's rank counts the positions passed. Assumes nothing.
+-- `share::rank_of` meets its contract: the loop's rank counts the positions passed.
 use Prim.Native.Nat.{_≤_, _-_}
 use mathlib.Core.Path.{_≡_}
 use native.Mathlib.Omega.{arith}

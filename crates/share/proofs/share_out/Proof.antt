@@ -1,4 +1,4 @@
--- `share::share_out` meets its contract: where the quotas leave nothing they are the shares. Assumes nothing.
+-- `share::share_out` meets its contract: where the quotas leave nothing they are the shares.
 use Rattle.share.proofs.Handing.{quotas-fit, quotas-under, none-left, handable, handed}
 use borrow.Author.Needs.{needs}
 use Rattle.share.proofs.share_out.Statement.{statement}

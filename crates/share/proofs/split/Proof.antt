@@ -1,4 +1,4 @@
--- `share::split` meets its contract: a sum of 0 gives everybody 0, any other has room for its remainders. Assumes nothing.
+-- `share::split` meets its contract: a sum of 0 gives everybody 0, any other has room for its remainders.
 use Rattle.columns.proofs.Table.{front-long}
 use Rattle.share.proofs.Handing.{cleared, quotable}
 use borrow.Author.Needs.{needs}

@@ -1,4 +1,4 @@
--- `share::turn_of` meets its contract: the turn wraps at the end of the column. Assumes nothing.
+-- `share::turn_of` meets its contract: the turn wraps at the end of the column.
 use Rattle.share.proofs.Steps.{turned-early, turned-late}
 use borrow.Author.Needs.{needs}
 use Rattle.share.proofs.turn_of.Statement.{statement}

@@ -1,5 +1,4 @@
 -- `share::whole_of` meets its contract: the loop's sum is the sum of the positions passed, and it is at most the whole.
--- Assumes nothing.
 use Prim.Native.Nat.{_≤_, _-_}
 use mathlib.Core.Path.{_≡_}
 use native.Mathlib.Omega.{arith}

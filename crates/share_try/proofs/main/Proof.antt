@@ -1,4 +1,4 @@
--- `share_try::main` meets its contract: each check is read off the figure of its case. Assumes nothing.
+-- `share_try::main` meets its contract: each check is read off the figure of its case.
 use Rattle.share.proofs.Figures.{p7, p8, second-first, wide, wide-tie, no-weight}
 use Rattle.share_try.proofs.Cases.{ready, got}
 use borrow.Author.Needs.{needs}

@@ -1,4 +1,4 @@
--- `statement::line_at` meets its contract: every field is the number at its place. Assumes nothing.
+-- `statement::line_at` meets its contract: every field is the number at its place.
 use Rattle.statement.proofs.Fields.{line-told}
 use borrow.Author.Needs.{needs}
 use Rattle.statement.proofs.line_at.Statement.{statement}

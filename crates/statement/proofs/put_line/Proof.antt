@@ -1,8 +1,8 @@
--- `statement::put_line` meets its contract: the fields by their widths are the line's bytes. Assumes nothing.
+-- `statement::put_line` meets its contract: the fields by their widths are the line's bytes.
 use mathlib.Core.Path.{refl, ap, _∙_}
 use borrow.Author.Needs.{needs}
-use Rattle.columns.specs.Fields.{span}
-use Rattle.columns.specs.Buffer.{put}
+use Rattle.records.specs.Fields.{span}
+use Rattle.records.specs.Buffer.{put}
 use Rattle.statement.proofs.Fields.{line-fields}
 use Rattle.statement.proofs.put_line.Statement.{statement}
 use Rattle.statement.proofs.put_line.Tie as tie

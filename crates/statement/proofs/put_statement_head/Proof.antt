@@ -1,8 +1,8 @@
--- `statement::put_statement_head` meets its contract: the fields by their widths are the head's bytes. Assumes nothing.
+-- `statement::put_statement_head` meets its contract: the fields by their widths are the head's bytes.
 use mathlib.Core.Path.{refl, ap, _∙_}
 use borrow.Author.Needs.{needs}
-use Rattle.columns.specs.Fields.{span}
-use Rattle.columns.specs.Buffer.{put}
+use Rattle.records.specs.Fields.{span}
+use Rattle.records.specs.Buffer.{put}
 use Rattle.statement.proofs.Fields.{head-fields}
 use Rattle.statement.proofs.put_statement_head.Statement.{statement}
 use Rattle.statement.proofs.put_statement_head.Tie as tie

@@ -1,4 +1,4 @@
--- `statement::statement_head_at` meets its contract: every field is the number at its place. Assumes nothing.
+-- `statement::statement_head_at` meets its contract: every field is the number at its place.
 use Rattle.statement.specs.Statement.{statementHeadAt}
 use borrow.Author.Needs.{needs}
 use Rattle.statement.proofs.statement_head_at.Statement.{statement}

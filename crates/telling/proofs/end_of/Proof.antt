@@ -1,4 +1,4 @@
--- `telling::end_of` meets its contract. Assumes nothing.
+-- `telling::end_of` meets its contract.
 use borrow.Author.Tests.{eq-eqb, ne-eqb}
 use Rattle.telling.proofs.end_of.Statement.{statement}
 use Rattle.telling.proofs.end_of.Tie as tie

@@ -1,4 +1,4 @@
--- `telling::line_fields` meets its contract. Assumes nothing.
+-- `telling::line_fields` meets its contract.
 use native.Mathlib.Omega.{arith}
 use borrow.Author.Needs.{needs}
 use Rattle.telling.proofs.line_fields.Statement.{statement}

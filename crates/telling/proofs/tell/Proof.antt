@@ -1,4 +1,4 @@
--- `telling::tell` meets its contract. Assumes nothing.
+-- `telling::tell` meets its contract.
 use mathlib.Core.Path.{sym}
 use native.Mathlib.Omega.{arith}
 use lib.Seq.{length-take-le}

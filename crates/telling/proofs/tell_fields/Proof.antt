@@ -1,4 +1,4 @@
--- `telling::tell_fields` meets its contract. Assumes nothing.
+-- `telling::tell_fields` meets its contract.
 use mathlib.Core.Path.{_≡_, refl, _∙_}
 use Prim.Native.Nat.{_*_, _-_, _≤_}
 use lib.ListN.{length}

@@ -1,4 +1,4 @@
--- `telling::tell_head` meets its contract. Assumes nothing.
+-- `telling::tell_head` meets its contract.
 use Rattle.telling.proofs.Printed.{head-placed}
 use borrow.Author.Needs.{needs}
 use Rattle.telling.proofs.tell_head.Statement.{statement}

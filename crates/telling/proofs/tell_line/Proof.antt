@@ -1,4 +1,4 @@
--- `telling::tell_line` meets its contract. Assumes nothing.
+-- `telling::tell_line` meets its contract.
 use Rattle.telling.proofs.Printed.{line-placed}
 use borrow.Author.Needs.{needs}
 use Rattle.telling.proofs.tell_line.Statement.{statement}

@@ -1,4 +1,4 @@
--- `telling::tell_lines` meets its contract. Assumes nothing.
+-- `telling::tell_lines` meets its contract.
 use mathlib.Core.Path.{_≡_}
 use Prim.Native.Nat.{_*_, _-_, _≤_}
 use lib.ListN.{length}

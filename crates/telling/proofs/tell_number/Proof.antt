@@ -1,4 +1,4 @@
--- `telling::tell_number` meets its contract. Assumes nothing.
+-- `telling::tell_number` meets its contract.
 use Prim.Native.Nat.{_≤_}
 use Rattle.telling.proofs.Spelled.{few-digits, number-placed}
 use native.Mathlib.Omega.{arith}

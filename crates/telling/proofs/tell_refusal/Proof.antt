@@ -1,4 +1,4 @@
--- `telling::tell_refusal` meets its contract. Assumes nothing.
+-- `telling::tell_refusal` meets its contract.
 use Rattle.telling.proofs.Printed.{refusal-placed}
 use borrow.Author.Needs.{needs}
 use Rattle.telling.proofs.tell_refusal.Statement.{statement}

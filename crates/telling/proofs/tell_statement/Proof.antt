@@ -1,4 +1,4 @@
--- `telling::tell_statement` meets its contract. Assumes nothing.
+-- `telling::tell_statement` meets its contract.
 use Rattle.telling.proofs.Printed.{statement-placed}
 use borrow.Author.Needs.{needs}
 use Rattle.telling.proofs.tell_statement.Statement.{statement}

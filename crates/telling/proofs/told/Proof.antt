@@ -1,4 +1,4 @@
--- `telling::told` meets its contract. Assumes nothing.
+-- `telling::told` meets its contract.
 use mathlib.Core.Path.{sym}
 use mathlib.Core.List.{List}
 use Prim.Native.Nat.{ℕ, _≤_}

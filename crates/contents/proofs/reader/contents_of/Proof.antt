@@ -1,4 +1,4 @@
--- `contents::reader::contents_of` meets its contract: the rows passed are the file's, zero rows follow. Assumes nothing.
+-- `contents::reader::contents_of` meets its contract: the rows passed are the file's, zero rows follow.
 use Prim.Native.Nat.{_-_}
 use borrow.Author.Needs.{needs}
 use Rattle.contents.proofs.Walk.{Filled, fill-start, fill-next, fill-ends}

@@ -1,4 +1,4 @@
--- `contents::read` meets its contract, for a refusal and for an acceptance. Assumes nothing.
+-- `contents::read` meets its contract, for a refusal and for an acceptance.
 use borrow.Author.Needs.{needs}
 use Rattle.contents.proofs.Answered.{read-few, read-long, read-refused, read-done}
 use Rattle.contents.proofs.reader.read.Statement.{statement}

@@ -1,4 +1,4 @@
--- `contents::reader::zero_contents` meets its contract. Assumes nothing.
+-- `contents::reader::zero_contents` meets its contract.
 use borrow.Author.Needs.{needs}
 use Rattle.contents.specs.Content.{zeroContents}
 use Rattle.contents.proofs.reader.zero_contents.Statement.{statement}

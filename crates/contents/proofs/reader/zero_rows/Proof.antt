@@ -1,4 +1,4 @@
--- `contents::reader::zero_rows` meets its contract. Assumes nothing.
+-- `contents::reader::zero_rows` meets its contract.
 use borrow.Author.Needs.{needs}
 use Rattle.columns.specs.Table.{table}
 use Rattle.contents.proofs.reader.zero_rows.Statement.{statement}

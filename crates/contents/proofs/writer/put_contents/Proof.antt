@@ -1,4 +1,4 @@
--- `contents::writer::put_contents` meets its contract: two runs that adjoin are one. Assumes nothing.
+-- `contents::writer::put_contents` meets its contract: two runs that adjoin are one.
 use borrow.Author.Needs.{needs}
 use Rattle.contents.proofs.Answered.{head-then-rows}
 use Rattle.contents.proofs.writer.put_contents.Statement.{statement}

@@ -1,8 +1,8 @@
--- `contents::writer::put_head` meets its contract: the fields by their widths are the head's bytes. Assumes nothing.
+-- `contents::writer::put_head` meets its contract: the fields by their widths are the head's bytes.
 use mathlib.Core.Path.{refl, ap, _∙_}
 use borrow.Author.Needs.{needs}
-use Rattle.columns.specs.Fields.{span}
-use Rattle.columns.specs.Buffer.{put}
+use Rattle.records.specs.Fields.{span}
+use Rattle.records.specs.Buffer.{put}
 use Rattle.contents.proofs.Record.{head-fields}
 use Rattle.contents.proofs.writer.put_head.Statement.{statement}
 use Rattle.contents.proofs.writer.put_head.Tie as tie

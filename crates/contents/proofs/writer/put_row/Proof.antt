@@ -1,8 +1,8 @@
--- `contents::writer::put_row` meets its contract: the fields by their widths are the row's bytes. Assumes nothing.
+-- `contents::writer::put_row` meets its contract: the fields by their widths are the row's bytes.
 use mathlib.Core.Path.{refl, ap, _∙_}
 use borrow.Author.Needs.{needs}
-use Rattle.columns.specs.Fields.{span}
-use Rattle.columns.specs.Buffer.{put}
+use Rattle.records.specs.Fields.{span}
+use Rattle.records.specs.Buffer.{put}
 use Rattle.contents.proofs.Record.{row-fields}
 use Rattle.contents.proofs.writer.put_row.Statement.{statement}
 use Rattle.contents.proofs.writer.put_row.Tie as tie

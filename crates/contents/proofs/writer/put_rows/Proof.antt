@@ -1,4 +1,4 @@
--- `contents::writer::put_rows` meets its contract: the rows passed stand in the buffer, nothing else has changed. Assumes nothing.
+-- `contents::writer::put_rows` meets its contract: the rows passed stand in the buffer, nothing else has changed.
 use mathlib.Core.Path.{_≡_, sym, _∙_}
 use Prim.Native.Nat.{_-_}
 use native.Mathlib.Omega.{arith}

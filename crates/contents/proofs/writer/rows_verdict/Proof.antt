@@ -1,4 +1,4 @@
--- `contents::writer::rows_verdict` meets its contract: the rows passed have no fault, the last id is at hand. Assumes nothing.
+-- `contents::writer::rows_verdict` meets its contract: the rows passed have no fault, the last id is at hand.
 use Prim.Native.Nat.{_-_}
 use borrow.Author.Needs.{needs}
 use Rattle.contents.proofs.writer.rows_verdict.Statement.{statement}

@@ -1,4 +1,4 @@
--- `contents::write` meets its contract, for a refusal and for an acceptance. Assumes nothing.
+-- `contents::write` meets its contract, for a refusal and for an acceptance.
 use borrow.Author.Needs.{needs}
 use Rattle.contents.proofs.Answered.{write-few, write-room, refused-answer, refused-buffer, done-answer, done-buffer}
 use Rattle.contents.proofs.writer.write.Statement.{statement}

@@ -1,4 +1,4 @@
--- `contents::writer::writer_verdict` meets its contract, return by return: 3, then 6 and 7, then 11, then none. Assumes nothing.
+-- `contents::writer::writer_verdict` meets its contract, return by return: 3, then 6 and 7, then 11, then none.
 use Prim.Native.Nat.{_≤_}
 use native.Mathlib.Omega.{arith}
 use borrow.Author.Needs.{needs}

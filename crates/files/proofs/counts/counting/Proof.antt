@@ -1,4 +1,4 @@
--- `files::counts::counting` meets its contract. Assumes nothing.
+-- `files::counts::counting` meets its contract.
 use borrow.Author.Needs.{needs}
 use Rattle.files.proofs.Sourced.{counting-named, counting-none}
 use Rattle.files.proofs.counts.counting.Statement.{statement}

@@ -1,4 +1,4 @@
--- `files::counts::counting_row` meets its contract. Assumes nothing.
+-- `files::counts::counting_row` meets its contract.
 use Prim.Native.Nat.{_-_, _<_}
 use borrow.Author.Needs.{needs}
 use Rattle.files.proofs.Sourced.{own-small, own-in, their-in, own-source, their-source}

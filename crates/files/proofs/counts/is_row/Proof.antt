@@ -1,4 +1,4 @@
--- `files::counts::is_row` meets its contract. Assumes nothing.
+-- `files::counts::is_row` meets its contract.
 use Prim.Native.Nat.{_-_}
 use borrow.Author.Needs.{needs}
 use Rattle.files.proofs.Sound.{row-in}

@@ -1,4 +1,4 @@
--- `files::counts::named_part` meets its contract. Assumes nothing.
+-- `files::counts::named_part` meets its contract.
 use Prim.Native.Nat.{_-_, _<_}
 use borrow.Author.Needs.{needs}
 use Rattle.files.proofs.Accepted.{accepted-rows, accepted-theirs}

@@ -1,4 +1,4 @@
--- `files::counts::named_rows` meets its contract. Assumes nothing.
+-- `files::counts::named_rows` meets its contract.
 use borrow.Author.Needs.{needs}
 use Rattle.files.proofs.Sourced.{none-there}
 use Rattle.files.proofs.counts.named_rows.Statement.{statement}

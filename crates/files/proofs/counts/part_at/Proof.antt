@@ -1,4 +1,4 @@
--- `files::counts::part_at` meets its contract. Assumes nothing.
+-- `files::counts::part_at` meets its contract.
 use borrow.Author.Needs.{needs}
 use Rattle.files.proofs.Sourced.{part-is}
 use Rattle.files.proofs.counts.part_at.Statement.{statement}

@@ -1,4 +1,4 @@
--- `files::counts::source_at` meets its contract. Assumes nothing.
+-- `files::counts::source_at` meets its contract.
 use Prim.Native.Nat.{_-_, _<_}
 use borrow.Author.Needs.{needs}
 use Rattle.columns.proofs.Choice.{checks}

@@ -1,4 +1,4 @@
--- `files::counts::sources` meets its contract: the first i sources are put, and the rows passed in the correction lie below the next id. Assumes nothing.
+-- `files::counts::sources` meets its contract: the first i sources are put, and the rows passed in the correction lie below the next id.
 use Prim.Native.Nat.{_-_, _<_}
 use borrow.Author.Needs.{needs}
 use Rattle.files.proofs.Accepted.{accepted-theirs}

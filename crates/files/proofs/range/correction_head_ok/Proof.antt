@@ -1,4 +1,4 @@
--- `files::range::correction_head_ok` meets its contract. Assumes nothing.
+-- `files::range::correction_head_ok` meets its contract.
 use borrow.Author.Needs.{needs}
 use Rattle.files.specs.Range.{correctionHeadOk}
 use Rattle.files.proofs.range.correction_head_ok.Statement.{statement}

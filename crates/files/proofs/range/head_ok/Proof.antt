@@ -1,4 +1,4 @@
--- `files::range::head_ok` meets its contract. Assumes nothing.
+-- `files::range::head_ok` meets its contract.
 use borrow.Author.Needs.{needs}
 use Rattle.files.specs.Range.{headOk}
 use Rattle.files.proofs.range.head_ok.Statement.{statement}

@@ -1,4 +1,4 @@
--- `files::range::not_offering` meets its contract. Assumes nothing.
+-- `files::range::not_offering` meets its contract.
 use Rattle.files.specs.Range.{notOffering}
 use Rattle.files.proofs.range.not_offering.Statement.{statement}
 use Rattle.files.proofs.range.not_offering.Tie as tie

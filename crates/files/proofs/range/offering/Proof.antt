@@ -1,4 +1,4 @@
--- `files::range::offering` meets its contract. Assumes nothing.
+-- `files::range::offering` meets its contract.
 use borrow.Author.Needs.{needs}
 use Rattle.files.specs.Range.{offering}
 use Rattle.files.proofs.range.offering.Statement.{statement}

@@ -1,4 +1,4 @@
--- `files::range::row_checks` meets its contract. Assumes nothing.
+-- `files::range::row_checks` meets its contract.
 use borrow.Author.Needs.{needs}
 use Rattle.columns.proofs.Choice.{checks}
 use Rattle.files.proofs.range.row_checks.Statement.{statement}

@@ -1,4 +1,4 @@
--- `files::range::row_ok` meets its contract. Assumes nothing.
+-- `files::range::row_ok` meets its contract.
 use borrow.Author.Needs.{needs}
 use Rattle.files.specs.Range.{rowOk, rowTests}
 use Rattle.files.proofs.range.row_ok.Statement.{statement}

@@ -1,4 +1,4 @@
--- `files::range::status_ok` meets its contract. Assumes nothing.
+-- `files::range::status_ok` meets its contract.
 use Rattle.files.specs.Range.{statusOk}
 use Rattle.files.proofs.range.status_ok.Statement.{statement}
 use Rattle.files.proofs.range.status_ok.Tie as tie

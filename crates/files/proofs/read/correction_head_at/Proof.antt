@@ -1,4 +1,4 @@
--- `files::read::correction_head_at` meets its contract. Assumes nothing.
+-- `files::read::correction_head_at` meets its contract.
 use borrow.Author.Needs.{needs}
 use Rattle.files.specs.Layout.{correctionHeadAt}
 use Rattle.files.proofs.read.correction_head_at.Statement.{statement}

@@ -1,4 +1,4 @@
--- `files::read::head_at` meets its contract. Assumes nothing.
+-- `files::read::head_at` meets its contract.
 use borrow.Author.Needs.{needs}
 use Rattle.files.specs.Layout.{headAt}
 use Rattle.files.proofs.read.head_at.Statement.{statement}

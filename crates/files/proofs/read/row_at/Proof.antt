@@ -1,4 +1,4 @@
--- `files::read::row_at` meets its contract. Assumes nothing.
+-- `files::read::row_at` meets its contract.
 use borrow.Author.Needs.{needs}
 use Rattle.files.specs.Layout.{rowAt}
 use Rattle.files.proofs.read.row_at.Statement.{statement}

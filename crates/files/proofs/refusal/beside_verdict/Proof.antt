@@ -1,4 +1,4 @@
--- `files::refusal::beside_verdict` meets its contract. Assumes nothing.
+-- `files::refusal::beside_verdict` meets its contract.
 use borrow.Author.Needs.{needs}
 use Rattle.files.proofs.Named.{bad-time, good-time}
 use Rattle.files.proofs.refusal.beside_verdict.Statement.{statement}

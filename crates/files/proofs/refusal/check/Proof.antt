@@ -1,4 +1,4 @@
--- `files::refusal::check` meets its contract. Assumes nothing.
+-- `files::refusal::check` meets its contract.
 use borrow.Author.Needs.{needs}
 use Rattle.files.proofs.Named.{own-there, own-count, own-rows, own-refused, alone, paired}
 use Rattle.files.proofs.refusal.check.Statement.{statement}

@@ -1,4 +1,4 @@
--- `files::refusal::correction_count` meets its contract. Assumes nothing.
+-- `files::refusal::correction_count` meets its contract.
 use borrow.Author.Needs.{needs}
 use Rattle.files.specs.Layout.{correctionHeadAt}
 use Rattle.files.proofs.refusal.correction_count.Statement.{statement}

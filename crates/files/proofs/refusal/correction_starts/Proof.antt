@@ -1,4 +1,4 @@
--- `files::refusal::correction_starts` meets its contract. Assumes nothing.
+-- `files::refusal::correction_starts` meets its contract.
 use borrow.Author.Needs.{needs}
 use Rattle.files.proofs.Named.{starts-short, starts-told}
 use Rattle.files.proofs.refusal.correction_starts.Statement.{statement}

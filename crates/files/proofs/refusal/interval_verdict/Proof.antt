@@ -1,4 +1,4 @@
--- `files::refusal::interval_verdict` meets its contract. Assumes nothing.
+-- `files::refusal::interval_verdict` meets its contract.
 use borrow.Author.Needs.{needs}
 use Rattle.files.proofs.Walked.{head-there, rows-there, interval-refused, interval-rows}
 use Rattle.files.proofs.refusal.interval_verdict.Statement.{statement}

@@ -1,4 +1,4 @@
--- `files::refusal::matches_row` meets its contract. Assumes nothing.
+-- `files::refusal::matches_row` meets its contract.
 use borrow.Author.Needs.{needs}
 use Rattle.files.proofs.Named.{no-match, match-told}
 use Rattle.files.proofs.Sound.{row-in}

@@ -1,4 +1,4 @@
--- `files::refusal::present_verdict` meets its contract. Assumes nothing.
+-- `files::refusal::present_verdict` meets its contract.
 use borrow.Author.Needs.{needs}
 use Rattle.files.proofs.Named.{correction-there, theirs-there, theirs-sound, bad-start, bad-row, good-rows}
 use Rattle.files.proofs.refusal.present_verdict.Statement.{statement}

@@ -1,4 +1,4 @@
--- `files::refusal::row_count` meets its contract. Assumes nothing.
+-- `files::refusal::row_count` meets its contract.
 use borrow.Author.Needs.{needs}
 use Rattle.files.specs.Layout.{headAt}
 use Rattle.files.proofs.refusal.row_count.Statement.{statement}

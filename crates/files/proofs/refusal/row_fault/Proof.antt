@@ -1,4 +1,4 @@
--- `files::refusal::row_fault` meets its contract. Assumes nothing.
+-- `files::refusal::row_fault` meets its contract.
 use borrow.Author.Needs.{needs}
 use Rattle.columns.proofs.Choice.{checks}
 use Rattle.files.specs.Fault.{rowFault}

@@ -1,4 +1,4 @@
--- `files::refusal::rows_verdict` meets its contract: the fault of all rows is that of the rows from i on. Assumes nothing.
+-- `files::refusal::rows_verdict` meets its contract: the fault of all rows is that of the rows from i on.
 use Prim.Native.Nat.{_-_}
 use borrow.Author.Needs.{needs}
 use Rattle.files.proofs.Walked.{Walked, walk-none, walk-next, walk-stops, walk-ends}

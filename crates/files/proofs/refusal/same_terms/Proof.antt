@@ -1,4 +1,4 @@
--- `files::refusal::same_terms` meets its contract. Assumes nothing.
+-- `files::refusal::same_terms` meets its contract.
 use mathlib.Core.Path.{refl}
 use Rattle.files.specs.Fault.{sameTerms}
 use Rattle.files.proofs.refusal.same_terms.Statement.{statement}

@@ -1,4 +1,4 @@
--- `files::refusal::same_time` meets its contract. Assumes nothing.
+-- `files::refusal::same_time` meets its contract.
 use borrow.Author.Needs.{needs}
 use Rattle.files.proofs.refusal.same_time.Statement.{statement}
 use Rattle.files.proofs.refusal.same_time.Tie as tie

@@ -1,4 +1,4 @@
--- `files::refusal::seek` meets its contract: the rows passed have ids below the one sought. Assumes nothing.
+-- `files::refusal::seek` meets its contract: the rows passed have ids below the one sought.
 use Prim.Native.Nat.{_+_, _-_, _*_, _≤_}
 use native.Mathlib.Omega.{arith}
 use lib.ListN.{length}

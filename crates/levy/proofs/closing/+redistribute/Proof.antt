@@ -1,4 +1,4 @@
--- `levy::redistribute` meets its contract: each round leaves fewer open, and the rest is the same function of what it left. Assumes nothing.
+-- `levy::redistribute` meets its contract: each round leaves fewer open, and the rest is the same function of what it left.
 use Prim.Native.Nat.{ℕ, _<_}
 use borrow.Author.Needs.{needs}
 use lib.ListN.{take}

@@ -1,4 +1,4 @@
--- `levy::clear` meets its contract: the positions passed are 0. Assumes nothing.
+-- `levy::clear` meets its contract: the positions passed are 0.
 use Prim.Native.Nat.{_-_}
 use mathlib.Core.Path.{refl}
 use lib.Dec.{lit<}

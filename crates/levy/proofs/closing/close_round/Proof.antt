@@ -1,4 +1,4 @@
--- `levy::close_round` meets its contract: the positions passed are closed if the round closes them, and both sums are theirs. Assumes nothing.
+-- `levy::close_round` meets its contract: the positions passed are closed if the round closes them, and both sums are theirs.
 use Prim.Native.Nat.{_-_}
 use borrow.Author.Needs.{needs}
 use Rattle.levy.proofs.Turn.{Turn, turn-none, products, caps-fit, weights-fit, turn-next, turn-end}

@@ -1,4 +1,4 @@
--- `levy::closes_now` meets its contract: the test is the definition's own. Assumes nothing.
+-- `levy::closes_now` meets its contract: the test is the definition's own.
 use borrow.Author.Needs.{needs}
 use Rattle.levy.proofs.closing.closes_now.Statement.{statement}
 use Rattle.levy.proofs.closing.closes_now.Tie as tie

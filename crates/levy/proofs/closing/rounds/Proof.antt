@@ -1,4 +1,4 @@
--- `levy::rounds` meets its contract: the walk starts where the definition starts, with nobody closed. Assumes nothing.
+-- `levy::rounds` meets its contract: the walk starts where the definition starts, with nobody closed.
 use borrow.Author.Needs.{needs}
 use Rattle.levy.proofs.Again.{rounds-begin, rounds-end}
 use Rattle.levy.proofs.closing.rounds.Statement.{statement}

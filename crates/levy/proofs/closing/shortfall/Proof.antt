@@ -1,4 +1,4 @@
--- `levy::shortfall` meets its contract: money is short only where no weight is left. Assumes nothing.
+-- `levy::shortfall` meets its contract: money is short only where no weight is left.
 use borrow.Author.Tests.{eq-eqb, ne-eqb}
 use Rattle.levy.specs.Rounds.{shortfall}
 use Rattle.levy.proofs.closing.shortfall.Statement.{statement}

@@ -1,4 +1,4 @@
--- `levy::whole_weight` meets its contract: the sum is that of the positions passed, each below 2 ^ 32. Assumes nothing.
+-- `levy::whole_weight` meets its contract: the sum is that of the positions passed, each below 2 ^ 32.
 use Prim.Native.Nat.{_-_, _*_, _^_, _≤_}
 use mathlib.Core.Path.{_≡_, refl}
 use native.Mathlib.Omega.{arith}

@@ -1,4 +1,4 @@
--- `levy::cut_over` meets its contract: a cut is a share, and a share of the shortfall fits. Assumes nothing.
+-- `levy::cut_over` meets its contract: a cut is a share, and a share of the shortfall fits.
 use borrow.Author.Needs.{needs}
 use Rattle.levy.proofs.Making.{cut-split, cut-long, cut-small, cut-made}
 use Rattle.levy.proofs.paying.cut_over.Statement.{statement}

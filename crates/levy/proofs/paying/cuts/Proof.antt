@@ -1,4 +1,4 @@
--- `levy::cuts` meets its contract: it only lends columns. Assumes nothing.
+-- `levy::cuts` meets its contract: it only lends columns.
 use borrow.Author.Needs.{needs}
 use Rattle.columns.proofs.Table.{front-long}
 use Rattle.levy.proofs.Making.{front-room}

@@ -1,4 +1,4 @@
--- `levy::narrow` meets its contract: the positions passed are copied, each below 2 ^ 32. Assumes nothing.
+-- `levy::narrow` meets its contract: the positions passed are copied, each below 2 ^ 32.
 use Prim.Native.Nat.{_-_}
 use mathlib.Core.Path.{refl}
 use borrow.Author.Needs.{needs}

@@ -1,4 +1,4 @@
--- `levy::open_weights` meets its contract: the positions passed have their weight, or 0 if they closed. Assumes nothing.
+-- `levy::open_weights` meets its contract: the positions passed have their weight, or 0 if they closed.
 use Prim.Native.Nat.{_-_}
 use borrow.Author.Needs.{needs}
 use Rattle.levy.proofs.Fill.{Fill, openAt, fill-none, fill-on, fill-small, open-at, open-end}

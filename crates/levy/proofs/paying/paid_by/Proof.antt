@@ -1,4 +1,4 @@
--- `levy::paid_by` meets its contract: an open row pays its part, a closed one its cap. Assumes nothing.
+-- `levy::paid_by` meets its contract: an open row pays its part, a closed one its cap.
 use Rattle.levy.proofs.Fill.{part-fits, paid-part, paid-cap}
 use Rattle.levy.proofs.paying.paid_by.Statement.{statement}
 use Rattle.levy.proofs.paying.paid_by.Tie as tie

@@ -1,4 +1,4 @@
--- `levy::pay_open` meets its contract: the parts are the sharing of the last money over the open weights. Assumes nothing.
+-- `levy::pay_open` meets its contract: the parts are the sharing of the last money over the open weights.
 use borrow.Author.Needs.{needs}
 use Rattle.levy.proofs.Making.{open-split, made-asked, payments-made}
 use Rattle.levy.proofs.paying.pay_open.Statement.{statement}

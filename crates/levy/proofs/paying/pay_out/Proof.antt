@@ -1,4 +1,4 @@
--- `levy::pay_out` meets its contract: the positions passed have what they pay. Assumes nothing.
+-- `levy::pay_out` meets its contract: the positions passed have what they pay.
 use Prim.Native.Nat.{_-_}
 use borrow.Author.Needs.{needs}
 use Rattle.levy.specs.Asked.{paidFrom}

@@ -1,4 +1,4 @@
--- `levy::payments` meets its contract: it only lends columns. Assumes nothing.
+-- `levy::payments` meets its contract: it only lends columns.
 use borrow.Author.Needs.{needs}
 use Rattle.columns.proofs.Table.{front-long}
 use Rattle.levy.proofs.Making.{front-room}

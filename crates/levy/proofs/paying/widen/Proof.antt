@@ -1,4 +1,4 @@
--- `levy::widen` meets its contract: the positions passed are copied. Assumes nothing.
+-- `levy::widen` meets its contract: the positions passed are copied.
 use Prim.Native.Nat.{_-_}
 use borrow.Author.Needs.{needs}
 use Rattle.columns.specs.Table.{at}

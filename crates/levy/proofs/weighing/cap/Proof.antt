@@ -1,4 +1,4 @@
--- `levy::cap` meets its contract: whoever does not pay has 0, the others the cap of their kind. Assumes nothing.
+-- `levy::cap` meets its contract: whoever does not pay has 0, the others the cap of their kind.
 use borrow.Author.Needs.{needs}
 use Rattle.levy.specs.Weight.{cap}
 use Rattle.levy.proofs.Row.{none-of, thermal-of, other-of}

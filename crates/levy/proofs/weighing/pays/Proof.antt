@@ -1,4 +1,4 @@
--- `levy::pays` meets its contract: the tests are the definition's own, by kind. Assumes nothing.
+-- `levy::pays` meets its contract: the tests are the definition's own, by kind.
 use Rattle.levy.proofs.Row.{pays-thermal, pays-other}
 use Rattle.levy.proofs.weighing.pays.Statement.{statement}
 use Rattle.levy.proofs.weighing.pays.Tie as tie

@@ -1,4 +1,4 @@
--- `levy::thermal_weight` meets its contract: each part of the energy above the baseline is counted by its own factor. Assumes nothing.
+-- `levy::thermal_weight` meets its contract: each part of the energy above the baseline is counted by its own factor.
 use borrow.Author.Needs.{needs}
 use Rattle.levy.proofs.weighing.thermal_weight.Statement.{statement}
 use Rattle.levy.proofs.weighing.thermal_weight.Tie as tie

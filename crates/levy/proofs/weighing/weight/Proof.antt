@@ -1,4 +1,4 @@
--- `levy::weight` meets its contract: whoever does not pay has 0, the others the weight of their kind. Assumes nothing.
+-- `levy::weight` meets its contract: whoever does not pay has 0, the others the weight of their kind.
 use borrow.Author.Needs.{needs}
 use Rattle.levy.specs.Weight.{weight}
 use Rattle.levy.proofs.Row.{none-of, thermal-of, other-of}

@@ -1,4 +1,4 @@
--- `settle::column::bands` meets its contract: the rows passed have their width and bid. Assumes nothing.
+-- `settle::column::bands` meets its contract: the rows passed have their width and bid.
 use borrow.Author.Needs.{needs}
 use Prim.Native.Nat.{_-_, _≤_}
 use native.Mathlib.Omega.{arith}

@@ -1,4 +1,4 @@
--- `settle::column::cap_of` meets its contract: energy and tariff in their ranges keep it below 2 ^ 32. Assumes nothing.
+-- `settle::column::cap_of` meets its contract: energy and tariff in their ranges keep it below 2 ^ 32.
 use native.Mathlib.Omega.{arith}
 use Rattle.settle.proofs.Filled.{cap-is, cap-fits}
 use borrow.Author.Needs.{needs}

@@ -1,4 +1,4 @@
--- `settle::column::compensations` meets its contract: the rows passed have their compensation. Assumes nothing.
+-- `settle::column::compensations` meets its contract: the rows passed have their compensation.
 use borrow.Author.Needs.{needs}
 use Prim.Native.Nat.{_-_, _≤_}
 use native.Mathlib.Omega.{arith}

@@ -1,4 +1,4 @@
--- `settle::column::pay_of` meets its contract: a capacity and prices in their ranges keep it below 2 ^ 32. Assumes nothing.
+-- `settle::column::pay_of` meets its contract: a capacity and prices in their ranges keep it below 2 ^ 32.
 use native.Mathlib.Omega.{arith}
 use Rattle.settle.proofs.Filled.{pay-is, pay-fits}
 use borrow.Author.Needs.{needs}

@@ -1,4 +1,4 @@
--- `settle::column::row_at` meets its contract: a row that counts in an accepted pair is in its ranges. Assumes nothing.
+-- `settle::column::row_at` meets its contract: a row that counts in an accepted pair is in its ranges.
 use Rattle.settle.proofs.Filled.{ranged}
 use borrow.Author.Needs.{needs}
 use Rattle.settle.proofs.column.row_at.Statement.{statement}

@@ -1,4 +1,4 @@
--- `settle::column::weigh` meets its contract: the rows passed have their weight and cap. Assumes nothing.
+-- `settle::column::weigh` meets its contract: the rows passed have their weight and cap.
 use borrow.Author.Needs.{needs}
 use Prim.Native.Nat.{_-_, _≤_}
 use native.Mathlib.Omega.{arith}

@@ -1,4 +1,4 @@
--- `settle::column::width_in` meets its contract: each arm is the definition's at that tier. Assumes nothing.
+-- `settle::column::width_in` meets its contract: each arm is the definition's at that tier.
 use borrow.Author.Needs.{needs}
 use Rattle.settle.proofs.column.width_in.Statement.{statement}
 use Rattle.settle.proofs.column.width_in.Tie as tie

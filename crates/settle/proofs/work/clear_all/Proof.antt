@@ -1,4 +1,4 @@
--- `settle::work::clear_all` meets its contract: the four columns it lends have n entries each. Assumes nothing.
+-- `settle::work::clear_all` meets its contract: the four columns it lends have n entries each.
 use mathlib.Core.Path.{sym}
 use Rattle.columns.proofs.Table.{front-long}
 use borrow.Author.Needs.{needs}

@@ -1,4 +1,4 @@
--- `settle::work::clear_in` meets its contract: the bands filled in are those of the rows that count. Assumes nothing.
+-- `settle::work::clear_in` meets its contract: the bands filled in are those of the rows that count.
 use Rattle.settle.proofs.Cleared.{bands-ready, bands-cleared}
 use borrow.Author.Needs.{needs}
 use Rattle.settle.proofs.work.clear_in.Statement.{statement}

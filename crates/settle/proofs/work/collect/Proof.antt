@@ -1,4 +1,4 @@
--- `settle::work::collect` meets its contract: weights, caps and closing rounds are those that payments and cuts ask for. Assumes nothing.
+-- `settle::work::collect` meets its contract: weights, caps and closing rounds are those that payments and cuts ask for.
 use native.Mathlib.Omega.{arith}
 use Rattle.columns.proofs.Table.{front-long}
 use Rattle.settle.proofs.Collected.{compensated-tariff, compensated-short, compensated-columns, compensated-payable, compensated-levied}

@@ -1,4 +1,4 @@
--- `settle::work::stages` meets its contract: each stage hands on what the next one asks. Assumes nothing.
+-- `settle::work::stages` meets its contract: each stage hands on what the next one asks.
 use Rattle.settle.proofs.Collected.{read-long, called-long, compensated, compensated-prices}
 use borrow.Author.Needs.{needs}
 use Rattle.settle.proofs.work.stages.Statement.{statement}

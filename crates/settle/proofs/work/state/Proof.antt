@@ -1,4 +1,4 @@
--- `settle::work::state` meets its contract: with the cuts all figures are at hand, and the statement is theirs. Assumes nothing.
+-- `settle::work::state` meets its contract: with the cuts all figures are at hand, and the statement is theirs.
 use Rattle.settle.proofs.Stated.{levied-few, levied-cuttable, levied-lines, levied-bytes}
 use borrow.Author.Needs.{needs}
 use Rattle.settle.proofs.work.state.Statement.{statement}

@@ -1,4 +1,4 @@
--- `settle::work::total_of` meets its contract: the loop's sum is that of the positions passed, each below 2 ^ 32. Assumes nothing.
+-- `settle::work::total_of` meets its contract: the loop's sum is that of the positions passed, each below 2 ^ 32.
 use Prim.Native.Nat.{_-_, _*_, _≤_}
 use mathlib.Core.Path.{_≡_}
 use native.Mathlib.Omega.{arith}
@@ -7,7 +7,7 @@ use lib.ListN.{length}
 use Rattle.columns.specs.Sum.{sumTo}
 use Rattle.columns.specs.Table.{at}
 use Rattle.columns.proofs.Sum.{sum-next}
-use Rattle.share.specs.Share.{whole}
+use Rattle.columns.specs.Sum.{whole}
 use Rattle.settle.proofs.work.total_of.Statement.{statement}
 use Rattle.settle.proofs.work.total_of.Tie as tie
 

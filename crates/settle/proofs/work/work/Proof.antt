@@ -1,4 +1,4 @@
--- `settle::work::work` meets its contract: the columns it lends have n entries each, the sources are those of the rows that count. Assumes nothing.
+-- `settle::work::work` meets its contract: the columns it lends have n entries each, the sources are those of the rows that count.
 use native.Mathlib.Omega.{arith}
 use mathlib.Core.Path.{sym}
 use Rattle.columns.proofs.Table.{front-long}

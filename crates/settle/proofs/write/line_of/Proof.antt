@@ -1,4 +1,4 @@
--- `settle::write::line_of` meets its contract: each figure is its column's at the row. Assumes nothing.
+-- `settle::write::line_of` meets its contract: each figure is its column's at the row.
 use Rattle.settle.proofs.Written.{line-made}
 use borrow.Author.Needs.{needs}
 use Rattle.settle.proofs.write.line_of.Statement.{statement}

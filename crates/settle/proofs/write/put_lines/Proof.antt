@@ -1,10 +1,10 @@
--- `settle::write::put_lines` meets its contract: the lines of the rows passed stand behind the head. Assumes nothing.
+-- `settle::write::put_lines` meets its contract: the lines of the rows passed stand behind the head.
 use Prim.Native.Nat.{_-_, _≤_}
 use mathlib.Core.Path.{_≡_}
 use native.Mathlib.Omega.{arith}
 use borrow.Author.Needs.{needs}
 use lib.ListN.{length}
-use Rattle.columns.specs.Buffer.{put}
+use Rattle.records.specs.Buffer.{put}
 use Rattle.statement.specs.Statement.{linesBytes}
 use Rattle.settle.specs.Statement.{linesOf}
 use Rattle.settle.specs.Asked.{columns, idAt}

@@ -1,4 +1,4 @@
--- `settle::write::put_statement` meets its contract: the lines adjoin the head, so both are one run. Assumes nothing.
+-- `settle::write::put_statement` meets its contract: the lines adjoin the head, so both are one run.
 use native.Mathlib.Omega.{arith}
 use Rattle.settle.proofs.Written.{statement-put}
 use borrow.Author.Needs.{needs}

@@ -1,4 +1,4 @@
--- `units::Kwh::priced` meets its contract: 32 bits by 32 bits fit 64. Assumes nothing.
+-- `units::Kwh::priced` meets its contract: 32 bits by 32 bits fit 64.
 use Prim.Native.Nat.{_^_}
 use Rattle.columns.proofs.Product.{product}
 use borrow.Author.Needs.{needs}

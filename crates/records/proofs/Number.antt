@@ -7,7 +7,7 @@
 --   number-read     read after write: x below 256 ^ w, written between any bytes, is read as x
 --   number-is       the same with no bytes around it
 --   number-write    write after read: w bytes, read as a number, are written as the same w bytes
--- Each by one induction over the width. Assumes nothing.
+-- Each by one induction over the width.
 use mathlib.Core.Path.{_≡_, refl, sym, ap, _∙_}
 use mathlib.Core.List.{List, [], _∷_, _++_, append-nil}
 use Prim.Native.Nat.{ℕ, zero, suc, _+_, _*_, _/_, _%_, _^_, _≤_, _<_}
@@ -16,7 +16,7 @@ use native.Mathlib.Numerals.{add-one}
 use native.Mathlib.Omega.{arith}
 use lib.ListN.{length, getD, take, drop, List·getD-append}
 use lib.Seq.{getD-drop, drop-cons, drop-append-seam}
-use Rattle.columns.specs.Number.{numberAt, numberBytes}
+use Rattle.records.specs.Number.{numberAt, numberBytes}
 
 pub number-length : (w x : ℕ) → length (numberBytes w x) ≡ w
 unfolding numberBytes

@@ -1,5 +1,4 @@
 -- Little-endian numbers of any width in bytes (01, The files).
--- Assumes nothing.
 use Prim.Native.Nat.{ℕ, zero, suc, _+_, _*_, _/_, _%_}
 use mathlib.Core.List.{List, [], _∷_}
 use lib.ListN.{getD}

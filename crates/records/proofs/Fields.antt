@@ -2,7 +2,6 @@
 -- put behind what it has written, that makes the whole.
 --   number-none, -more, -all   the loop over a number's bytes: its start, a turn, its end
 --   owed-none, -next, -all     the same of the loop over fields (record Owed); owed-room: the next one has room
--- Assumes nothing.
 use mathlib.Core.Path.{_≡_, refl, sym, _∙_}
 use mathlib.Core.List.{List, [], _∷_, _++_}
 use Prim.Native.Nat.{ℕ, suc, _+_, _-_, _/_, _%_, _≤_, _<_}
@@ -10,12 +9,12 @@ use native.Mathlib.Numerals.{add-one}
 use native.Mathlib.Omega.{arith}
 use lib.ListN.{length, drop, set}
 use lib.Seq.{drop-cons, drop-length}
 use Rattle.columns.specs.Table.{at}
-use Rattle.columns.specs.Number.{numberBytes}
-use Rattle.columns.specs.Fields.{span, fieldsBytes}
-use Rattle.columns.specs.Buffer.{put}
-use Rattle.columns.proofs.Number.{number-length}
-use Rattle.columns.proofs.Buffer.{put-length, put-none, put-put, set-put}
+use Rattle.records.specs.Number.{numberBytes}
+use Rattle.records.specs.Fields.{span, fieldsBytes}
+use Rattle.records.specs.Buffer.{put}
+use Rattle.records.proofs.Number.{number-length}
+use Rattle.records.proofs.Buffer.{put-length, put-none, put-put, set-put}
 
 -- a run put in two: its first element by a store, the others behind it
 put-first : (l : List ℕ) (k b : ℕ) (bs : List ℕ) → k < length l → put (set l k b) (k + 1) bs ≡ put l k (b ∷ bs)

@@ -1,9 +1,9 @@
--- `columns::number_at` meets its contract: the loop has read the bytes above i. Assumes nothing.
+-- `columns::number_at` meets its contract: the loop has read the bytes above i.
 use Prim.Native.Nat.{_<_, _^_}
 use borrow.Author.Needs.{needs}
-use Rattle.columns.proofs.Reading.{Read, read-none, read-room, read-next, read-all}
-use Rattle.columns.proofs.number_at.Statement.{statement}
-use Rattle.columns.proofs.number_at.Tie as tie
+use Rattle.records.proofs.Reading.{Read, read-none, read-room, read-next, read-all}
+use Rattle.records.proofs.number_at.Statement.{statement}
+use Rattle.records.proofs.number_at.Tie as tie
 
 abbrev Inv-loop : tie.InvT-loop
 Inv-loop s at width v₀ i₀ v i = Read s at width v i

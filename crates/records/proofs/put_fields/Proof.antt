@@ -1,10 +1,10 @@
--- `columns::put_fields` meets its contract: the fields from i on are still owed, from `end` on. Assumes nothing.
+-- `columns::put_fields` meets its contract: the fields from i on are still owed, from `end` on.
 use Prim.Native.Nat.{_-_}
 use borrow.Author.Needs.{needs}
 use lib.ListN.{length}
-use Rattle.columns.proofs.Fields.{Owed, owed-none, owed-room, owed-next, owed-all}
-use Rattle.columns.proofs.put_fields.Statement.{statement}
-use Rattle.columns.proofs.put_fields.Tie as tie
+use Rattle.records.proofs.Fields.{Owed, owed-none, owed-room, owed-next, owed-all}
+use Rattle.records.proofs.put_fields.Statement.{statement}
+use Rattle.records.proofs.put_fields.Tie as tie
 
 abbrev Inv-loop : tie.InvT-loop
 Inv-loop out₀ at widths fields end₀ i₀ out end i = Owed out₀ at widths fields out end i

@@ -1,5 +1,4 @@
 -- What a lent buffer holds once a run of bytes is put into it: nothing else changes, nor does its length.
--- Assumes nothing.
 use Prim.Native.Nat.{ℕ, _+_}
 use mathlib.Core.List.{List, _++_}
 use lib.ListN.{length, take, drop}

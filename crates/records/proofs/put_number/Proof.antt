@@ -1,14 +1,14 @@
--- `columns::put_number` meets its contract: the bytes from i on are still owed. Assumes nothing.
+-- `columns::put_number` meets its contract: the bytes from i on are still owed.
 use mathlib.Core.Path.{_≡_}
 use Prim.Native.Nat.{_+_, _-_, _≤_}
 use native.Mathlib.Omega.{arith}
 use borrow.Author.Needs.{needs}
 use lib.ListN.{length, length-set}
-use Rattle.columns.specs.Number.{numberBytes}
-use Rattle.columns.specs.Buffer.{put}
-use Rattle.columns.proofs.Fields.{number-none, number-more, number-all}
-use Rattle.columns.proofs.put_number.Statement.{statement}
-use Rattle.columns.proofs.put_number.Tie as tie
+use Rattle.records.specs.Number.{numberBytes}
+use Rattle.records.specs.Buffer.{put}
+use Rattle.records.proofs.Fields.{number-none, number-more, number-all}
+use Rattle.records.proofs.put_number.Statement.{statement}
+use Rattle.records.proofs.put_number.Tie as tie
 
 abbrev Inv-loop : tie.InvT-loop
 Inv-loop out₀ at width x left₀ i₀ out left i =

@@ -10,7 +10,6 @@
 --   put-before, put-after on either side of it stands what stood there
 --   take-put, put-taken   the first elements up to the run's end, and the run alone, taken out again
 --   drop-put              what follows the run is as it was
--- Assumes nothing.
 use mathlib.Core.Path.{_≡_, refl, sym, ap, _∙_}
 use mathlib.Core.List.{List, [], _∷_, _++_, append-assoc, append-nil}
 use Prim.Native.Nat.{ℕ, _+_, _-_, _≤_, _<_}
@@ -19,7 +18,7 @@ use native.Mathlib.Numerals.{add-one}
 use native.Mathlib.Omega.{arith}
 use lib.ListN.{length, getD, take, drop, set, length-append, length-take, length-drop, take-append-drop, List·getD-append}
 use lib.Seq.{length-take-le, take-suc, take-at, drop-at, drop-drop, set-split, getD-take, getD-drop, getD-append-add, take-all, drop-length}
-use Rattle.columns.specs.Buffer.{put}
+use Rattle.records.specs.Buffer.{put}
 
 module _ {A : Type 0} where
   pub put-length : (l : List A) (k : ℕ) (vs : List A) → k + length vs ≤ length l → length (put l k vs) ≡ length l

@@ -1,13 +1,13 @@
--- `columns::put_bytes` meets its contract: so far the first i elements of the source are put. Assumes nothing.
-use Rattle.columns.proofs.put_bytes.Statement.{statement}
+-- `columns::put_bytes` meets its contract: so far the first i elements of the source are put.
+use Rattle.records.proofs.put_bytes.Statement.{statement}
 use mathlib.Core.Path.{_≡_}
 use Prim.Native.Nat.{_-_, _≤_}
 use native.Mathlib.Omega.{arith}
 use borrow.Author.Needs.{needs}
 use lib.ListN.{length, take, length-set}
-use Rattle.columns.specs.Buffer.{put}
-use Rattle.columns.proofs.Buffer.{copy-none, copy-more, copy-all}
-use Rattle.columns.proofs.put_bytes.Tie as tie
+use Rattle.records.specs.Buffer.{put}
+use Rattle.records.proofs.Buffer.{copy-none, copy-more, copy-all}
+use Rattle.records.proofs.put_bytes.Tie as tie
 
 abbrev Inv-loop : tie.InvT-loop
 Inv-loop out₀ at src i₀ out i =

@@ -4,7 +4,6 @@
 --   number-same    the same bytes make the same number, wherever they stand
 --   shift-bound    one byte more keeps below the next power of 256
 --   room           below 256 ^ w with w at most 7, a byte more still fits 64 bits
--- Assumes nothing.
 use mathlib.Core.Path.{_≡_, refl}
 use Prim.Native.Nat.{ℕ, zero, suc, _+_, _-_, _*_, _^_, _≤_, _<_}
 use native.Mathlib.Nat.{pow-suc, pow-le-pow-right, add-assoc, add-zero}
@@ -12,7 +11,7 @@ use native.Mathlib.Omega.{arith}
 use mathlib.Core.List.{List}
 use lib.Dec.{lit<}
 use lib.ListN.{getD}
-use Rattle.columns.specs.Number.{numberAt}
+use Rattle.records.specs.Number.{numberAt}
 
 pub number-next : (s : List ℕ) (at w i v : ℕ) → v ≡ numberAt (w - i) s (at + i) → 0 < i → i ≤ w
     → v * 256 + getD s (at + (i - 1)) 0 ≡ numberAt (w - (i - 1)) s (at + (i - 1))

@@ -1,8 +1,7 @@
 -- A record in bytes: its fields one after the other, each in its own width (01, The files).
--- Assumes nothing.
 use Prim.Native.Nat.{ℕ, _+_}
 use mathlib.Core.List.{List, [], _∷_, _++_}
-use Rattle.columns.specs.Number.{numberBytes}
+use Rattle.records.specs.Number.{numberBytes}
 
 -- how many bytes fields of these widths take
 unfoldable pub span : List ℕ → ℕ

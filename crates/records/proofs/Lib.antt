@@ -1,0 +1,5 @@
+pub mod Number
+pub mod Buffer
+pub mod Fields
+pub mod Reading
+pub mod Unique

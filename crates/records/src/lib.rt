@@ -1,0 +1,69 @@
+// Numbers and records in bytes (01, The files): little-endian numbers of any width, a record as a table of widths.
+ghost use mathlib.Core.Path.{_≡_};
+ghost use Prim.Native.Nat.{_+_, _≤_, _<_, _^_};
+ghost use lib.ListN.{length};
+ghost use Rattle.records.specs.Number.{numberAt, numberBytes};
+ghost use Rattle.records.specs.Fields.{span, fieldsBytes};
+ghost use Rattle.records.specs.Buffer.{put};
+
+// A byte as a number to reckon with.
+pub fn wide(x: u8) -> u64
+    ensures { λ r. ⌜ (r ≡ x) × (r < 256) ⌝ }
+{
+    x as u64
+}
+
+// The number in so many bytes from a position on, lowest byte first; taken from the top byte down.
+pub fn number_at(s: &[u8], at: usize, width: usize) -> u64
+    requires { ⌜ (at + width ≤ length (now s)) × (width ≤ 8) ⌝ }
+    ensures { λ r. ⌜ (r ≡ numberAt width (now (s .entry)) at) × (r < 256 ^ width) ⌝ }
+{
+    let mut v: u64 = 0;
+    let mut i = width;
+    while 0 < i {
+        i -= 1;
+        v = v * 256 + wide(s[at + i]);
+    }
+    v
+}
+
+// Copies src into out from position at on; nothing else of out changes.
+pub fn put_bytes(out: &mut [u8], at: usize, src: &[u8])
+    requires { ⌜ at + length (now src) ≤ length (now out) ⌝ }
+    ensures { λ r. ⌜ now (out .exit) ≡ put (now (out .entry)) at (now (src .entry)) ⌝ }
+{
+    let mut i = 0;
+    while i < src.len() {
+        out[at + i] = src[i];
+        i += 1;
+    }
+}
+
+// Puts a number from a position on, in so many bytes, lowest byte first.
+pub fn put_number(out: &mut [u8], at: usize, width: usize, x: u64)
+    requires { ⌜ at + width ≤ length (now out) ⌝ }
+    ensures { λ r. ⌜ now (out .exit) ≡ put (now (out .entry)) at (numberBytes width x) ⌝ }
+{
+    let mut left = x;
+    let mut i = 0;
+    while i < width {
+        out[at + i] = (left % 256) as u8;
+        left /= 256;
+        i += 1;
+    }
+}
+
+// Puts a record's fields one after the other from a position on, each in its own width.
+pub fn put_fields(out: &mut [u8], at: usize, widths: &[u8], fields: &[u64])
+    requires { ⌜ (length (now fields) ≡ length (now widths)) × (at + span (now widths) ≤ length (now out)) ⌝ }
+    ensures { λ r. ⌜ now (out .exit) ≡ put (now (out .entry)) at (fieldsBytes (now (widths .entry)) (now (fields .entry))) ⌝ }
+{
+    let mut end = at;
+    let mut i = 0;
+    while i < widths.len() {
+        let width = wide(widths[i]) as usize;
+        put_number(out, end, width, fields[i]);
+        end += width;
+        i += 1;
+    }
+}
