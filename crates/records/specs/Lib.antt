@@ -1,3 +1,4 @@
 pub mod Number
 pub mod Fields
 pub mod Buffer
+pub mod Record
