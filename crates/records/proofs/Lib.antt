@@ -5,3 +5,5 @@ pub mod Reading
 pub mod Record
 pub mod Got
 pub mod Unique
+pub mod Sheet
+pub mod Column

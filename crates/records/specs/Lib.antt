@@ -2,3 +2,4 @@ pub mod Number
 pub mod Fields
 pub mod Buffer
 pub mod Record
+pub mod Sheet

@@ -1,4 +1,10 @@
 // Numbers and records in bytes (01, The files): little-endian numbers of any width, a record as a table of widths.
+mod cells;
+
+pub use cells::cell;
+pub use cells::get_column;
+pub use cells::put_cell;
+pub use cells::put_column;
 ghost use mathlib.Core.Path.{_≡_};
 ghost use Prim.Native.Nat.{_+_, _≤_, _<_, _^_};
 ghost use lib.ListN.{length};
@@ -7,6 +13,15 @@ ghost use Rattle.records.specs.Number.{numberAt, numberBytes};
 ghost use Rattle.records.specs.Fields.{span, fieldsBytes};
 ghost use Rattle.records.specs.Buffer.{put};
 ghost use Rattle.records.specs.Record.{marked, recordSize, recordAt, recordBytes, narrow, Fits};
+
+// A field of a table of widths, where records of that table stand one after the other: the first begins at `start`, each `stride` bytes
+// after the one before, and the field `offset` bytes into its record.
+pub struct Field {
+    pub start: usize,
+    pub stride: usize,
+    pub offset: usize,
+    pub width: usize,
+}
 
 // A byte as a number to reckon with.
 pub fn wide(x: u8) -> u64
