@@ -4,6 +4,7 @@
 --   field-at         where field j of the fields from position k on stands
 --   fits-each, fits-at   that numbers fit their widths, from and to one order for each position
 --   fields-read, record-read     read after write: fields that fit their widths are read again, whatever stands around them
+--   record-drop, record-behind   reading from a part of a list is reading further on in it
 --   fields-write, record-write   write after read: bytes, read as fields, are written as the same bytes
 --   fields-fit       fields read from bytes fit their widths
 --   field-put        a number put at the place of field j is the record with that field changed
@@ -113,6 +114,13 @@ unfolding recordAt recordBytes
 record-read letter ws xs a b e f =
     fields-behind ws a (letterP ∷ letter ∷ fieldsBytes ws xs ++ b) (length a) 2 refl
     ∙ fields-read ws xs (letterP ∷ letter ∷ []) b e f
+
+pub record-drop : (ws s : List ℕ) (n k : ℕ) → recordAt ws (drop n s) k ≡ recordAt ws s (n + k)
+unfolding recordAt
+record-drop ws s n k = rw (add-assoc n k 2) (fields-drop ws s n (k + 2))
+
+pub record-behind : (ws a b : List ℕ) (n k : ℕ) → length a ≡ n → recordAt ws (a ++ b) (n + k) ≡ recordAt ws b k
+record-behind ws a b n k e = sym (record-drop ws (a ++ b) n k) ∙ ap (λ (s : List ℕ). recordAt ws s k) (drop-at a b n e)
 
 pub fields-write : (ws s : List ℕ) (k : ℕ) → ((i : ℕ) → getD s i 0 < 256) → k + span ws ≤ length s
     → fieldsBytes ws (fieldsAt ws s k) ≡ take (span ws) (drop k s)

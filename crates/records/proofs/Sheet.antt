@@ -4,11 +4,13 @@
 --   sheet-of           a field's column, if its numbers fit its width
 --   sheet-cell-with    the same of one cell: one record with one field changed; sheet-turn: of a stage that goes from record to record
 --   sheet-cell-of      one cell, if its number fits
+--   sheet-record       a whole record, if its fields fit; records-read: the same of records one after the other
+--   cell-record        a field's cell is that field of the record read there
 --   sheet-none, -next  how a sheet grows, record by record
 --   sheet-same         lines that agree make the same sheet
 --   sheet-head         a run put in front of the sheet
 --   sheet-length, cell-length, column-length    the buffer keeps its length
---   records-length, records-joined              of records one after the other
+--   records-length, lines-length, records-joined      of records one after the other; lines-read: between any bytes
 --   upTo-done, upTo-left, upTo-full             what the first m records of a stage have, and the others
 use mathlib.Core.Path.{_≡_, refl, sym, ap, _∙_}
 use mathlib.Core.Bool.{Bool, true, false, cond}
@@ -19,8 +21,8 @@ use native.Mathlib.Nat.{add-assoc, le-of-suc-le-suc, mul-le-mul-right}
 use native.Mathlib.Numerals.{add-one}
 use native.Mathlib.Omega.{arith}
 use lib.Dec.{ltb, eqb}
-use lib.ListN.{length, getD, take, set, length-append, length-set}
-use lib.Seq.{getD-set-same, getD-set-other}
+use lib.ListN.{length, getD, take, drop, set, length-append, length-set}
+use lib.Seq.{getD-set-same, getD-set-other, length-take-le}
 use borrow.Author.Tests.{lt-ltb, le-ltb, eqb-true, eqb-false}
 use Rattle.columns.specs.Table.{at, table, Below}
 use Rattle.columns.proofs.Sum.{lt-or-le}
@@ -28,13 +30,13 @@ use Rattle.columns.proofs.Table.{table-length, table-at, table-same, table-is, 
 use Rattle.records.specs.Number.{numberAt, numberBytes}
 use Rattle.records.specs.Fields.{span}
 use Rattle.records.specs.Buffer.{put}
-use Rattle.records.specs.Record.{recordSize, recordBytes, recordsBytes}
+use Rattle.records.specs.Record.{recordSize, recordAt, recordBytes, recordsBytes, Fits}
 use Rattle.records.specs.Sheet.{fieldOf, cellAt, cell, columnOf, withCell, withCells, withColumn, Lined, sheet, upTo}
 use Rattle.records.specs.declared.Field.{Field}
 use Rattle.records.proofs.Number.{number-length, number-front}
 use Rattle.records.proofs.Reading.{number-same}
 use Rattle.records.proofs.Buffer.{put-length, put-none, put-put, put-left, put-right, put-within, put-ahead, put-inside}
-use Rattle.records.proofs.Record.{record-length, record-with, record-is, number-behind, span-part}
+use Rattle.records.proofs.Record.{record-length, record-with, record-is, record-read, record-behind, field-at, number-behind, span-part}
 
 -- every record has as many fields as the table
 abbrev Full : List ℕ → List (List ℕ) → Type 0
@@ -106,6 +108,27 @@ records-is letter ws (xs ∷ xss) j (suc k) h l m f =
     (k * recordSize ws + (2 + span (take j ws))) long
     ∙ records-is letter ws xss j k (full-rest ws xs xss h) l (le-of-suc-le-suc m) f)
 
+pub records-read : (letter : ℕ) (ws : List ℕ) (xss : List (List ℕ)) (b : List ℕ) (k : ℕ) → Full ws xss → k < length xss → Fits ws (getD xss k [])
+    → recordAt ws (recordsBytes letter ws xss ++ b) (k * recordSize ws) ≡ getD xss k []
+unfolding recordsBytes
+records-read letter ws [] b k h m f = absurd (omega arith)
+records-read letter ws (xs ∷ xss) b zero h m f =
+    let here : 0 * recordSize ws ≡ 0 = omega arith in
+    rw (here, append-assoc (recordBytes letter ws xs) (recordsBytes letter ws xss) b)
+    (record-read letter ws xs [] (recordsBytes letter ws xss ++ b) (h 0 (omega arith)) f)
+records-read letter ws (xs ∷ xss) b (suc k) h m f =
+    let there : suc k * recordSize ws ≡ recordSize ws + k * recordSize ws = omega arith in
+    rw (there, append-assoc (recordBytes letter ws xs) (recordsBytes letter ws xss) b)
+    (record-behind ws (recordBytes letter ws xs) (recordsBytes letter ws xss ++ b) (recordSize ws) (k * recordSize ws)
+    (record-length letter ws xs (h 0 (omega arith)))
+    ∙ records-read letter ws xss b k (full-rest ws xs xss h) (le-of-suc-le-suc m) f)
+
+pub cell-record : (start : ℕ) (ws s : List ℕ) (j i : ℕ) → j < length ws
+    → cell (fieldOf start ws j) s i ≡ at (recordAt ws s (start + i * recordSize ws)) j
+unfolding recordAt
+cell-record start ws s j i l =
+    rw (← add-assoc (start + i * recordSize ws) 2 (span (take j ws))) (sym (field-at ws s (start + i * recordSize ws + 2) j l))
+
 -- a number within a run that was put is read from the run
 number-within : (w : ℕ) (l : List ℕ) (k : ℕ) (vs : List ℕ) (m : ℕ) → k ≤ length l → m + w ≤ length vs
     → numberAt w (put l k vs) (k + m) ≡ numberAt w vs m
@@ -144,19 +167,37 @@ pub sheet-none : (start letter : ℕ) (ws out : List ℕ) (f : ℕ → List ℕ)
 unfolding sheet table recordsBytes
 sheet-none start letter ws out f = put-none out start
 
-module _ (start letter : ℕ) (ws out : List ℕ) (n : ℕ) (f : ℕ → List ℕ) (full : (i : ℕ) → length (f i) ≡ length ws) where
-  lines-length : length (recordsBytes letter ws (table n f)) ≡ n * recordSize ws
+module _ (letter : ℕ) (ws : List ℕ) (n : ℕ) (f : ℕ → List ℕ) (full : (i : ℕ) → length (f i) ≡ length ws) where
+  pub lines-length : length (recordsBytes letter ws (table n f)) ≡ n * recordSize ws
   lines-length = records-length letter ws (table n f) (full-table ws n f full) ∙ rw (table-length n f)
+
+  pub lines-read : (a b : List ℕ) (start k : ℕ) → length a ≡ start → k < n → Fits ws (f k)
+      → recordAt ws (a ++ (recordsBytes letter ws (table n f) ++ b)) (start + k * recordSize ws) ≡ f k
+  lines-read a b start k e l fits =
+      let this : getD (table n f) k [] ≡ f k = table-at [] n f k l in
+      record-behind ws a (recordsBytes letter ws (table n f) ++ b) start (k * recordSize ws) e
+      ∙ records-read letter ws (table n f) b k (full-table ws n f full) (omega (arith, table-length n f)) (rw this fits) ∙ this
+
+module _ (start letter : ℕ) (ws out : List ℕ) (n : ℕ) (f : ℕ → List ℕ) (full : (i : ℕ) → length (f i) ≡ length ws) where
+  lines : length (recordsBytes letter ws (table n f)) ≡ n * recordSize ws
+  lines = lines-length letter ws n f full
 
   pub sheet-length : start + n * recordSize ws ≤ length out → length (sheet start letter ws out n f) ≡ length out
   unfolding sheet
-  sheet-length room = put-length out start (recordsBytes letter ws (table n f)) (omega (arith, lines-length))
+  sheet-length room = put-length out start (recordsBytes letter ws (table n f)) (omega (arith, lines))
+
+  pub sheet-record : (k : ℕ) → start ≤ length out → k < n → Fits ws (f k)
+      → recordAt ws (sheet start letter ws out n f) (start + k * recordSize ws) ≡ f k
+  unfolding sheet put
+  sheet-record k room l fits =
+      lines-read letter ws n f full (take start out) (drop (start + length (recordsBytes letter ws (table n f))) out) start k
+      (length-take-le start out room) l fits
 
   pub sheet-next : start ≤ length out
       → put (sheet start letter ws out n f) (start + n * recordSize ws) (recordBytes letter ws (f n)) ≡ sheet start letter ws out (n + 1) f
   unfolding sheet
   sheet-next room =
-      put-put out start (start + n * recordSize ws) (recordsBytes letter ws (table n f)) (recordBytes letter ws (f n)) (omega (arith, lines-length)) room
+      put-put out start (start + n * recordSize ws) (recordsBytes letter ws (table n f)) (recordBytes letter ws (f n)) (omega (arith, lines)) room
       ∙ ap (put out start) (rw (table-next n f, records-joined letter ws (table n f) (f n ∷ [])) last) where
         last : recordsBytes letter ws (table n f) ++ recordBytes letter ws (f n) ≡ recordsBytes letter ws (table n f) ++ recordsBytes letter ws (f n ∷ [])
         last = unfold recordsBytes in rw (append-nil (recordBytes letter ws (f n)))
@@ -176,7 +217,7 @@ module _ (start letter : ℕ) (ws out : List ℕ) (n : ℕ) (f : ℕ → List �
   sheet-cell-with k x g l here others =
       let lines = recordsBytes letter ws (table n f) in
       let place = k * recordSize ws + (2 + span (take j ws)) in
-      let long : length lines ≡ n * recordSize ws = lines-length start letter ws out n f full in
+      let long : length lines ≡ n * recordSize ws = lines-length letter ws n f full in
       let below : suc k * recordSize ws ≤ n * recordSize ws = mul-le-mul-right (recordSize ws) l in
       rw (add-assoc start (k * recordSize ws) (2 + span (take j ws)))
       (put-within out start lines place (numberBytes (at ws j) x) room (omega (arith, number-length (at ws j) x, span-part ws j known))
@@ -189,7 +230,7 @@ module _ (start letter : ℕ) (ws out : List ℕ) (n : ℕ) (f : ℕ → List �
   sheet-cell-of k l fits =
       let lines = recordsBytes letter ws (table n f) in
       let place = k * recordSize ws + (2 + span (take j ws)) in
-      let long : length lines ≡ n * recordSize ws = lines-length start letter ws out n f full in
+      let long : length lines ≡ n * recordSize ws = lines-length letter ws n f full in
       let below : suc k * recordSize ws ≤ n * recordSize ws = mul-le-mul-right (recordSize ws) l in
       let this : getD (table n f) k [] ≡ f k = table-at [] n f k l in
       rw (add-assoc start (k * recordSize ws) (2 + span (take j ws)))
@@ -214,15 +255,20 @@ sheet-turn start letter ws out n f g j hf hg known room m x l here =
     (λ (p : m ≤ i). upTo-left (m + 1) g f i (omega arith) ∙ sym (upTo-left m g f i p))
     (lt-or-le i m))
 
+-- the records with the numbers of a column in field j
+abbrev changed : (ℕ → List ℕ) → ℕ → List ℕ → ℕ → List ℕ
+changed f j xs i = set (f i) j (at xs i)
+
 module _ (start letter : ℕ) (ws out : List ℕ) (n : ℕ) (f : ℕ → List ℕ) (j : ℕ) (xs : List ℕ)
     (full : (i : ℕ) → length (f i) ≡ length ws) (known : j < length ws) (room : start ≤ length out) where
   sheet-cells : (m : ℕ) → m ≤ n
-      → withCells (fieldOf start ws j) m xs (sheet start letter ws out n f) ≡ sheet start letter ws out n (upTo m (λ i. set (f i) j (at xs i)) f)
+      → withCells (fieldOf start ws j) m xs (sheet start letter ws out n f) ≡ sheet start letter ws out n (upTo m (changed f j xs) f)
   unfolding withCells
-  sheet-cells zero l = sheet-same start letter ws out n f (upTo 0 (λ i. set (f i) j (at xs i)) f) (λ i q. sym (upTo-left 0 (λ i. set (f i) j (at xs i)) f i (omega arith)))
+  sheet-cells zero l = sheet-same start letter ws out n f (upTo 0 (changed f j xs) f) (λ i q. sym (upTo-left 0 (changed f j xs) f i (omega arith)))
   sheet-cells (suc m) l =
       ap (withCell (fieldOf start ws j) m (at xs m)) (sheet-cells m (omega arith))
-      ∙ (rw (add-one m) at (sheet-turn start letter ws out n f (λ i. set (f i) j (at xs i)) j full (λ i. length-set (f i) j (at xs i) ∙ full i) known room m (at xs m) l refl))
+      ∙ (rw (add-one m) at (sheet-turn start letter ws out n f (changed f j xs) j full (λ i. length-set (f i) j (at xs i) ∙ full i) known
+      room m (at xs m) l refl))
 
   pub sheet-with : length xs ≡ n
       → withColumn (fieldOf start ws j) xs (sheet start letter ws out n f) ≡ sheet start letter ws out n (λ i. set (f i) j (at xs i))
@@ -230,7 +276,7 @@ module _ (start letter : ℕ) (ws out : List ℕ) (n : ℕ) (f : ℕ → List �
   sheet-with e =
       rw e
       (sheet-cells n (omega arith)
-      ∙ sheet-same start letter ws out n (upTo n (λ i. set (f i) j (at xs i)) f) (λ i. set (f i) j (at xs i)) (λ i l. upTo-done n (λ i. set (f i) j (at xs i)) f i l))
+      ∙ sheet-same start letter ws out n (upTo n (changed f j xs) f) (changed f j xs) (upTo-done n (changed f j xs) f))
 
 pub cell-length : (f : Field) (i x : ℕ) (s : List ℕ) → cellAt f i + f .width ≤ length s → length (withCell f i x s) ≡ length s
 unfolding withCell
