@@ -8,7 +8,7 @@ use units::most;
 ghost use mathlib.Core.Path.{_≡_};
 ghost use Rattle.columns.specs.Test.{within, firstOf};
 ghost use Rattle.files.specs.Range.{headOk, correctionHeadOk, statusOk, notOffering, offering, rowOk};
-ghost use Rattle.files.specs.Fault.{rowChecks};
+ghost use Rattle.files.specs.Order.{rowChecks};
 
 const LAST_DAY: u32 = 36524;
 

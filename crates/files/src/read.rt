@@ -11,7 +11,7 @@ use units::Li;
 ghost use mathlib.Core.Path.{_≡_};
 ghost use Prim.Native.Nat.{_+_, _≤_};
 ghost use lib.ListN.{length};
-ghost use Rattle.files.specs.Layout.{marked, headAt, rowAt, correctionHeadAt};
+ghost use Rattle.files.specs.Layout.{headSize, rowSize, correctionHeadSize, marked, headAt, rowAt, correctionHeadAt};
 ghost use Rattle.files.specs.Terms.{termsOf};
 
 // Whether a record's mark stands at a position: the letter P and the letter given.
@@ -23,7 +23,7 @@ pub fn marked(s: &[u8], at: usize, letter: u8) -> bool
 }
 
 pub fn head_at(s: &[u8]) -> Head
-    requires { ⌜ 15 ≤ length (now s) ⌝ }
+    requires { ⌜ headSize ≤ length (now s) ⌝ }
     ensures { λ r. ⌜ r ≡ headAt (now (s .entry)) ⌝ }
 {
     Head {
@@ -36,7 +36,7 @@ pub fn head_at(s: &[u8]) -> Head
 }
 
 pub fn row_at(s: &[u8], at: usize) -> Row
-    requires { ⌜ at + 21 ≤ length (now s) ⌝ }
+    requires { ⌜ at + rowSize ≤ length (now s) ⌝ }
     ensures { λ r. ⌜ r ≡ rowAt (now (s .entry)) at ⌝ }
 {
     Row {
@@ -53,7 +53,7 @@ pub fn row_at(s: &[u8], at: usize) -> Row
 }
 
 pub fn correction_head_at(s: &[u8]) -> CorrectionHead
-    requires { ⌜ 9 ≤ length (now s) ⌝ }
+    requires { ⌜ correctionHeadSize ≤ length (now s) ⌝ }
     ensures { λ r. ⌜ r ≡ correctionHeadAt (now (s .entry)) ⌝ }
 {
     CorrectionHead {
@@ -72,7 +72,7 @@ pub fn terms_of(s: &[u8]) -> Terms
 
 // A row's id alone.
 pub fn id_at(s: &[u8], at: usize) -> u16
-    requires { ⌜ at + 21 ≤ length (now s) ⌝ }
+    requires { ⌜ at + rowSize ≤ length (now s) ⌝ }
     ensures { λ r. ⌜ r ≡ rowAt (now (s .entry)) at .id ⌝ }
 {
     number_at(s, at + 2, 2) as u16

@@ -26,7 +26,7 @@ enum-told : tie.Need-enum-told
 enum-told c = search needs
 
 beside-verdict-requires : tie.Need-beside-verdict-requires
-beside-verdict-requires c κs = (search needs, (search correction-there, (search needs, (search needs, search theirs-sound))))
+beside-verdict-requires c κs = (search needs, search theirs-sound)
 
 returns-2 : tie.Need-returns-2
 returns-2 c = search bad-row
