@@ -1,87 +1,68 @@
 -- What callers may use of a pair of files, by its verdict alone.
 --   accepted-count      the count that is accepted is the head's
---   accepted-length     the interval file has 15 + 21n bytes
+--   accepted-length     the interval file is a head and n rows long
 --   accepted-few        n is at most 256
 --   accepted-head       the head's fields are in their ranges
 --   accepted-row        every row that counts is in its ranges
 --   accepted-ranges     the same as plain facts
 --   counting-id         the row that counts has the interval row's id
---   counting-terms      and its kind, capacity, offered, minimum and bids: only metered and status may differ
+--   counting-alike      and its kind, capacity, offered, minimum and bids: only metered and status may differ
 --   ids-rise            ids of the interval's rows rise strictly
 --   counting-rise       and so do those of the rows that count
 --   source-at           what a column of sources has at row i
 --   row-ranges, head-ranges (Ranges.antt)      a row, a head in its ranges as a record of facts
---   refused-first, first-refused, accepted-first, first-accepted, file-first (First.antt)
---                       number k at place p is given exactly when a check gives it and none before it applies; 0 exactly when none does
---   head-unique, row-unique, correction-head-unique, test-unique, number-unique, check-unique, interval-unique, counting-unique,
---   sources-unique, counting-row-unique, seek-unique      two results that a contract allows are equal; test-unique serves the
---                       tests, number-unique `row_checks`, `row_count`, `correction_count` and `id_at`
+--   zero-none, none-zero, number-earliest, earliest-number (Answer.antt)
+--                       number 0 is given exactly if no check applies, number a ≠ 0 and place p exactly if the first that applies has them
 use mathlib.Core.Path.{_≡_, refl, _∙_}
-use Prim.Native.Nat.{ℕ, zero, suc, _+_, _*_, _≤_, _<_}
-use mathlib.Core.Logic.{⊎-elim}
+use Prim.Native.Nat.{ℕ, _+_, _<_}
 use mathlib.Core.Bool.{Bool, true, false, cond}
 use mathlib.Core.List.{List}
-use native.Mathlib.Nat.{le-of-suc-le-suc}
 use native.Mathlib.Omega.{arith}
-use lib.Dec.{eqb, ltb}
+use lib.Dec.{ltb}
 use lib.ListN.{getD}
-use borrow.Author.Tests.{ltb-true, eqb-true, eq-eqb}
+use borrow.Author.Tests.{ltb-true, eq-eqb, ne-eqb}
 use Rattle.columns.specs.Table.{table}
 use Rattle.records.specs.Buffer.{put}
 use Rattle.columns.proofs.Table.{table-length, table-at}
 use Rattle.records.proofs.Buffer.{put-inside}
 use Rattle.columns.proofs.First.{right-true}
-use Rattle.columns.proofs.Unique.{unique}
-use Rattle.columns.proofs.Sum.{lt-or-le}
-use Rattle.files.specs.Layout.{rowAt, rowStart, correctionStart, headAt, correctionHeadAt, rowCount, correctionCount}
+use Rattle.columns.proofs.Rank.{find-is}
+use Rattle.files.specs.Layout.{headSize, correctionHeadSize, rowAt, rowStart, correctionStart}
+use Rattle.files.specs.Layout.{headAt, rowCount, correctionCount}
+use Rattle.files.specs.Terms.{termsOf}
 use Rattle.files.specs.Range.{rowOk}
-use Rattle.files.specs.Fault.{findId, sameTerms, corrects, intervalFault, verdict, verdictOf}
-use Rattle.files.specs.Counting.{inCorrection, countingBytes, sourceOf, countingRow}
-use Rattle.files.specs.Walk.{idOf, Rows, Sought}
-use Rattle.files.specs.declared.Head.{Head}
-use Rattle.files.specs.declared.CorrectionHead.{CorrectionHead}
+use Rattle.files.specs.Walk.{idOf, hasId, findId, inCorrection, Own}
+use Rattle.files.specs.Order.{alike, corrects, verdict, verdictOf}
+use Rattle.files.specs.Counting.{countingRow}
 use Rattle.files.specs.declared.Row.{Row}
-use Rattle.files.specs.declared.Verdict.{Verdict}
 use Rattle.files.specs.declared.Verdict.the-variants.{Accepted}
-use Rattle.files.proofs.Accepted.{accepted-head-ok, accepted-rows, accepted-theirs, accepted-names}
-use Rattle.files.proofs.Found.{find-at}
+use Rattle.files.proofs.Accepted.{accepted-own, accepted-head-ok, accepted-row-ok, accepted-rows, accepted-corrected}
+use Rattle.files.proofs.Found.{find-has}
 use Rattle.files.proofs.Ranges.{HeadRanges, head-ranges, RowRanges, row-ranges}
 pub use Rattle.files.proofs.Accepted.{accepted-count, accepted-length, accepted-few}
 
--- a search that ends at a row found its id there
-find-has : (n : ℕ) (s : List ℕ) (k id : ℕ) → findId s k n id < n → idOf s k (findId s k n id) ≡ id
-unfolding findId rowAt
-find-has zero s k id l = absurd (omega arith)
-find-has (suc n) s k id l = go (eqb (rowAt s k .id) id) refl (find-has n s (k + 21) id) where
-  go : (t : Bool) → eqb (rowAt s k .id) id ≡ t
-      → (findId s (k + 21) n id < n → idOf s (k + 21) (findId s (k + 21) n id) ≡ id)
-      → idOf s k (cond t 0 (suc (findId s (k + 21) n id))) ≡ id
-  go true q f = let here : k + 0 * 21 ≡ k = omega arith in rw here (eqb-true (rowAt s k .id) id q)
-  go false q f =
-      let there : k + suc (findId s (k + 21) n id) * 21 ≡ k + 21 + findId s (k + 21) n id * 21 = omega arith in
-      rw there (f (le-of-suc-le-suc (rw q at l)))
-
 -- what holds of the interval's own row, and of the correction's row where it names that one, holds of the row that counts
 counted : (s k : List ℕ) (i : ℕ) (P : Row → Type 0)
-    → (inCorrection k (rowAt s (rowStart i) .id) < correctionCount k → P (rowAt k (correctionStart (inCorrection k (rowAt s (rowStart i) .id)))))
+    → (inCorrection k (idOf s headSize i) < correctionCount k → P (rowAt k (correctionStart (inCorrection k (idOf s headSize i)))))
     → P (rowAt s (rowStart i)) → P (countingRow s k i)
 unfolding countingRow
 counted s k i P theirs own = go (ltb j (correctionCount k)) refl where
   j : ℕ
-  j = inCorrection k (rowAt s (rowStart i) .id)
+  j = inCorrection k (idOf s headSize i)
 
-  go : (t : Bool) → ltb j (correctionCount k) ≡ t → P (cond (ltb j (correctionCount k)) (rowAt k (correctionStart j)) (rowAt s (rowStart i)))
+  go : (t : Bool) → ltb j (correctionCount k) ≡ t
+      → P (cond (ltb j (correctionCount k)) (rowAt k (correctionStart j)) (rowAt s (rowStart i)))
   go true q = rw q (theirs (ltb-true j (correctionCount k) q))
   go false q = rw q own
 
 pub counting-id : (s k : List ℕ) (i : ℕ) → countingRow s k i .id ≡ rowAt s (rowStart i) .id
 counting-id s k i =
     counted s k i (λ (r : Row). r .id ≡ rowAt s (rowStart i) .id)
-    (λ l. find-has (correctionCount k) k 9 (rowAt s (rowStart i) .id) l) refl
+    (λ l. find-has k correctionHeadSize (correctionCount k) (idOf s headSize i) l) refl
 
-same-self : (r : Row) → sameTerms r r ≡ true
-unfolding sameTerms
-same-self r =
+alike-self : (r : Row) → alike r r ≡ true
+unfolding alike
+alike-self r =
     rw (
       eq-eqb (r .id) (r .id) refl,
       eq-eqb (r .kind) (r .kind) refl,
@@ -92,14 +73,17 @@ same-self r =
       eq-eqb (r .bid2 .0) (r .bid2 .0) refl,
     )
 
--- a row that corrects, of row i's id: it has row i's terms
-corrects-own : (s : List ℕ) (n i : ℕ) (r : Row) → n ≡ rowCount s → Rows s 15 n → i < n → r .id ≡ rowAt s (rowStart i) .id → corrects s r ≡ true
-    → sameTerms (rowAt s (rowStart i)) r ≡ true
-unfolding corrects
-corrects-own s n i r count rows l e h =
-    let found : findId s 15 (rowCount s) (r .id) ≡ i =
-    rw (← count, e) (find-at n s 15 (rowAt s (rowStart i) .id) i l refl (λ x m q. absurd (omega (arith, rows .rising x i m l)))) in
-    right-true (ltb i (rowCount s)) (sameTerms (rowAt s (rowStart i)) r) (rw found at h)
+-- a row that corrects, of row i's id, is like row i
+corrects-own : (s : List ℕ) (n i : ℕ) (r : Row) → Own s n → i < n → r .id ≡ idOf s headSize i → corrects s r ≡ true
+    → alike (rowAt s (rowStart i)) r ≡ true
+unfolding corrects findId hasId
+corrects-own s n i r own l e h =
+    let found : findId s headSize (rowCount s) (r .id) ≡ i =
+    rw (← own .told, e)
+    (find-is n (hasId s headSize (idOf s headSize i)) i l (eq-eqb (idOf s headSize i) (idOf s headSize i) refl)
+    (λ x m. ne-eqb (idOf s headSize x) (idOf s headSize i)
+    (λ (q : idOf s headSize x ≡ idOf s headSize i). omega (arith, own .rows .rising x i m l)))) in
+    right-true (ltb i (rowCount s)) (alike (rowAt s (rowStart i)) r) (rw found at h)
 
 module _ (s k : List ℕ) (n : ℕ) (h : verdictOf s k ≡ Accepted n) where
   pub accepted-head : HeadRanges (headAt s)
@@ -109,19 +93,19 @@ module _ (s k : List ℕ) (n : ℕ) (h : verdictOf s k ≡ Accepted n) where
   ids-rise i j l m = accepted-rows s k n h .rising i j l m
 
   module _ (i : ℕ) (l : i < n) where
-    pub accepted-row : rowOk (countingRow s k i) ≡ true
+    pub accepted-row : rowOk (termsOf s) (countingRow s k i) ≡ true
     accepted-row =
-        counted s k i (λ (r : Row). rowOk r ≡ true) (λ m. accepted-theirs s k n h .ok _ m) (accepted-rows s k n h .ok i l)
+        counted s k i (λ (r : Row). rowOk (termsOf s) r ≡ true) (λ m. accepted-corrected s k n h .ok _ m) (accepted-row-ok s k n h i l)
 
-    pub accepted-ranges : RowRanges (countingRow s k i)
-    accepted-ranges = row-ranges (countingRow s k i) accepted-row
+    pub accepted-ranges : RowRanges (termsOf s) (countingRow s k i)
+    accepted-ranges = row-ranges (termsOf s) (countingRow s k i) accepted-row
 
-    pub counting-terms : sameTerms (rowAt s (rowStart i)) (countingRow s k i) ≡ true
-    counting-terms =
-        counted s k i (λ (r : Row). sameTerms (rowAt s (rowStart i)) r ≡ true)
-        (λ m. corrects-own s n i (rowAt k (correctionStart (inCorrection k (rowAt s (rowStart i) .id)))) (accepted-count s k n h) (accepted-rows s k n h) l
-        (find-has (correctionCount k) k 9 (rowAt s (rowStart i) .id) m) (accepted-names s k n h _ m))
-        (same-self (rowAt s (rowStart i)))
+    pub counting-alike : alike (rowAt s (rowStart i)) (countingRow s k i) ≡ true
+    counting-alike =
+        counted s k i (λ (r : Row). alike (rowAt s (rowStart i)) r ≡ true)
+        (λ m. corrects-own s n i (rowAt k (correctionStart (inCorrection k (idOf s headSize i)))) (accepted-own s k n h) l
+        (find-has k correctionHeadSize (correctionCount k) (idOf s headSize i) m) (accepted-corrected s k n h .names _ m))
+        (alike-self (rowAt s (rowStart i)))
 
   pub counting-rise : (i j : ℕ) → i < j → j < n → countingRow s k i .id < countingRow s k j .id
   counting-rise i j l m = rw (counting-id s k i, counting-id s k j) (ids-rise i j l m)
@@ -131,42 +115,3 @@ pub source-at : (out : List ℕ) (n : ℕ) (f : ℕ → ℕ) (i : ℕ) → i < n
 source-at out n f i l =
     let e : 0 + i ≡ i = omega arith in
     (rw e at (put-inside out 0 (table n f) i 0 (omega arith) (omega (arith, table-length n f)))) ∙ table-at 0 n f i l
-
--- ---- two results that one contract allows are equal
-
-pub head-unique : (s : List ℕ) (x y : Head) → x ≡ headAt s → y ≡ headAt s → x ≡ y
-head-unique s = unique (headAt s)
-
-pub row-unique : (s : List ℕ) (k : ℕ) (x y : Row) → x ≡ rowAt s k → y ≡ rowAt s k → x ≡ y
-row-unique s k = unique (rowAt s k)
-
-pub correction-head-unique : (s : List ℕ) (x y : CorrectionHead) → x ≡ correctionHeadAt s → y ≡ correctionHeadAt s → x ≡ y
-correction-head-unique s = unique (correctionHeadAt s)
-
-pub test-unique : (t x y : Bool) → x ≡ t → y ≡ t → x ≡ y
-test-unique = unique
-
-pub number-unique : (n x y : ℕ) → x ≡ n → y ≡ n → x ≡ y
-number-unique = unique
-
-pub check-unique : (s k : List ℕ) (x y : Verdict) → x ≡ verdictOf s k → y ≡ verdictOf s k → x ≡ y
-check-unique s k = unique (verdictOf s k)
-
-pub interval-unique : (s : List ℕ) (x y : Verdict) → x ≡ verdict (rowCount s) (intervalFault s) → y ≡ verdict (rowCount s) (intervalFault s) → x ≡ y
-interval-unique s = unique (verdict (rowCount s) (intervalFault s))
-
-pub counting-unique : (s k : List ℕ) (id : ℕ) (x y : List ℕ) → x ≡ countingBytes s k id → y ≡ countingBytes s k id → x ≡ y
-counting-unique s k id = unique (countingBytes s k id)
-
-pub sources-unique : (s k out : List ℕ) (n : ℕ) (x y : List ℕ) → x ≡ put out 0 (table n (sourceOf s k)) → y ≡ put out 0 (table n (sourceOf s k)) → x ≡ y
-sources-unique s k out n = unique (put out 0 (table n (sourceOf s k)))
-
-pub counting-row-unique : (s k : List ℕ) (i : ℕ) (x y : Row) → x ≡ countingRow s k i → y ≡ countingRow s k i → x ≡ y
-counting-row-unique s k i = unique (countingRow s k i)
-
-pub seek-unique : (s : List ℕ) (start n id x y : ℕ) → Sought s start n id x → Sought s start n id y → x ≡ y
-seek-unique s start n id x y p q =
-    ⊎-elim (λ (l : x < y). absurd (omega (arith, p .reached (omega (arith, q .short)), q .under x l)))
-    (λ (m : y ≤ x).
-    ⊎-elim (λ (l : y < x). absurd (omega (arith, q .reached (omega (arith, p .short)), p .under y l))) (λ (k : x ≤ y). omega arith)
-    (lt-or-le y x)) (lt-or-le x y)

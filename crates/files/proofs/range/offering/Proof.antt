@@ -1,11 +1,11 @@
 -- `files::range::offering` meets its contract.
 use borrow.Author.Needs.{needs}
-use Rattle.files.specs.Range.{offering}
+use Rattle.files.specs.Range.{offering, offerTests}
 use Rattle.files.proofs.range.offering.Statement.{statement}
 use Rattle.files.proofs.range.offering.Tie as tie
 
-half-requires : tie.Need-half-requires
-half-requires c κs = search needs
+load-requires : tie.Need-load-requires
+load-requires c κs = search needs
 
 within-requires : tie.Need-within-requires
 within-requires c κs = search needs
@@ -14,8 +14,8 @@ within-requires-2 : tie.Need-within-requires-2
 within-requires-2 c κs = search needs
 
 returns : tie.Need-returns
-unfolding offering
+unfolding offering offerTests
 returns c = cc
 
 pub offering-spec : {M : Type 1} → statement M
-offering-spec = tie.close (tie.spec half-requires within-requires within-requires-2 returns)
+offering-spec = tie.close (tie.spec load-requires within-requires within-requires-2 returns)
