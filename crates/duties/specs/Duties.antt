@@ -1,6 +1,8 @@
 -- The duties of an interval's rows as columns, a row's place in the file being its position. Everything after reads these columns alone.
 use Prim.Native.Nat.{ℕ}
+use mathlib.Core.Path.{_≡_}
 use mathlib.Core.List.{List}
+use lib.ListN.{length}
 use Rattle.columns.specs.Table.{table}
 use Rattle.files.specs.declared.Row.{Row}
 use Rattle.files.specs.declared.Terms.{Terms}
@@ -15,6 +17,17 @@ pub record Duties : Type 0 where
   pub caps : List ℕ
   pub bids1 : List ℕ
   pub bids2 : List ℕ
+
+-- a number in each column for each of n rows
+pub record Level (n : ℕ) (d : Duties) : Type 0 where
+  pub widths1 : length (d .widths1) ≡ n
+  pub widths2 : length (d .widths2) ≡ n
+  pub energies1 : length (d .energies1) ≡ n
+  pub energies2 : length (d .energies2) ≡ n
+  pub weights : length (d .weights) ≡ n
+  pub caps : length (d .caps) ≡ n
+  pub bids1 : length (d .bids1) ≡ n
+  pub bids2 : length (d .bids2) ≡ n
 
 -- those of n rows
 unfoldable pub dutiesOf : Terms → ℕ → ℕ → (ℕ → Row) → Duties
