@@ -2,6 +2,7 @@
 --   of one row under terms:
 --     baseline-most, baseline-least            where the baseline lies
 --     width1-most, width2-most, energies-most, weight-most, cap-most     how large its figures get
+--     bids2-above                              the bid of a row with a band in tier 2 is at least that tier's lowest
 --     not-payer                                a row that does not pay has weight 0 and cap 0
 --     at-baseline                              a row at its baseline or above delivered nothing
 --     in-range                                 a row in its ranges is as small as the code asks
@@ -9,7 +10,7 @@
 --     duties-level                             a number for each row
 --     duties-sized                             the same bounds
 --     bids-apart                               no tier 1 bid is above a tier 2 bid where both bands have a width
-use Prim.Native.Nat.{ℕ, _+_, _*_, _/_, _≤_, _<_, zero-le}
+use Prim.Native.Nat.{ℕ, _+_, _*_, _≤_, _<_, zero-le}
 use mathlib.Core.Path.{_≡_, refl}
 use mathlib.Core.Logic.{_⊎_, inl, inr, ⊎-elim}
 use mathlib.Core.Bool.{Bool, true, false, cond}
@@ -21,19 +22,22 @@ use borrow.Author.Tests.{eqb-true}
 use Rattle.columns.specs.Table.{at, table, Below}
 use Rattle.columns.proofs.Sum.{lt-or-le}
 use Rattle.columns.proofs.Table.{table-length, table-at, table-past, table-most}
-use Rattle.units.specs.Measure.{thermalCap, renewableCap}
 use Rattle.files.specs.declared.Row.{Row}
 use Rattle.files.specs.declared.Terms.{Terms}
 use Rattle.files.specs.Terms.{baseline, Sound}
 use Rattle.files.proofs.Ranges.{RowRanges}
-use Rattle.duties.specs.Duty.{foot, width1, width2, energyIn1, energyIn2, receives, energy1, energy2, payer, thermalWeight, weight, cap}
+use Rattle.duties.specs.Duty.{width1, width2, receives, energy1, energy2, payer, weight, cap}
 use Rattle.duties.specs.Duties.{Duties, Level, dutiesOf}
 use Rattle.duties.specs.Ranged.{Ranged}
 
--- a choice between a figure and 0
+-- figures chosen by a test, at most what each of them is
 or-none : (b : Bool) (x m : ℕ) → x ≤ m → cond b x 0 ≤ m
 or-none true x m h = h
 or-none false x m h = zero-le
+
+both-or-none : (b : Bool) (x y m : ℕ) → x + y ≤ m → cond b x 0 + cond b y 0 ≤ m
+both-or-none true x y m h = h
+both-or-none false x y m h = zero-le
 
 either : (b : Bool) (x y m : ℕ) → x ≤ m → y ≤ m → cond b x y ≤ m
 either true x y m h k = h
@@ -75,17 +79,13 @@ module _ (t : Terms) (sound : Sound t) (r : Row) (h : RowRanges t r) where
 
   pub energies-most : energy1 t r + energy2 t r ≤ 250000
   unfolding energy1 energy2
-  energies-most = go (receives r)
-    where
-      go : (b : Bool) → cond b (energyIn1 (baseline t (r .capacity)) (r .capacity) (r .metered .0)) 0 + cond b (energyIn2 (baseline t (r .capacity)) (r .capacity) (r .metered .0)) 0 ≤ 250000
-      go true = omega (arith, baseline-most)
-      go false = omega arith
+  energies-most = both-or-none (receives r) _ _ 250000 (omega (arith, baseline-most))
 
   pub weight-most : weight t r ≤ 795000
   unfolding weight
   weight-most =
       or-none (payer t r) _ 795000
-      (either (eqb (r .kind) 1) (thermalWeight (baseline t (r .capacity)) (r .capacity) (r .metered .0)) (r .metered .0) 795000 (omega (arith, baseline-least, h .capacity-high, h .metered))
+      (either (eqb (r .kind) 1) _ _ 795000 (omega (arith, baseline-least, h .capacity-high, h .metered))
       (omega (arith, h .capacity-high, h .metered)))
 
   pub cap-most : (tariff : ℕ) → tariff ≤ 10000 → cap t tariff r ≤ 27500000
@@ -93,11 +93,12 @@ module _ (t : Terms) (sound : Sound t) (r : Row) (h : RowRanges t r) where
   cap-most tariff low =
       let metered : r .metered .0 ≤ 550000 = omega (arith, h .capacity-high, h .metered) in
       let product : r .metered .0 * tariff ≤ 550000 * 10000 = mul-le-mul metered low in
-      or-none (payer t r) _ 27500000 (either (eqb (r .kind) 1) (thermalCap (r .metered .0) tariff) (renewableCap (r .metered .0) tariff) 27500000 (omega arith) (omega arith))
+      or-none (payer t r) _ 27500000 (either (eqb (r .kind) 1) _ _ 27500000 (omega arith) (omega arith))
 
-  pub offered : 0 < width2 t r → t .lowest2 .0 ≤ r .bid2 .0
+  -- who has a band in tier 2 bids within its limits
+  pub bids2-above : 0 < width2 t r → t .lowest2 .0 ≤ r .bid2 .0
   unfolding width2
-  offered p = h .offers (eqb-true (r .offered) 1 (chosen (eqb (r .offered) 1) _ p)) .bid2-low
+  bids2-above p = h .offers (eqb-true (r .offered) 1 (chosen (eqb (r .offered) 1) _ p)) .bid2-low
 
 -- how large the columns' numbers get
 pub record Sized (d : Duties) : Type 0 where
@@ -138,11 +139,14 @@ module _ (t : Terms) (tariff n : ℕ) (row : ℕ → Row) where
           energies = λ i. both i (lt-or-le i n);
           weights = table-most n 795000 (λ i. weight t (row i)) (λ i l. weight-most t sound (row i) (rows i l));
           caps = table-most n 27500000 (λ i. cap t tariff (row i)) (λ i l. cap-most t sound (row i) (rows i l) tariff low);
-          bids1 = table-most n 1000 (λ i. row i .bid1 .0) (λ i l. omega (arith, rows i l .bid1, sound .apart, sound .rising2, sound .last));
+          bids1 =
+              table-most n 1000 (λ i. row i .bid1 .0)
+              (λ i l. omega (arith, rows i l .bid1, sound .apart, sound .rising2, sound .last));
           bids2 = table-most n 1000 (λ i. row i .bid2 .0) (λ i l. omega (arith, rows i l .bid2, sound .last));
         }
       where
-        both : (i : ℕ) → (i < n) ⊎ (n ≤ i) → at (table n (λ k. energy1 t (row k))) i + at (table n (λ k. energy2 t (row k))) i ≤ 250000
+        both : (i : ℕ) → (i < n) ⊎ (n ≤ i)
+            → at (table n (λ k. energy1 t (row k))) i + at (table n (λ k. energy2 t (row k))) i ≤ 250000
         both i (inl l) =
             omega (
               arith,
@@ -165,6 +169,6 @@ module _ (t : Terms) (tariff n : ℕ) (row : ℕ → Row) where
           table-at 0 n (λ k. row k .bid1 .0) i l,
           table-at 0 n (λ k. row k .bid2 .0) j m,
           rows i l .bid1,
-          offered t sound (row j) (rows j m) wide,
+          bids2-above t sound (row j) (rows j m) wide,
           sound .apart,
         )

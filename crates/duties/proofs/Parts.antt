@@ -16,7 +16,8 @@ use Rattle.units.specs.declared.Fen.{Fen}
 use Rattle.files.specs.declared.Row.{Row}
 use Rattle.files.specs.declared.Terms.{Terms}
 use Rattle.files.specs.Terms.{baseline}
-use Rattle.duties.specs.Duty.{foot, sixty, seventy, width1, width2, energyIn1, energyIn2, receives, energy1, energy2, payer, thermalWeight, weight, cap, dutyOf}
+use Rattle.duties.specs.Duty.{foot, width1, width2, receives, energyIn1, energyIn2, energy1, energy2}
+use Rattle.duties.specs.Duty.{sixty, seventy, payer, thermalWeight, weight, cap, dutyOf}
 use Rattle.duties.specs.declared.Duty.{Duty}
 
 module _ (t : Terms) (r : Row) where
@@ -84,7 +85,17 @@ module _ (t : Terms) (r : Row) (e : ℕ) (is : e ≡ cond (payer t r) (r .metere
 
 pub duty-of : (t : Terms) (tariff : ℕ) (r : Row) (w1 w2 e1 e2 w : Kwh) (c : Fen) → w1 .0 ≡ width1 t r → w2 .0 ≡ width2 t r
     → e1 .0 ≡ energy1 t r → e2 .0 ≡ energy2 t r → w .0 ≡ weight t r → c .0 ≡ cap t tariff r
-    → _≡_ {A = Duty} (record { width1 = w1; width2 = w2; energy1 = e1; energy2 = e2; weight = w; cap = c; bid1 = r .bid1; bid2 = r .bid2 })
+    → _≡_ {A = Duty}
+    (record {
+      width1 = w1;
+      width2 = w2;
+      energy1 = e1;
+      energy2 = e2;
+      weight = w;
+      cap = c;
+      bid1 = r .bid1;
+      bid2 = r .bid2;
+    })
     (dutyOf t tariff r)
 unfolding dutyOf
 duty-of t tariff r w1 w2 e1 e2 w c h1 h2 h3 h4 h5 h6 = rw (← h1, ← h2, ← h3, ← h4, ← h5, ← h6)
