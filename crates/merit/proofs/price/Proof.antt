@@ -3,13 +3,13 @@ use Prim.Native.Nat.{_-_, _≤_}
 use mathlib.Core.Path.{_≡_}
 use native.Mathlib.Omega.{arith}
 use lib.ListN.{length}
-use borrow.Author.Needs.{needs}
 use Rattle.merit.proofs.Steps.{highest, highest-none, highest-more, highest-all}
+use borrow.Author.Needs.{needs}
 use Rattle.merit.proofs.price.Statement.{statement}
 use Rattle.merit.proofs.price.Tie as tie
 
 abbrev Inv-loop : tie.InvT-loop
-Inv-loop bids called top₀ i₀ top i = (i ≤ length bids) × (top ≡ highest bids called i)
+Inv-loop bids called top₀ i₀ top i = (i ≤ length bids) × (top .0 ≡ highest bids called i)
 
 abbrev μ-loop : tie.MeasureT-loop
 μ-loop bids called top₀ i₀ top i = length bids - i
@@ -17,17 +17,23 @@ abbrev μ-loop : tie.MeasureT-loop
 loop-holds : tie.Need-loop-holds Inv-loop μ-loop
 loop-holds c = (omega arith, search highest-none)
 
-mul-higher : tie.Need-mul-higher Inv-loop μ-loop
-mul-higher c = search needs
+mul-li : tie.Need-mul-li Inv-loop μ-loop
+mul-li c = search needs
 
-shared-slice-read-higher : tie.Need-shared-slice-read-higher Inv-loop μ-loop
-shared-slice-read-higher c = search needs
+shared-slice-read-li : tie.Need-shared-slice-read-li Inv-loop μ-loop
+shared-slice-read-li c = search needs
 
-mul-higher-2 : tie.Need-mul-higher-2 Inv-loop μ-loop
-mul-higher-2 c = search needs
+li-requires : tie.Need-li-requires Inv-loop μ-loop
+li-requires c κs = search needs
 
-shared-slice-read-higher-2 : tie.Need-shared-slice-read-higher-2 Inv-loop μ-loop
-shared-slice-read-higher-2 c = search needs
+mul-kwh : tie.Need-mul-kwh Inv-loop μ-loop
+mul-kwh c = search needs
+
+shared-slice-read-kwh : tie.Need-shared-slice-read-kwh Inv-loop μ-loop
+shared-slice-read-kwh c = search needs
+
+kwh-requires : tie.Need-kwh-requires Inv-loop μ-loop
+kwh-requires c κs = search needs
 
 higher-requires : tie.Need-higher-requires Inv-loop μ-loop
 higher-requires c κs = search needs
@@ -51,10 +57,12 @@ price-spec =
     Inv-loop
     μ-loop
     loop-holds
-    mul-higher
-    shared-slice-read-higher
-    mul-higher-2
-    shared-slice-read-higher-2
+    mul-li
+    shared-slice-read-li
+    li-requires
+    mul-kwh
+    shared-slice-read-kwh
+    kwh-requires
     higher-requires
     add-i
     loop-less

@@ -1,0 +1,71 @@
+-- `merit::next_bid` meets its contract: the lowest bid so far is that of the positions passed.
+use Prim.Native.Nat.{_-_, _≤_}
+use mathlib.Core.Path.{_≡_}
+use native.Mathlib.Omega.{arith}
+use lib.ListN.{length}
+use Rattle.merit.specs.Walk.{nextIn}
+use Rattle.merit.proofs.Steps.{next-none, next-more, next-all}
+use borrow.Author.Needs.{needs}
+use Rattle.merit.proofs.next_bid.Statement.{statement}
+use Rattle.merit.proofs.next_bid.Tie as tie
+
+abbrev Inv-loop : tie.InvT-loop
+Inv-loop from widths bids next₀ i₀ next i = (i ≤ length widths) × (next .0 ≡ nextIn (from .0) widths bids i)
+
+abbrev μ-loop : tie.MeasureT-loop
+μ-loop from widths bids next₀ i₀ next i = length widths - i
+
+loop-holds : tie.Need-loop-holds Inv-loop μ-loop
+loop-holds c = (omega arith, search next-none)
+
+mul-kwh : tie.Need-mul-kwh Inv-loop μ-loop
+mul-kwh c = search needs
+
+shared-slice-read-kwh : tie.Need-shared-slice-read-kwh Inv-loop μ-loop
+shared-slice-read-kwh c = search needs
+
+kwh-requires : tie.Need-kwh-requires Inv-loop μ-loop
+kwh-requires c κs = search needs
+
+mul-li : tie.Need-mul-li Inv-loop μ-loop
+mul-li c = search needs
+
+shared-slice-read-li : tie.Need-shared-slice-read-li Inv-loop μ-loop
+shared-slice-read-li c = search needs
+
+li-requires : tie.Need-li-requires Inv-loop μ-loop
+li-requires c κs = search needs
+
+sooner-requires : tie.Need-sooner-requires Inv-loop μ-loop
+sooner-requires c κs = search needs
+
+add-i : tie.Need-add-i Inv-loop μ-loop
+add-i c = search needs
+
+loop-less : tie.Need-loop-less Inv-loop μ-loop
+loop-less c = search needs
+
+loop-again : tie.Need-loop-again Inv-loop μ-loop
+loop-again c = (omega arith, search next-more)
+
+returns : tie.Need-returns Inv-loop μ-loop
+returns c = search next-all
+
+pub next-bid-spec : {M : Type 1} → statement M
+next-bid-spec =
+    tie.close
+    (tie.spec
+    Inv-loop
+    μ-loop
+    loop-holds
+    mul-kwh
+    shared-slice-read-kwh
+    kwh-requires
+    mul-li
+    shared-slice-read-li
+    li-requires
+    sooner-requires
+    add-i
+    loop-less
+    loop-again
+    returns)
