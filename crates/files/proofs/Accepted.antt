@@ -21,14 +21,16 @@ use Rattle.columns.specs.Test.{within}
 use Rattle.columns.proofs.First.{none-applies, right-true, each}
 use Rattle.columns.proofs.Sum.{lt-or-le}
 use Rattle.files.specs.Layout.{marked, letterK, rowAt, rowStart, correctionStart, headAt, correctionHeadAt, rowCount, correctionCount}
-use Rattle.files.specs.Range.{dayOk, quarterOk, headOk, correctionHeadOk}
+use Rattle.files.specs.Range.{dayOk, quarterOk, headOk, correctionHeadOk, rowOk}
+use Rattle.files.specs.Terms.{termsOf}
+use Rattle.files.specs.declared.Terms.{Terms}
 use Rattle.files.specs.Fault.{Fault, fault, orElse, none, headChecks, headFault, rowsFault, intervalFault, correctionStarts, asEight, correctionFault, timeFault, corrects, namesFault, presentFault, pairFault, fileFault, verdictOf}
 use Rattle.files.specs.Walk.{Rows}
 use Rattle.files.specs.declared.Verdict.the-variants.{Accepted}
 use Rattle.files.proofs.Answer.{or-none, accepted-of}
 use Rattle.files.proofs.Walked.{noCheck}
-use Rattle.files.proofs.Sound.{rows-sound}
-use Rattle.files.proofs.Named.{own-long, own-sound, starts-long}
+use Rattle.files.proofs.Sound.{rows-sound, rows-ok}
+use Rattle.files.proofs.Named.{own-long, own-sound, own-ok, starts-long}
 
 starts-ok : (k : List ℕ) → correctionStarts k ≡ true → correctionHeadOk (correctionHeadAt k) ≡ true
 unfolding correctionStarts
@@ -39,16 +41,16 @@ starts-ok k e = third (leb 9 (length k) && marked k 0 letterK) _ _ e where
   third false b c e = absurd (subst T (sym e) tt)
 
 -- a correction by itself has no fault: its start is right, and none of its rows has one
-theirs : (k : List ℕ) → correctionFault k .number ≡ 0
-    → (correctionStarts k ≡ true) × (rowsFault k 9 (correctionCount k) 1 0 .number ≡ 0)
+theirs : (t : Terms) (k : List ℕ) → correctionFault t k .number ≡ 0
+    → (correctionStarts k ≡ true) × (rowsFault t k 9 (correctionCount k) 1 0 .number ≡ 0)
 unfolding correctionFault asEight
-theirs k e = go (correctionStarts k) refl where
+theirs t k e = go (correctionStarts k) refl where
   rows : (f : Fault) (t : Bool) → eqb (f .number) 0 ≡ t → cond (eqb (f .number) 0) none (fault 8 (f .place)) .number ≡ 0 → f .number ≡ 0
   rows f true q h = eqb-true (f .number) 0 q
   rows f false q h = let z : _≡_ {A = ℕ} 8 0 = rw q at h in absurd (omega arith)
 
-  go : (t : Bool) → correctionStarts k ≡ t → (correctionStarts k ≡ true) × (rowsFault k 9 (correctionCount k) 1 0 .number ≡ 0)
-  go true q = (q, rows (rowsFault k 9 (correctionCount k) 1 0) (eqb (rowsFault k 9 (correctionCount k) 1 0 .number) 0) refl (rw q at e))
+  go : (b : Bool) → correctionStarts k ≡ b → (correctionStarts k ≡ true) × (rowsFault t k 9 (correctionCount k) 1 0 .number ≡ 0)
+  go true q = (q, rows (rowsFault t k 9 (correctionCount k) 1 0) (eqb (rowsFault t k 9 (correctionCount k) 1 0 .number) 0) refl (rw q at e))
   go false q = let z : _≡_ {A = ℕ} 8 0 = rw q at e in absurd (omega arith)
 
 -- the first of so many rows corrects one of the interval's, and so do those after it
@@ -88,10 +90,13 @@ module _ (s k : List ℕ) (n : ℕ) (h : verdictOf s k ≡ Accepted n) where
   pub accepted-rows : Rows s 15 n
   accepted-rows = rw accepted-count (own-sound s accepted-own)
 
+  pub accepted-row-ok : (i : ℕ) → i < n → rowOk (termsOf s) (rowAt s (rowStart i)) ≡ true
+  accepted-row-ok i l = own-ok s accepted-own i (rw (← accepted-count) l)
+
   pub accepted-head-ok : headOk (headAt s) ≡ true
   unfolding intervalFault headFault
   accepted-head-ok =
-      not-false _ (none-applies noCheck (headChecks s) tt (or-none (fault (headFault s) 0) (rowsFault s 15 (rowCount s) 1 0) accepted-own .0) 2 (lit< tt))
+      not-false _ (none-applies noCheck (headChecks s) tt (or-none (fault (headFault s) 0) (rowsFault (termsOf s) s 15 (rowCount s) 1 0) accepted-own .0) 2 (lit< tt))
 
   accepted-pair : pairFault s k .number ≡ 0
   unfolding fileFault
@@ -102,9 +107,9 @@ module _ (s k : List ℕ) (n : ℕ) (h : verdictOf s k ≡ Accepted n) where
   unfolding pairFault
   present z = rw (ne-eqb (length k) 0 z) at accepted-pair
 
-  parts : (length k ≡ 0 → ⊥) → (correctionFault k .number ≡ 0) × (orElse (timeFault s k) (namesFault s k 9 (correctionCount k) 1) .number ≡ 0)
+  parts : (length k ≡ 0 → ⊥) → (correctionFault (termsOf s) k .number ≡ 0) × (orElse (timeFault s k) (namesFault s k 9 (correctionCount k) 1) .number ≡ 0)
   unfolding presentFault
-  parts z = or-none (correctionFault k) (orElse (timeFault s k) (namesFault s k 9 (correctionCount k) 1)) (present z)
+  parts z = or-none (correctionFault (termsOf s) k) (orElse (timeFault s k) (namesFault s k 9 (correctionCount k) 1)) (present z)
 
 -- without a correction there are no rows of one
 none-named : (k : List ℕ) → length k ≡ 0 → correctionCount k ≡ 0
@@ -118,14 +123,19 @@ module _ (s k : List ℕ) (n : ℕ) (h : verdictOf s k ≡ Accepted n) where
     there : 0 < length k → Rows k 9 (correctionCount k)
     there p =
         let z : length k ≡ 0 → ⊥ = λ e. omega arith in
-        let both = theirs k (parts s k n h z .0) in
-        rows-sound k 9 (correctionCount k) (omega (arith, starts-long k (both .0))) (both .1)
+        let both = theirs (termsOf s) k (parts s k n h z .0) in
+        rows-sound (termsOf s) k 9 (correctionCount k) (omega (arith, starts-long k (both .0))) (both .1)
 
     absent : length k ≤ 0 → Rows k 9 (correctionCount k)
     absent p =
         let z : length k ≡ 0 = omega arith in
         rw (none-named k z)
-        (record { inside = λ i l. absurd (omega arith); ok = λ i l. absurd (omega arith); rising = λ i j l m. absurd (omega arith) })
+        (record { inside = λ i l. absurd (omega arith); rising = λ i j l m. absurd (omega arith) })
+
+  pub theirs-ok : (j : ℕ) → j < correctionCount k → rowOk (termsOf s) (rowAt k (correctionStart j)) ≡ true
+  theirs-ok j l =
+      let z : length k ≡ 0 → ⊥ = λ e. omega (arith, none-named k e) in
+      rows-ok (termsOf s) k 9 (correctionCount k) (theirs (termsOf s) k (parts s k n h z .0) .1) j l
 
   pub accepted-few : n ≤ 256
   unfolding headOk
@@ -144,7 +154,7 @@ module _ (s k : List ℕ) (n : ℕ) (h : verdictOf s k ≡ Accepted n) where
     there p =
         let z : length k ≡ 0 → ⊥ = λ e. omega arith in
         let e = correctionHeadAt k in
-        let ok = starts-ok k (theirs k (parts s k n h z .0) .0) in
+        let ok = starts-ok k (theirs (termsOf s) k (parts s k n h z .0) .0) in
         leb-true (e .rows) 256 (right-true (leb 1 (e .rows)) _ (each (dayOk (e .day) ∷ quarterOk (e .quarter) ∷ within 1 256 (e .rows) ∷ []) ok 2 (lit< tt)))
 
     absent : length k ≤ 0 → correctionCount k ≤ 256

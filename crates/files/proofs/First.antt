@@ -17,6 +17,8 @@ use Rattle.columns.specs.Test.{Check, firstOf}
 use Rattle.columns.proofs.First.{numbered, both-left, both-right}
 use Rattle.files.specs.Layout.{rowAt, rowCount, correctionCount}
 use Rattle.files.specs.Fault.{Fault, fault, none, orElse, headChecks, headFault, rowChecksAt, rowFault, rowsFault, intervalFault, correctionStarts, asEight, correctionFault, sameTime, timeFault, corrects, namesFault, presentFault, pairFault, fileFault, verdictOf}
+use Rattle.files.specs.Terms.{termsOf}
+use Rattle.files.specs.declared.Terms.{Terms}
 use Rattle.files.specs.Order.{Refusal, refusal, placed, rowsOrder, eights, namesOrder, presentOrder, fileOrder, firstRefusal, noRefusal, Earliest, NoneApplies}
 use Rattle.files.specs.declared.Verdict.the-variants.{Accepted, Refused}
 use Rattle.files.proofs.Answer.{or-first, or-next, verdict-yes, verdict-no, accepted-of, refused-of}
@@ -57,17 +59,17 @@ append-first (x ∷ xs) ys t =
     put-first (x .applies) (x .number) (x .place) (firstRefusal xs) (firstRefusal ys) (both-left (ltb 0 (x .number)) (positive xs) t)
     ∙ ap (λ (f : Fault). cond (x .applies) (fault (x .number) (x .place)) f) (append-first xs ys (both-right (ltb 0 (x .number)) (positive xs) t))
 
-rows-first : (left : ℕ) (s : List ℕ) (k place last : ℕ) → rowsFault s k left place last ≡ firstRefusal (rowsOrder s k left place last)
+rows-first : (t : Terms) (left : ℕ) (s : List ℕ) (k place last : ℕ) → rowsFault t s k left place last ≡ firstRefusal (rowsOrder t s k left place last)
 unfolding rowsFault rowsOrder rowFault firstRefusal
-rows-first zero s k place last = refl
-rows-first (suc left) s k place last =
-    rw (rows-first left s (k + 21) (place + 1) (rowAt s k .id))
-    (placed-first place (rowChecksAt s k last) (rowsOrder s (k + 21) left (place + 1) (rowAt s k .id)) tt)
+rows-first t zero s k place last = refl
+rows-first t (suc left) s k place last =
+    rw (rows-first t left s (k + 21) (place + 1) (rowAt s k .id))
+    (placed-first place (rowChecksAt t s k last) (rowsOrder t s (k + 21) left (place + 1) (rowAt s k .id)) tt)
 
-rows-positive : (left : ℕ) (s : List ℕ) (k place last : ℕ) → T (positive (rowsOrder s k left place last))
+rows-positive : (t : Terms) (left : ℕ) (s : List ℕ) (k place last : ℕ) → T (positive (rowsOrder t s k left place last))
 unfolding rowsOrder
-rows-positive zero s k place last = tt
-rows-positive (suc left) s k place last = rows-positive left s (k + 21) (place + 1) (rowAt s k .id)
+rows-positive t zero s k place last = tt
+rows-positive t (suc left) s k place last = rows-positive t left s (k + 21) (place + 1) (rowAt s k .id)
 
 eight-of : (b : Bool) (n p : ℕ) (f : Fault) → T (ltb 0 n) → asEight (cond b (fault n p) f) ≡ cond b (fault 8 p) (asEight f)
 unfolding asEight
@@ -102,17 +104,17 @@ unfolding namesOrder
 names-positive zero s c k place = tt
 names-positive (suc left) s c k place = names-positive left s c (k + 21) (place + 1)
 
-interval-first : (s : List ℕ) → intervalFault s ≡ firstRefusal (placed 0 (headChecks s) ++ rowsOrder s 15 (rowCount s) 1 0)
+interval-first : (s : List ℕ) → intervalFault s ≡ firstRefusal (placed 0 (headChecks s) ++ rowsOrder (termsOf s) s 15 (rowCount s) 1 0)
 unfolding intervalFault headFault
 interval-first s =
-    rw (rows-first (rowCount s) s 15 1 0) (placed-first 0 (headChecks s) (rowsOrder s 15 (rowCount s) 1 0) tt)
+    rw (rows-first (termsOf s) (rowCount s) s 15 1 0) (placed-first 0 (headChecks s) (rowsOrder (termsOf s) s 15 (rowCount s) 1 0) tt)
 
-correction-first : (k : List ℕ)
-    → correctionFault k ≡ firstRefusal (refusal (not (correctionStarts k)) 8 0 ∷ eights (rowsOrder k 9 (correctionCount k) 1 0))
+correction-first : (t : Terms) (k : List ℕ)
+    → correctionFault t k ≡ firstRefusal (refusal (not (correctionStarts k)) 8 0 ∷ eights (rowsOrder t k 9 (correctionCount k) 1 0))
 unfolding correctionFault firstRefusal
-correction-first k =
-    rw (rows-first (correctionCount k) k 9 1 0, eights-first (rowsOrder k 9 (correctionCount k) 1 0) (rows-positive (correctionCount k) k 9 1 0))
-    (turned (correctionStarts k) (firstRefusal (eights (rowsOrder k 9 (correctionCount k) 1 0))) (fault 8 0))
+correction-first t k =
+    rw (rows-first t (correctionCount k) k 9 1 0, eights-first (rowsOrder t k 9 (correctionCount k) 1 0) (rows-positive t (correctionCount k) k 9 1 0))
+    (turned (correctionStarts k) (firstRefusal (eights (rowsOrder t k 9 (correctionCount k) 1 0))) (fault 8 0))
 
 time-first : (s k : List ℕ) (rs : List Refusal) → orElse (timeFault s k) (firstRefusal rs) ≡ firstRefusal (refusal (not (sameTime s k)) 9 0 ∷ rs)
 unfolding timeFault firstRefusal
@@ -124,10 +126,10 @@ time-first s k rs =
 present-first : (s k : List ℕ) → presentFault s k ≡ firstRefusal (presentOrder s k)
 unfolding presentFault presentOrder
 present-first s k =
-    rw (names-first (correctionCount k) s k 9 1, time-first s k (namesOrder s k 9 (correctionCount k) 1), correction-first k)
-    (append-first (refusal (not (correctionStarts k)) 8 0 ∷ eights (rowsOrder k 9 (correctionCount k) 1 0))
+    rw (names-first (correctionCount k) s k 9 1, time-first s k (namesOrder s k 9 (correctionCount k) 1), correction-first (termsOf s) k)
+    (append-first (refusal (not (correctionStarts k)) 8 0 ∷ eights (rowsOrder (termsOf s) k 9 (correctionCount k) 1 0))
     (refusal (not (sameTime s k)) 9 0 ∷ namesOrder s k 9 (correctionCount k) 1)
-    (eights-positive (rowsOrder k 9 (correctionCount k) 1 0)))
+    (eights-positive (rowsOrder (termsOf s) k 9 (correctionCount k) 1 0)))
 
 pair-first : (s k : List ℕ) → pairFault s k ≡ firstRefusal (cond (eqb (length k) 0) [] (presentOrder s k))
 unfolding pairFault firstRefusal
@@ -140,8 +142,8 @@ pub file-first : (s k : List ℕ) → fileFault s k ≡ firstRefusal (fileOrder 
 unfolding fileFault fileOrder
 file-first s k =
     rw (interval-first s, pair-first s k)
-    (append-first (placed 0 (headChecks s) ++ rowsOrder s 15 (rowCount s) 1 0) (cond (eqb (length k) 0) [] (presentOrder s k))
-    (rows-positive (rowCount s) s 15 1 0))
+    (append-first (placed 0 (headChecks s) ++ rowsOrder (termsOf s) s 15 (rowCount s) 1 0) (cond (eqb (length k) 0) [] (presentOrder s k))
+    (rows-positive (termsOf s) (rowCount s) s 15 1 0))
 
 -- ---- what "the first that applies" means, for any ordered list
 
@@ -214,14 +216,14 @@ append-positive (x ∷ xs) ys s t =
 file-positive : (s k : List ℕ) → T (positive (fileOrder s k))
 unfolding fileOrder presentOrder
 file-positive s k =
-    append-positive (placed 0 (headChecks s) ++ rowsOrder s 15 (rowCount s) 1 0) (cond (eqb (length k) 0) [] (presentOrder s k))
-    (rows-positive (rowCount s) s 15 1 0) (go (eqb (length k) 0)) where
+    append-positive (placed 0 (headChecks s) ++ rowsOrder (termsOf s) s 15 (rowCount s) 1 0) (cond (eqb (length k) 0) [] (presentOrder s k))
+    (rows-positive (termsOf s) (rowCount s) s 15 1 0) (go (eqb (length k) 0)) where
       go : (b : Bool) → T (positive (cond b [] (presentOrder s k)))
       go true = tt
       go false =
-          append-positive (eights (rowsOrder k 9 (correctionCount k) 1 0))
+          append-positive (eights (rowsOrder (termsOf s) k 9 (correctionCount k) 1 0))
           (refusal (not (sameTime s k)) 9 0 ∷ namesOrder s k 9 (correctionCount k) 1)
-          (eights-positive (rowsOrder k 9 (correctionCount k) 1 0)) (names-positive (correctionCount k) s k 9 1)
+          (eights-positive (rowsOrder (termsOf s) k 9 (correctionCount k) 1 0)) (names-positive (correctionCount k) s k 9 1)
 
 above : (rs : List Refusal) (i : ℕ) → T (positive rs) → i < length rs → T (ltb 0 (getD rs i noRefusal .number))
 above [] i t l = absurd (omega arith)

@@ -34,6 +34,7 @@ use Rattle.columns.proofs.First.{right-true}
 use Rattle.columns.proofs.Unique.{unique}
 use Rattle.columns.proofs.Sum.{lt-or-le}
 use Rattle.files.specs.Layout.{rowAt, rowStart, correctionStart, headAt, correctionHeadAt, rowCount, correctionCount}
+use Rattle.files.specs.Terms.{termsOf}
 use Rattle.files.specs.Range.{rowOk}
 use Rattle.files.specs.Fault.{findId, sameTerms, corrects, intervalFault, verdict, verdictOf}
 use Rattle.files.specs.Counting.{inCorrection, countingBytes, sourceOf, countingRow}
@@ -43,7 +44,7 @@ use Rattle.files.specs.declared.CorrectionHead.{CorrectionHead}
 use Rattle.files.specs.declared.Row.{Row}
 use Rattle.files.specs.declared.Verdict.{Verdict}
 use Rattle.files.specs.declared.Verdict.the-variants.{Accepted}
-use Rattle.files.proofs.Accepted.{accepted-head-ok, accepted-rows, accepted-theirs, accepted-names}
+use Rattle.files.proofs.Accepted.{accepted-head-ok, accepted-row-ok, theirs-ok, accepted-rows, accepted-names}
 use Rattle.files.proofs.Found.{find-at}
 use Rattle.files.proofs.Ranges.{HeadRanges, head-ranges, RowRanges, row-ranges}
 pub use Rattle.files.proofs.Accepted.{accepted-count, accepted-length, accepted-few}
@@ -109,12 +110,12 @@ module _ (s k : List ℕ) (n : ℕ) (h : verdictOf s k ≡ Accepted n) where
   ids-rise i j l m = accepted-rows s k n h .rising i j l m
 
   module _ (i : ℕ) (l : i < n) where
-    pub accepted-row : rowOk (countingRow s k i) ≡ true
+    pub accepted-row : rowOk (termsOf s) (countingRow s k i) ≡ true
     accepted-row =
-        counted s k i (λ (r : Row). rowOk r ≡ true) (λ m. accepted-theirs s k n h .ok _ m) (accepted-rows s k n h .ok i l)
+        counted s k i (λ (r : Row). rowOk (termsOf s) r ≡ true) (λ m. theirs-ok s k n h _ m) (accepted-row-ok s k n h i l)
 
-    pub accepted-ranges : RowRanges (countingRow s k i)
-    accepted-ranges = row-ranges (countingRow s k i) accepted-row
+    pub accepted-ranges : RowRanges (termsOf s) (countingRow s k i)
+    accepted-ranges = row-ranges (termsOf s) (countingRow s k i) accepted-row
 
     pub counting-terms : sameTerms (rowAt s (rowStart i)) (countingRow s k i) ≡ true
     counting-terms =

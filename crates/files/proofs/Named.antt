@@ -14,15 +14,17 @@ use borrow.Author.Tests.{not-true, not-false, eq-eqb, ne-eqb, eqb-true, lt-ltb, 
 use Rattle.columns.proofs.First.{right-true}
 use Rattle.files.specs.Layout.{marked, letterK, rowAt, rowStart, correctionStart, correctionHeadAt, rowCount, correctionCount}
 use Rattle.files.specs.Fault.{Fault, fault, orElse, none, headFault, rowsFault, intervalFault, correctionStarts, asEight, correctionFault, timeFault, sameTerms, corrects, sameTime, namesFault, presentFault, pairFault, fileFault, verdict, verdictOf}
-use Rattle.files.specs.Range.{correctionHeadOk}
+use Rattle.files.specs.Terms.{termsOf}
+use Rattle.files.specs.Range.{correctionHeadOk, rowOk}
 use Rattle.files.specs.Walk.{idOf, Rows, Under, Sought}
 use Rattle.files.specs.declared.CorrectionHead.{CorrectionHead}
 use Rattle.files.specs.declared.Row.{Row}
+use Rattle.files.specs.declared.Terms.{Terms}
 use Rattle.files.specs.declared.Verdict.{Verdict}
 use Rattle.files.specs.declared.Verdict.the-variants.{Accepted, Refused}
 use Rattle.files.proofs.Answer.{or-first, or-next, or-none, verdict-yes, accepted-of, refused-of}
 use Rattle.files.proofs.Walked.{head-long}
-use Rattle.files.proofs.Sound.{rows-sound}
+use Rattle.files.proofs.Sound.{rows-sound, rows-ok}
 use Rattle.files.proofs.Found.{matches, corrects-sought}
 
 pub record Beside (s k : List ℕ) (n m i j : ℕ) : Type 0 where
@@ -101,9 +103,9 @@ correction-there k b e n = omega (arith, starts-long k (sym e ∙ not-false b n)
 pub theirs-there : (k : List ℕ) (b : Bool) (m : ℕ) → b ≡ correctionStarts k → not b ≡ false → m ≡ correctionCount k → 9 + m * 21 ≤ length k
 theirs-there k b m e n h = omega (arith, starts-long k (sym e ∙ not-false b n))
 
-pub theirs-sound : (k : List ℕ) (b : Bool) (m a : ℕ) (v : Verdict) → b ≡ correctionStarts k → not b ≡ false → m ≡ correctionCount k
-    → v ≡ verdict m (rowsFault k 9 m 1 0) → v ≡ Accepted a → Rows k 9 m
-theirs-sound k b m a v e n h p q = rows-sound k 9 m (theirs-there k b m e n h) (accepted-of m a _ (sym p ∙ q) .0)
+pub theirs-sound : (t : Terms) (k : List ℕ) (b : Bool) (m a : ℕ) (v : Verdict) → b ≡ correctionStarts k → not b ≡ false → m ≡ correctionCount k
+    → v ≡ verdict m (rowsFault t k 9 m 1 0) → v ≡ Accepted a → Rows k 9 m
+theirs-sound t k b m a v e n h p q = rows-sound t k 9 m (theirs-there k b m e n h) (accepted-of m a _ (sym p ∙ q) .0)
 
 pub bad-time : (s k : List ℕ) (n m : ℕ) (b : Bool) → b ≡ sameTime s k → not b ≡ true
     → Refused 9 0 ≡ verdict n (orElse (timeFault s k) (namesFault s k 9 m 1))
@@ -119,27 +121,27 @@ pub bad-start : (s k : List ℕ) (n : ℕ) (b : Bool) → b ≡ correctionStarts
 unfolding presentFault correctionFault orElse
 bad-start s k n b e h = let f : correctionStarts k ≡ false = sym e ∙ not-true b h in rw f
 
-pub bad-row : (s k : List ℕ) (n m a p : ℕ) (b : Bool) (v : Verdict) → b ≡ correctionStarts k → not b ≡ false → m ≡ correctionCount k
-    → v ≡ verdict m (rowsFault k 9 m 1 0) → v ≡ Refused a p → Refused 8 p ≡ verdict n (presentFault s k)
+pub bad-row : (t : Terms) (s k : List ℕ) (n m a p : ℕ) (b : Bool) (v : Verdict) → b ≡ correctionStarts k → not b ≡ false → t ≡ termsOf s → m ≡ correctionCount k
+    → v ≡ verdict m (rowsFault t k 9 m 1 0) → v ≡ Refused a p → Refused 8 p ≡ verdict n (presentFault s k)
 unfolding presentFault correctionFault orElse asEight
-bad-row s k n m a p b v e h i q r =
+bad-row t s k n m a p b v e h o i q r =
     let f : correctionStarts k ≡ true = sym e ∙ not-false b h in
-    let g = refused-of m a p (rowsFault k 9 m 1 0) (sym q ∙ r) in
-    rw (f, ← i, g .0, ne-eqb a 0 (g .1))
+    let g = refused-of m a p (rowsFault t k 9 m 1 0) (sym q ∙ r) in
+    rw (f, ← i, ← o, g .0, ne-eqb a 0 (g .1))
 
-pub good-rows : (s k : List ℕ) (n m a : ℕ) (b : Bool) (v w : Verdict) → b ≡ correctionStarts k → not b ≡ false → m ≡ correctionCount k
-    → v ≡ verdict m (rowsFault k 9 m 1 0) → v ≡ Accepted a
+pub good-rows : (t : Terms) (s k : List ℕ) (n m a : ℕ) (b : Bool) (v w : Verdict) → b ≡ correctionStarts k → not b ≡ false → t ≡ termsOf s → m ≡ correctionCount k
+    → v ≡ verdict m (rowsFault t k 9 m 1 0) → v ≡ Accepted a
     → w ≡ verdict n (orElse (timeFault s k) (namesFault s k 9 m 1)) → w ≡ verdict n (presentFault s k)
 unfolding presentFault correctionFault asEight
-good-rows s k n m a b v w e h i q r p =
+good-rows t s k n m a b v w e h o i q r p =
     let f : correctionStarts k ≡ true = sym e ∙ not-false b h in
-    let g : rowsFault k 9 m 1 0 .number ≡ 0 = accepted-of m a (rowsFault k 9 m 1 0) (sym q ∙ r) .0 in
-    rw (f, ← i, eq-eqb (rowsFault k 9 m 1 0 .number) 0 g, or-next none (orElse (timeFault s k) (namesFault s k 9 m 1)) refl) p
+    let g : rowsFault t k 9 m 1 0 .number ≡ 0 = accepted-of m a (rowsFault t k 9 m 1 0) (sym q ∙ r) .0 in
+    rw (f, ← i, ← o, eq-eqb (rowsFault t k 9 m 1 0 .number) 0 g, or-next none (orElse (timeFault s k) (namesFault s k 9 m 1)) refl) p
 
 module _ (s : List ℕ) where
   own-head : intervalFault s .number ≡ 0 → headFault s ≡ 0
   unfolding intervalFault
-  own-head e = or-none (fault (headFault s) 0) (rowsFault s 15 (rowCount s) 1 0) e .0
+  own-head e = or-none (fault (headFault s) 0) (rowsFault (termsOf s) s 15 (rowCount s) 1 0) e .0
 
   pub own-long : intervalFault s .number ≡ 0 → length s ≡ rowStart (rowCount s)
   own-long e = head-long s (own-head e)
@@ -147,7 +149,12 @@ module _ (s : List ℕ) where
   pub own-sound : intervalFault s .number ≡ 0 → Rows s 15 (rowCount s)
   unfolding intervalFault
   own-sound e =
-      rows-sound s 15 (rowCount s) (omega (arith, own-long e)) (or-none (fault (headFault s) 0) (rowsFault s 15 (rowCount s) 1 0) e .1)
+      rows-sound (termsOf s) s 15 (rowCount s) (omega (arith, own-long e)) (or-none (fault (headFault s) 0) (rowsFault (termsOf s) s 15 (rowCount s) 1 0) e .1)
+
+  pub own-ok : intervalFault s .number ≡ 0 → (i : ℕ) → i < rowCount s → rowOk (termsOf s) (rowAt s (rowStart i)) ≡ true
+  unfolding intervalFault
+  own-ok e i l =
+      rows-ok (termsOf s) s 15 (rowCount s) (or-none (fault (headFault s) 0) (rowsFault (termsOf s) s 15 (rowCount s) 1 0) e .1) i l
 
 pub own-there : (s : List ℕ) (n : ℕ) (v : Verdict) → v ≡ verdict (rowCount s) (intervalFault s) → v ≡ Accepted n → 15 ≤ length s
 own-there s n v e h = omega (arith, own-long s (accepted-of (rowCount s) n (intervalFault s) (sym e ∙ h) .0))

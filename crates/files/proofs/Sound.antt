@@ -18,18 +18,19 @@ use Rattle.files.specs.Layout.{marked, letterR, rowAt}
 use Rattle.files.specs.Range.{rowOk}
 use Rattle.files.specs.Fault.{fault, rowChecksAt, rowFault, rowsFault}
 use Rattle.files.specs.Walk.{idOf, Rows}
+use Rattle.files.specs.declared.Terms.{Terms}
 use Rattle.files.proofs.Answer.{or-none}
 use Rattle.files.proofs.Walked.{noCheck}
 
-pub record Passed (s : List ℕ) (k last : ℕ) : Type 0 where
+pub record Passed (t : Terms) (s : List ℕ) (k last : ℕ) : Type 0 where
   pub mark : marked s k letterR ≡ true
-  pub ok : rowOk (rowAt s k) ≡ true
+  pub ok : rowOk t (rowAt s k) ≡ true
   pub above : last < rowAt s k .id
 
-pub row-passed : (s : List ℕ) (k last : ℕ) → rowFault s k last ≡ 0 → Passed s k last
+pub row-passed : (t : Terms) (s : List ℕ) (k last : ℕ) → rowFault t s k last ≡ 0 → Passed t s k last
 unfolding rowFault
-row-passed s k last h =
-    let each = none-applies noCheck (rowChecksAt s k last) tt h in
+row-passed t s k last h =
+    let each = none-applies noCheck (rowChecksAt t s k last) tt h in
     record {
       mark = not-false _ (each 0 (lit< tt));
       ok = not-false _ (each 1 (lit< tt));
@@ -37,46 +38,48 @@ row-passed s k last h =
     }
 
 -- the first of so many rows has no fault, nor have those after it
-rows-parts : (left : ℕ) (s : List ℕ) (k place last : ℕ) → rowsFault s k (suc left) place last .number ≡ 0
-    → (Passed s k last) × (rowsFault s (k + 21) left (place + 1) (rowAt s k .id) .number ≡ 0)
+rows-parts : (t : Terms) (left : ℕ) (s : List ℕ) (k place last : ℕ) → rowsFault t s k (suc left) place last .number ≡ 0
+    → (Passed t s k last) × (rowsFault t s (k + 21) left (place + 1) (rowAt s k .id) .number ≡ 0)
 unfolding rowsFault
-rows-parts left s k place last h =
-    let both = or-none (fault (rowFault s k last) place) (rowsFault s (k + 21) left (place + 1) (rowAt s k .id)) h in
-    (row-passed s k last (both .0), both .1)
+rows-parts t left s k place last h =
+    let both = or-none (fault (rowFault t s k last) place) (rowsFault t s (k + 21) left (place + 1) (rowAt s k .id)) h in
+    (row-passed t s k last (both .0), both .1)
 
-pub rows-each : (left : ℕ) (s : List ℕ) (k place last : ℕ) → rowsFault s k left place last .number ≡ 0
-    → (i : ℕ) → i < left → Passed s (k + i * 21) last
-rows-each zero s k place last h i l = absurd (omega arith)
-rows-each (suc left) s k place last h zero l =
-    let here : k + 0 * 21 ≡ k = omega arith in rw here (rows-parts left s k place last h .0)
-rows-each (suc left) s k place last h (suc i) l =
-    let parts = rows-parts left s k place last h in
+pub rows-each : (t : Terms) (left : ℕ) (s : List ℕ) (k place last : ℕ) → rowsFault t s k left place last .number ≡ 0
+    → (i : ℕ) → i < left → Passed t s (k + i * 21) last
+rows-each t zero s k place last h i l = absurd (omega arith)
+rows-each t (suc left) s k place last h zero l =
+    let here : k + 0 * 21 ≡ k = omega arith in rw here (rows-parts t left s k place last h .0)
+rows-each t (suc left) s k place last h (suc i) l =
+    let parts = rows-parts t left s k place last h in
     let there : k + suc i * 21 ≡ k + 21 + i * 21 = omega arith in
-    let later = rows-each left s (k + 21) (place + 1) (rowAt s k .id) (parts .1) i (le-of-suc-le-suc l) in
+    let later = rows-each t left s (k + 21) (place + 1) (rowAt s k .id) (parts .1) i (le-of-suc-le-suc l) in
     rw there (record { mark = later .mark; ok = later .ok; above = omega (arith, parts .0 .above, later .above) })
 
-rows-rise : (left : ℕ) (s : List ℕ) (k place last : ℕ) → rowsFault s k left place last .number ≡ 0
+rows-rise : (t : Terms) (left : ℕ) (s : List ℕ) (k place last : ℕ) → rowsFault t s k left place last .number ≡ 0
     → (i j : ℕ) → i < j → j < left → idOf s k i < idOf s k j
 unfolding rowAt
-rows-rise zero s k place last h i j l m = absurd (omega arith)
-rows-rise (suc left) s k place last h i zero l m = absurd (omega arith)
-rows-rise (suc left) s k place last h zero (suc j) l m =
+rows-rise t zero s k place last h i j l m = absurd (omega arith)
+rows-rise t (suc left) s k place last h i zero l m = absurd (omega arith)
+rows-rise t (suc left) s k place last h zero (suc j) l m =
     let here : k + 0 * 21 ≡ k = omega arith in
     let there : k + suc j * 21 ≡ k + 21 + j * 21 = omega arith in
-    rw (here, there) (rows-each left s (k + 21) (place + 1) (rowAt s k .id) (rows-parts left s k place last h .1) j (le-of-suc-le-suc m) .above)
-rows-rise (suc left) s k place last h (suc i) (suc j) l m =
+    rw (here, there) (rows-each t left s (k + 21) (place + 1) (rowAt s k .id) (rows-parts t left s k place last h .1) j (le-of-suc-le-suc m) .above)
+rows-rise t (suc left) s k place last h (suc i) (suc j) l m =
     let here : k + suc i * 21 ≡ k + 21 + i * 21 = omega arith in
     let there : k + suc j * 21 ≡ k + 21 + j * 21 = omega arith in
     rw (here, there)
-    (rows-rise left s (k + 21) (place + 1) (rowAt s k .id) (rows-parts left s k place last h .1) i j (le-of-suc-le-suc l) (le-of-suc-le-suc m))
+    (rows-rise t left s (k + 21) (place + 1) (rowAt s k .id) (rows-parts t left s k place last h .1) i j (le-of-suc-le-suc l) (le-of-suc-le-suc m))
 
-pub rows-sound : (s : List ℕ) (start n : ℕ) → start + n * 21 ≤ length s → rowsFault s start n 1 0 .number ≡ 0 → Rows s start n
-rows-sound s start n le h =
+pub rows-sound : (t : Terms) (s : List ℕ) (start n : ℕ) → start + n * 21 ≤ length s → rowsFault t s start n 1 0 .number ≡ 0 → Rows s start n
+rows-sound t s start n le h =
     record {
       inside = λ i l. omega arith;
-      ok = λ i l. rows-each n s start 1 0 h i l .ok;
-      rising = λ i j l m. rows-rise n s start 1 0 h i j l m;
+      rising = λ i j l m. rows-rise t n s start 1 0 h i j l m;
     }
+
+pub rows-ok : (t : Terms) (s : List ℕ) (start n : ℕ) → rowsFault t s start n 1 0 .number ≡ 0 → (i : ℕ) → i < n → rowOk t (rowAt s (start + i * 21)) ≡ true
+rows-ok t s start n h i l = rows-each t n s start 1 0 h i l .ok
 
 pub row-in : (s : List ℕ) (start n i : ℕ) → Rows s start n → i < n → start + i * 21 + 21 ≤ length s
 row-in s start n i r l = r .inside i l

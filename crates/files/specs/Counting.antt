@@ -4,7 +4,6 @@ use mathlib.Core.Bool.{cond}
 use mathlib.Core.List.{List, []}
 use lib.Dec.{ltb, eqb}
 use lib.ListN.{take, drop}
-use Rattle.columns.specs.Table.{table}
 use Rattle.files.specs.Layout.{rowStart, correctionStart, rowAt, rowCount, correctionCount}
 use Rattle.files.specs.Fault.{findId, fileFault}
 use Rattle.files.specs.declared.Row.{Row}
@@ -42,7 +41,3 @@ countingRow s k i =
     let own = rowAt s (rowStart i) in
     let j = inCorrection k (own .id) in
     cond (ltb j (correctionCount k)) (rowAt k (correctionStart j)) own
-
--- all rows that count, in file order
-unfoldable pub rowsOf : List ℕ → List ℕ → List Row
-rowsOf s k = table (rowCount s) (countingRow s k)

@@ -6,8 +6,10 @@ use lib.Dec.{leb, ltb, eqb}
 use lib.ListN.{length}
 use Rattle.columns.specs.Test.{Check, firstOf}
 use Rattle.files.specs.Layout.{rowStart, correctionStart, marked, letterH, letterR, letterK, headAt, rowAt, correctionHeadAt, rowCount, correctionCount}
+use Rattle.files.specs.Terms.{termsOf}
 use Rattle.files.specs.Range.{headOk, correctionHeadOk, rowOk}
 use Rattle.files.specs.declared.Row.{Row}
+use Rattle.files.specs.declared.Terms.{Terms}
 use Rattle.files.specs.declared.Verdict.{Verdict}
 use Rattle.files.specs.declared.Verdict.the-variants.{Accepted, Refused}
 
@@ -39,27 +41,27 @@ unfoldable pub headFault : List ℕ → ℕ
 headFault s = firstOf (headChecks s)
 
 -- 6 and 7: a row's ranges, and its id against the id before it
-abbrev pub rowChecks : Row → ℕ → List Check
-rowChecks r last = check (not (rowOk r)) 6 ∷ check (leb (r .id) last) 7 ∷ []
+abbrev pub rowChecks : Terms → Row → ℕ → List Check
+rowChecks t r last = check (not (rowOk t r)) 6 ∷ check (leb (r .id) last) 7 ∷ []
 
 -- 5, 6, 7 of the row at position k
-abbrev pub rowChecksAt : List ℕ → ℕ → ℕ → List Check
-rowChecksAt s k last = check (not (marked s k letterR)) 5 ∷ rowChecks (rowAt s k) last
+abbrev pub rowChecksAt : Terms → List ℕ → ℕ → ℕ → List Check
+rowChecksAt t s k last = check (not (marked s k letterR)) 5 ∷ rowChecks t (rowAt s k) last
 
-unfoldable pub rowFault : List ℕ → ℕ → ℕ → ℕ
-rowFault s k last = firstOf (rowChecksAt s k last)
+unfoldable pub rowFault : Terms → List ℕ → ℕ → ℕ → ℕ
+rowFault t s k last = firstOf (rowChecksAt t s k last)
 
 -- the first fault of the rows from position k on, `place` being the number of the first of them
-unfoldable pub rowsFault : List ℕ → ℕ → ℕ → ℕ → ℕ → Fault
-rowsFault s k zero place last = none
-rowsFault s k (suc left) place last =
-    let next = rowsFault s (k + 21) left (place + 1) (rowAt s k .id) in
-    orElse (fault (rowFault s k last) place) next
+unfoldable pub rowsFault : Terms → List ℕ → ℕ → ℕ → ℕ → ℕ → Fault
+rowsFault t s k zero place last = none
+rowsFault t s k (suc left) place last =
+    let next = rowsFault t s (k + 21) left (place + 1) (rowAt s k .id) in
+    orElse (fault (rowFault t s k last) place) next
 
 -- 1 to 7: an interval file by itself
 unfoldable pub intervalFault : List ℕ → Fault
 intervalFault s =
-    let rows = rowsFault s (rowStart 0) (rowCount s) 1 0 in
+    let rows = rowsFault (termsOf s) s (rowStart 0) (rowCount s) 1 0 in
     orElse (fault (headFault s) 0) rows
 
 -- a correction's length, mark and ranges are right
@@ -73,9 +75,9 @@ unfoldable pub asEight : Fault → Fault
 asEight f = cond (eqb (f .number) 0) none (fault 8 (f .place))
 
 -- 8: a correction by itself, head and length before rows
-unfoldable pub correctionFault : List ℕ → Fault
-correctionFault k =
-    let rows = asEight (rowsFault k (correctionStart 0) (correctionCount k) 1 0) in
+unfoldable pub correctionFault : Terms → List ℕ → Fault
+correctionFault t k =
+    let rows = asEight (rowsFault t k (correctionStart 0) (correctionCount k) 1 0) in
     cond (correctionStarts k) rows (fault 8 0)
 
 -- a correction's day and quarter are the interval's
@@ -117,7 +119,7 @@ namesFault s c k (suc left) place =
 unfoldable pub presentFault : List ℕ → List ℕ → Fault
 presentFault s k =
     let names = namesFault s k (correctionStart 0) (correctionCount k) 1 in
-    orElse (correctionFault k) (orElse (timeFault s k) names)
+    orElse (correctionFault (termsOf s) k) (orElse (timeFault s k) names)
 
 -- a correction of length 0 means that there is none
 unfoldable pub pairFault : List ℕ → List ℕ → Fault

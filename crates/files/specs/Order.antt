@@ -7,6 +7,8 @@ use lib.Dec.{eqb}
 use lib.ListN.{length, getD}
 use Rattle.columns.specs.Test.{Check}
 use Rattle.files.specs.Layout.{rowStart, correctionStart, rowAt, rowCount, correctionCount}
+use Rattle.files.specs.Terms.{termsOf}
+use Rattle.files.specs.declared.Terms.{Terms}
 use Rattle.files.specs.Fault.{Fault, fault, none, headChecks, rowChecksAt, correctionStarts, sameTime, corrects}
 
 pub record Refusal : Type 0 where
@@ -23,10 +25,10 @@ placed p [] = []
 placed p (c ∷ cs) = refusal (c .applies) (c .number) p ∷ placed p cs
 
 -- 5, 6, 7 of each row in turn
-unfoldable pub rowsOrder : List ℕ → ℕ → ℕ → ℕ → ℕ → List Refusal
-rowsOrder s k zero place last = []
-rowsOrder s k (suc left) place last =
-    placed place (rowChecksAt s k last) ++ rowsOrder s (k + 21) left (place + 1) (rowAt s k .id)
+unfoldable pub rowsOrder : Terms → List ℕ → ℕ → ℕ → ℕ → ℕ → List Refusal
+rowsOrder t s k zero place last = []
+rowsOrder t s k (suc left) place last =
+    placed place (rowChecksAt t s k last) ++ rowsOrder t s (k + 21) left (place + 1) (rowAt s k .id)
 
 -- the same checks, each giving 8
 unfoldable pub eights : List Refusal → List Refusal
@@ -42,13 +44,13 @@ namesOrder s c k (suc left) place =
 -- 8 by head and length, 8 by rows, 9, 10 of a correction that is present
 unfoldable pub presentOrder : List ℕ → List ℕ → List Refusal
 presentOrder s k =
-    (refusal (not (correctionStarts k)) 8 0 ∷ eights (rowsOrder k (correctionStart 0) (correctionCount k) 1 0))
+    (refusal (not (correctionStarts k)) 8 0 ∷ eights (rowsOrder (termsOf s) k (correctionStart 0) (correctionCount k) 1 0))
     ++ (refusal (not (sameTime s k)) 9 0 ∷ namesOrder s k (correctionStart 0) (correctionCount k) 1)
 
 -- 1 to 10 in their order
 unfoldable pub fileOrder : List ℕ → List ℕ → List Refusal
 fileOrder s k =
-    (placed 0 (headChecks s) ++ rowsOrder s (rowStart 0) (rowCount s) 1 0)
+    (placed 0 (headChecks s) ++ rowsOrder (termsOf s) s (rowStart 0) (rowCount s) 1 0)
     ++ cond (eqb (length k) 0) [] (presentOrder s k)
 
 -- the first that applies

@@ -1,20 +1,16 @@
 -- What a walk over rows rests on, once the checks by themselves have passed: where rows stand, and that their ids rise.
 use Prim.Native.Nat.{ℕ, _+_, _*_, _≤_, _<_}
-use mathlib.Core.Path.{_≡_}
-use mathlib.Core.Bool.{true}
 use mathlib.Core.List.{List}
 use lib.ListN.{length}
 use Rattle.files.specs.Layout.{rowAt}
-use Rattle.files.specs.Range.{rowOk}
 
 -- the id of row i of those that begin at byte `start`
 abbrev pub idOf : List ℕ → ℕ → ℕ → ℕ
 idOf s start i = rowAt s (start + i * 21) .id
 
--- n rows from byte `start` on: all there, each in its ranges, ids strictly rising
+-- n rows from byte `start` on: all there, ids strictly rising
 pub record Rows (s : List ℕ) (start n : ℕ) : Type 0 where
   pub inside : (i : ℕ) → i < n → start + i * 21 + 21 ≤ length s
-  pub ok : (i : ℕ) → i < n → rowOk (rowAt s (start + i * 21)) ≡ true
   pub rising : (i j : ℕ) → i < j → j < n → idOf s start i < idOf s start j
 
 -- the first i rows have ids below this one

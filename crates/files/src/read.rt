@@ -2,6 +2,8 @@
 use crate::CorrectionHead;
 use crate::Head;
 use crate::Row;
+use crate::TERMS_01;
+use crate::Terms;
 use records::number_at;
 use units::Hao;
 use units::Kwh;
@@ -10,6 +12,7 @@ ghost use mathlib.Core.Path.{_≡_};
 ghost use Prim.Native.Nat.{_+_, _≤_};
 ghost use lib.ListN.{length};
 ghost use Rattle.files.specs.Layout.{marked, headAt, rowAt, correctionHeadAt};
+ghost use Rattle.files.specs.Terms.{termsOf};
 
 // Whether a record's mark stands at a position: the letter P and the letter given.
 pub fn marked(s: &[u8], at: usize, letter: u8) -> bool
@@ -58,6 +61,13 @@ pub fn correction_head_at(s: &[u8]) -> CorrectionHead
         quarter: number_at(s, 6, 1) as u8,
         rows: number_at(s, 7, 2) as u16,
     }
+}
+
+// The terms that an interval file and its correction are checked against: those of document 01, whatever the file says.
+pub fn terms_of(s: &[u8]) -> Terms
+    ensures { λ r. ⌜ r ≡ termsOf (now (s .entry)) ⌝ }
+{
+    TERMS_01
 }
 
 // A row's id alone.

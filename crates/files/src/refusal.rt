@@ -1,5 +1,6 @@
 // The refusals 1 to 10 in their order (01, Numbers of refusal).
 use crate::Row;
+use crate::Terms;
 use crate::Verdict;
 use crate::range::correction_head_ok;
 use crate::range::head_ok;
@@ -9,6 +10,7 @@ use crate::read::head_at;
 use crate::read::id_at;
 use crate::read::marked;
 use crate::read::row_at;
+use crate::read::terms_of;
 use records::number_at;
 ghost use mathlib.Core.Path.{_≡_};
 ghost use mathlib.Core.Bool.{_&&_};
@@ -61,26 +63,26 @@ fn head_fault(s: &[u8]) -> usize
 }
 
 // 5, 6, 7 of one row, after a row of id `last`.
-fn row_fault(s: &[u8], at: usize, last: u16) -> usize
+fn row_fault(terms: Terms, s: &[u8], at: usize, last: u16) -> usize
     requires { ⌜ at + 21 ≤ length (now s) ⌝ }
-    ensures { λ f. ⌜ f ≡ rowFault (now (s .entry)) at last ⌝ }
+    ensures { λ f. ⌜ f ≡ rowFault terms (now (s .entry)) at last ⌝ }
 {
     if !marked(s, at, b'R') {
         return 5;
     }
-    row_checks(row_at(s, at), last)
+    row_checks(terms, row_at(s, at), last)
 }
 
 // 5, 6, 7 row by row, of an interval's rows or of a correction's.
-fn rows_verdict(s: &[u8], start: usize, count: usize) -> Verdict
+fn rows_verdict(terms: Terms, s: &[u8], start: usize, count: usize) -> Verdict
     requires { ⌜ start + count * 21 ≤ length (now s) ⌝ }
-    ensures { λ v. ⌜ v ≡ verdict count (rowsFault (now (s .entry)) start count 1 0) ⌝ }
+    ensures { λ v. ⌜ v ≡ verdict count (rowsFault terms (now (s .entry)) start count 1 0) ⌝ }
 {
     let mut last: u16 = 0;
     let mut i = 0;
     while i < count {
         let at = start + i * ROW;
-        let f = row_fault(s, at, last);
+        let f = row_fault(terms, s, at, last);
         let next = i + 1;
         if f != 0 {
             return Verdict::Refused(f, next);
@@ -99,7 +101,7 @@ pub fn interval_verdict(s: &[u8]) -> Verdict
     if f != 0 {
         return Verdict::Refused(f, 0);
     }
-    rows_verdict(s, HEAD, row_count(s))
+    rows_verdict(terms_of(s), s, HEAD, row_count(s))
 }
 
 // A correction's length, mark and ranges.
@@ -211,7 +213,7 @@ fn present_verdict(interval: &[u8], correction: &[u8], n: usize) -> Verdict
         return Verdict::Refused(8, 0);
     }
     let m = correction_count(correction);
-    let rows = rows_verdict(correction, CORRECTION_HEAD, m);
+    let rows = rows_verdict(terms_of(interval), correction, CORRECTION_HEAD, m);
     match rows {
         Verdict::Refused(_, place) => Verdict::Refused(8, place),
         Verdict::Accepted(_) => beside_verdict(interval, correction, n, m),

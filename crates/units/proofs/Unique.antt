@@ -1,8 +1,8 @@
 -- Two results that one contract allows are equal. Each contract here fixes the number in a measure, so one theorem for each
 -- measure serves every function that answers in it, here and in the crates above.
---   kwh-unique   of `forty`, `half`, `sixty`, `seventy`, `most`
---   li-unique    of `Kwh::priced` and `Li::plus`
---   fen-unique   of `Kwh::thermal_cap`, `Kwh::renewable_cap` and `Li::to_fen`
+--   kwh-unique   of `load`, `most`, `Kwh::from_column`, `Kwh::smaller`, `Kwh::larger`, `Kwh::above`
+--   li-unique    of `Kwh::priced`, `Li::plus` and `Li::from_column`
+--   fen-unique   of `Kwh::thermal_cap`, `Kwh::renewable_cap`, `Li::to_fen` and `Fen::from_column`
 use Prim.Native.Nat.{ℕ}
 use mathlib.Core.Path.{_≡_, ap}
 use Rattle.columns.proofs.Unique.{unique}

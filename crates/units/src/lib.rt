@@ -1,9 +1,9 @@
 // The four measures of the rules (01, Units of account), and every way from one to another: 1 yuan = 100 fen =
 // 1,000 li = 10,000 hao. Bids and tariffs are per kWh. A figure changes its measure by one of these functions only.
 ghost use mathlib.Core.Path.{_≡_};
-ghost use Prim.Native.Nat.{_+_, _*_, _^_, _<_};
+ghost use Prim.Native.Nat.{_+_, _-_, _*_, _/_, _^_, _<_, min, max};
 ghost use Rattle.units.specs.Measure.{toFen, priced, thermalCap, renewableCap};
-ghost use Rattle.units.specs.Load.{load, forty, half, sixty, seventy, most};
+ghost use Rattle.units.specs.Load.{load, most};
 
 pub struct Kwh(pub u32);
 
@@ -14,6 +14,49 @@ pub struct Hao(pub u32);
 pub struct Fen(pub u64);
 
 impl Kwh {
+    // Into and out of a column of energies.
+    pub fn from_column(x: u32) -> Kwh
+        ensures { λ r. ⌜ r .0 ≡ x ⌝ }
+    {
+        Kwh(x)
+    }
+
+    pub fn column(self) -> u32
+        ensures { λ r. ⌜ r ≡ self .0 ⌝ }
+    {
+        self.0
+    }
+
+    // The smaller of two energies.
+    pub fn smaller(self, other: Kwh) -> Kwh
+        ensures { λ r. ⌜ r .0 ≡ min (self .0) (other .0) ⌝ }
+    {
+        if self.0 < other.0 {
+            return self;
+        }
+        other
+    }
+
+    // The larger of two energies.
+    pub fn larger(self, other: Kwh) -> Kwh
+        ensures { λ r. ⌜ r .0 ≡ max (self .0) (other .0) ⌝ }
+    {
+        if self.0 < other.0 {
+            return other;
+        }
+        self
+    }
+
+    // What this energy has above another, 0 if it has nothing above it.
+    pub fn above(self, other: Kwh) -> Kwh
+        ensures { λ r. ⌜ r .0 ≡ self .0 - other .0 ⌝ }
+    {
+        if self.0 < other.0 {
+            return Kwh(0);
+        }
+        Kwh(self.0 - other.0)
+    }
+
     // What this energy comes to at a price for each kWh.
     pub fn priced(self, price: Li) -> Li
         requires { ⌜ price .0 < 2 ^ 32 ⌝ }
@@ -22,22 +65,44 @@ impl Kwh {
         Li((self.0 as u64) * price.0)
     }
 
+    // This energy at a tariff, one part in so many, cut to whole fen.
+    fn part_of(self, tariff: Hao, parts: u64) -> Fen
+        requires { ⌜ 0 < parts ⌝ }
+        ensures { λ r. ⌜ r .0 ≡ self .0 * tariff .0 / parts ⌝ }
+    {
+        Fen((self.0 as u64) * (tariff.0 as u64) / parts)
+    }
+
     // The most that a thermal unit of this metered energy pays.
     pub fn thermal_cap(self, tariff: Hao) -> Fen
         ensures { λ r. ⌜ r .0 ≡ thermalCap (self .0) (tariff .0) ⌝ }
     {
-        Fen((self.0 as u64) * (tariff.0 as u64) / 400)
+        self.part_of(tariff, 400)
     }
 
     // The most that a wind or solar farm of this metered energy pays.
     pub fn renewable_cap(self, tariff: Hao) -> Fen
         ensures { λ r. ⌜ r .0 ≡ renewableCap (self .0) (tariff .0) ⌝ }
     {
-        Fen((self.0 as u64) * (tariff.0 as u64) / 200)
+        self.part_of(tariff, 200)
     }
 }
 
 impl Li {
+    // Into and out of a column of bids or prices.
+    pub fn from_column(x: u32) -> Li
+        ensures { λ r. ⌜ r .0 ≡ x ⌝ }
+    {
+        Li(x as u64)
+    }
+
+    pub fn column(self) -> u32
+        requires { ⌜ self .0 < 2 ^ 32 ⌝ }
+        ensures { λ r. ⌜ r ≡ self .0 ⌝ }
+    {
+        self.0 as u32
+    }
+
     // Two sums of money in li together.
     pub fn plus(self, other: Li) -> Li
         requires { ⌜ self .0 + other .0 < 2 ^ 64 ⌝ }
@@ -54,6 +119,22 @@ impl Li {
     }
 }
 
+impl Fen {
+    // Into and out of a column of money.
+    pub fn from_column(x: u32) -> Fen
+        ensures { λ r. ⌜ r .0 ≡ x ⌝ }
+    {
+        Fen(x as u64)
+    }
+
+    pub fn column(self) -> u32
+        requires { ⌜ self .0 < 2 ^ 32 ⌝ }
+        ensures { λ r. ⌜ r ≡ self .0 ⌝ }
+    {
+        self.0 as u32
+    }
+}
+
 // So many percent of a capacity in MW over a quarter hour, cut to whole kWh.
 pub fn load(capacity: u16, percent: u8) -> Kwh
     ensures { λ r. ⌜ r .0 ≡ load capacity percent ⌝ }
@@ -61,35 +142,7 @@ pub fn load(capacity: u16, percent: u8) -> Kwh
     Kwh((capacity as u32) * 250 * (percent as u32) / 100)
 }
 
-// 40 percent of a capacity in MW over a quarter hour: where tier 1 ends and tier 2 begins.
-pub fn forty(capacity: u16) -> Kwh
-    ensures { λ r. ⌜ r .0 ≡ forty capacity ⌝ }
-{
-    Kwh((capacity as u32) * 100)
-}
-
-// 50 percent: the baseline.
-pub fn half(capacity: u16) -> Kwh
-    ensures { λ r. ⌜ r .0 ≡ half capacity ⌝ }
-{
-    Kwh((capacity as u32) * 125)
-}
-
-// 60 percent: above it energy counts twice.
-pub fn sixty(capacity: u16) -> Kwh
-    ensures { λ r. ⌜ r .0 ≡ sixty capacity ⌝ }
-{
-    Kwh((capacity as u32) * 150)
-}
-
-// 70 percent: above it energy counts three times.
-pub fn seventy(capacity: u16) -> Kwh
-    ensures { λ r. ⌜ r .0 ≡ seventy capacity ⌝ }
-{
-    Kwh((capacity as u32) * 175)
-}
-
-// 110 percent: no meter reads more.
+// 110 percent of it: no meter reads more.
 pub fn most(capacity: u16) -> Kwh
     ensures { λ r. ⌜ r .0 ≡ most capacity ⌝ }
 {

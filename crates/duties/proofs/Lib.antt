@@ -1,0 +1,4 @@
+pub mod Parts
+pub mod Laws
+pub mod Unique
+pub mod Figures

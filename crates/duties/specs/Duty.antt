@@ -1,0 +1,105 @@
+-- What a row under its terms offers, delivered, weighs and may be asked to pay (01, Calls and prices, Compensation, Weights and caps).
+use Prim.Native.Nat.{ℕ, _+_, _-_, _*_, min, max}
+use mathlib.Core.Bool.{Bool, cond, not, _&&_}
+use lib.Dec.{leb, eqb}
+use Rattle.units.specs.Measure.{thermalCap, renewableCap}
+use Rattle.units.specs.Load.{load}
+use Rattle.files.specs.declared.Row.{Row}
+use Rattle.files.specs.declared.Terms.{Terms}
+use Rattle.files.specs.Terms.{baseline}
+use Rattle.duties.specs.declared.Duty.{Duty}
+
+-- the kind whose baseline matters; wind and solar are the others
+abbrev pub thermal : ℕ
+thermal = 1
+
+-- the statuses: 0 normal, 1 starting or stopping, 2 reduced for reasons of its own, 3 grid accident
+abbrev pub normal : ℕ
+normal = 0
+
+abbrev pub starting : ℕ
+starting = 1
+
+abbrev pub reduced : ℕ
+reduced = 2
+
+abbrev pub accident : ℕ
+accident = 3
+
+-- 40 percent of full load: where tier 1 ends and tier 2 begins
+abbrev pub foot : ℕ → ℕ
+foot c = load c 40
+
+-- 60 percent: above it a thermal unit's energy counts twice
+abbrev pub sixty : ℕ → ℕ
+sixty c = load c 60
+
+-- 70 percent: above it a thermal unit's energy counts three times
+abbrev pub seventy : ℕ → ℕ
+seventy c = load c 70
+
+-- Article 23: tier 1 runs from the baseline down to the larger of the minimum and 40 percent; a row that offers nothing has no band
+unfoldable pub width1 : Terms → Row → ℕ
+width1 t r = cond (eqb (r .offered) 1) (baseline t (r .capacity) - max (r .minimum .0) (foot (r .capacity))) 0
+
+-- tier 2 runs from 40 percent down to the minimum, empty where the minimum is not below
+unfoldable pub width2 : Terms → Row → ℕ
+width2 t r = cond (eqb (r .offered) 1) (foot (r .capacity) - r .minimum .0) 0
+
+-- Article 27: energy e delivers in tier 1 from the baseline down to the larger of e and 40 percent; nothing at or above the baseline
+abbrev pub energyIn1 : ℕ → ℕ → ℕ → ℕ
+energyIn1 base c e = base - max e (foot c)
+
+-- and in tier 2 from 40 percent, or a baseline below it, down to e
+abbrev pub energyIn2 : ℕ → ℕ → ℕ → ℕ
+energyIn2 base c e = min base (foot c) - e
+
+-- 01, Compensation: thermal rows of status 0 are paid for what they delivered, others not
+abbrev pub receives : Row → Bool
+receives r = eqb (r .kind) thermal && eqb (r .status) normal
+
+-- the energy that a row is paid for in tier 1
+unfoldable pub energy1 : Terms → Row → ℕ
+energy1 t r = cond (receives r) (energyIn1 (baseline t (r .capacity)) (r .capacity) (r .metered .0)) 0
+
+-- the energy that a row is paid for in tier 2
+unfoldable pub energy2 : Terms → Row → ℕ
+energy2 t r = cond (receives r) (energyIn2 (baseline t (r .capacity)) (r .capacity) (r .metered .0)) 0
+
+-- Articles 21, 29: wind and solar of status 0 pay, and thermal rows at or above the baseline unless their status is 3
+unfoldable pub payer : Terms → Row → Bool
+payer t r =
+    cond (eqb (r .kind) thermal) (leb (baseline t (r .capacity)) (r .metered .0) && not (eqb (r .status) accident))
+    (eqb (r .status) normal)
+
+-- a thermal unit's energy above the baseline counts once up to 60 percent, twice up to 70, three times above
+abbrev pub thermalWeight : ℕ → ℕ → ℕ → ℕ
+thermalWeight base c e = (min e (sixty c) - base) + 2 * (min e (seventy c) - sixty c) + 3 * (e - seventy c)
+
+-- the weight of a row, which the mission calls corrected energy; 0 for a row that does not pay
+unfoldable pub weight : Terms → Row → ℕ
+weight t r =
+    cond (payer t r)
+    (cond (eqb (r .kind) thermal) (thermalWeight (baseline t (r .capacity)) (r .capacity) (r .metered .0)) (r .metered .0))
+    0
+
+-- Article 30: the cap of a row in fen, by its kind's share of the tariff in hao; 0 for a row that does not pay
+unfoldable pub cap : Terms → ℕ → Row → ℕ
+cap t tariff r =
+    cond (payer t r)
+    (cond (eqb (r .kind) thermal) (thermalCap (r .metered .0) tariff) (renewableCap (r .metered .0) tariff))
+    0
+
+-- all of it together
+unfoldable pub dutyOf : Terms → ℕ → Row → Duty
+dutyOf t tariff r =
+    record {
+      width1 = record { 0 = width1 t r };
+      width2 = record { 0 = width2 t r };
+      energy1 = record { 0 = energy1 t r };
+      energy2 = record { 0 = energy2 t r };
+      weight = record { 0 = weight t r };
+      cap = record { 0 = cap t tariff r };
+      bid1 = r .bid1;
+      bid2 = r .bid2;
+    }

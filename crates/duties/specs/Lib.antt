@@ -1,0 +1,3 @@
+pub mod Duty
+pub mod Duties
+pub mod Ranged

@@ -1,0 +1,73 @@
+// The duties of a row under its terms (01, Calls and prices, Compensation, Weights and caps): the one room that knows capacities,
+// percentages, kinds, statuses and limits. What follows works on the columns of these figures.
+use files::Row;
+use files::Terms;
+use units::Fen;
+use units::Hao;
+use units::Kwh;
+use units::Li;
+ghost use mathlib.Core.Path.{_≡_};
+ghost use Rattle.files.specs.Terms.{baseline};
+ghost use Rattle.duties.specs.Duty.{dutyOf};
+ghost use Rattle.duties.specs.Ranged.{Ranged};
+
+mod bands;
+mod delivery;
+mod weighing;
+
+pub use bands::width1;
+pub use bands::width2;
+pub use delivery::energy_in1;
+pub use delivery::energy_in2;
+pub use delivery::energy1;
+pub use delivery::energy2;
+pub use weighing::cap;
+pub use weighing::pays;
+pub use weighing::thermal_weight;
+pub use weighing::weight;
+
+// The kind whose baseline matters; wind and solar are the others.
+const THERMAL: u8 = 1;
+
+const NORMAL: u8 = 0;
+
+// Where tier 1 ends and tier 2 begins, in percent of full load.
+const FOOT: u8 = 40;
+
+// What a row offers, delivered, weighs and may be asked to pay.
+pub struct Duty {
+    pub width1: Kwh,
+    pub width2: Kwh,
+    pub energy1: Kwh,
+    pub energy2: Kwh,
+    pub weight: Kwh,
+    pub cap: Fen,
+    pub bid1: Li,
+    pub bid2: Li,
+}
+
+// Where the bands of a capacity begin and its weight too.
+pub fn baseline(terms: Terms, capacity: u16) -> Kwh
+    ensures { λ r. ⌜ r .0 ≡ baseline terms capacity ⌝ }
+{
+    units::load(capacity, terms.percent)
+}
+
+// All of a row's figures.
+pub fn duty_of(terms: Terms, tariff: Hao, row: Row) -> Duty
+    requires { ⌜ Ranged row ⌝ }
+    ensures { λ d. ⌜ d ≡ dutyOf terms (tariff .0) row ⌝ }
+{
+    let bid1 = row.bid1;
+    let bid2 = row.bid2;
+    Duty {
+        width1: width1(terms, row),
+        width2: width2(terms, row),
+        energy1: energy1(terms, row),
+        energy2: energy2(terms, row),
+        weight: weight(terms, row),
+        cap: cap(terms, tariff, row),
+        bid1: bid1,
+        bid2: bid2,
+    }
+}

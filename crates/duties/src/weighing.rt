@@ -1,0 +1,77 @@
+// Who pays, by which weight, up to which cap (01, Weights and caps; Articles 21, 29, 30).
+use crate::NORMAL;
+use crate::THERMAL;
+use crate::baseline;
+use files::Row;
+use files::Terms;
+use units::Fen;
+use units::Hao;
+use units::Kwh;
+use units::load;
+ghost use mathlib.Core.Path.{_≡_};
+ghost use mathlib.Core.Bool.{cond};
+ghost use Prim.Native.Nat.{_^_, _≤_};
+ghost use Rattle.duties.specs.Duty.{payer, thermalWeight, weight, cap};
+ghost use Rattle.duties.specs.Ranged.{Ranged};
+
+const ACCIDENT: u8 = 3;
+
+const SIXTY: u8 = 60;
+
+const SEVENTY: u8 = 70;
+
+// Whether the row pays.
+pub fn pays(terms: Terms, row: Row) -> bool
+    ensures { λ b. ⌜ b ≡ payer terms row ⌝ }
+{
+    if row.kind == THERMAL {
+        return (baseline(terms, row.capacity).0 <= row.metered.0) & (row.status != ACCIDENT);
+    }
+    row.status == NORMAL
+}
+
+// The energy that counts: what a payer's meter says, nothing of a row that does not pay.
+fn counted(terms: Terms, row: Row) -> Kwh
+    ensures { λ e. ⌜ e .0 ≡ cond (payer terms row) (row .metered .0) 0 ⌝ }
+{
+    if !pays(terms, row) {
+        return Kwh(0);
+    }
+    row.metered
+}
+
+// A thermal unit's energy above its baseline: once to 60 percent, twice to 70, three times above.
+pub fn thermal_weight(base: Kwh, capacity: u16, energy: Kwh) -> Kwh
+    requires { ⌜ energy .0 ≤ 2 ^ 30 ⌝ }
+    ensures { λ r. ⌜ r .0 ≡ thermalWeight (base .0) capacity (energy .0) ⌝ }
+{
+    let low = load(capacity, SIXTY);
+    let high = load(capacity, SEVENTY);
+    let once = energy.smaller(low).above(base);
+    let twice = energy.smaller(high).above(low);
+    let thrice = energy.above(high);
+    Kwh(once.0 + 2 * twice.0 + 3 * thrice.0)
+}
+
+// The weight of a row, 0 for one that does not pay.
+pub fn weight(terms: Terms, row: Row) -> Kwh
+    requires { ⌜ Ranged row ⌝ }
+    ensures { λ w. ⌜ w .0 ≡ weight terms row ⌝ }
+{
+    let energy = counted(terms, row);
+    if row.kind == THERMAL {
+        return thermal_weight(baseline(terms, row.capacity), row.capacity, energy);
+    }
+    energy
+}
+
+// The cap of a row, 0 for one that does not pay.
+pub fn cap(terms: Terms, tariff: Hao, row: Row) -> Fen
+    ensures { λ c. ⌜ c .0 ≡ cap terms (tariff .0) row ⌝ }
+{
+    let energy = counted(terms, row);
+    if row.kind == THERMAL {
+        return energy.thermal_cap(tariff);
+    }
+    energy.renewable_cap(tariff)
+}
