@@ -17,18 +17,6 @@ use units::Li;
 // Past every bid: they are below 65,536.
 const PAST: u64 = 65536;
 
-fn kwh(x: u32) -> Kwh
-    ensures { λ r. ⌜ r .0 ≡ x ⌝ }
-{
-    Kwh(x)
-}
-
-fn li(x: u32) -> Li
-    ensures { λ r. ⌜ r .0 ≡ x ⌝ }
-{
-    Li(x as u64)
-}
-
 // The lower of two bids, if the second is not below `from` and is that of a band with a width.
 fn sooner(from: Li, best: Li, width: Kwh, bid: Li) -> Li
     ensures { λ r. ⌜ r .0 ≡ sooner (from .0) (best .0) (width .0) (bid .0) ⌝ }
@@ -53,7 +41,12 @@ fn next_bid(from: Li, widths: &[u32], bids: &[u32]) -> Li
     let mut next = Li(PAST);
     let mut i = 0;
     while i < widths.len() {
-        next = sooner(from, next, kwh(widths[i]), li(bids[i]));
+        next = sooner(
+            from,
+            next,
+            Kwh::from_column(widths[i]),
+            Li::from_column(bids[i]),
+        );
         i += 1;
     }
     next
@@ -64,8 +57,8 @@ fn member(bid: Li, i: usize, widths: &[u32], bids: &[u32]) -> Kwh
     requires { ⌜ Columns (now widths) (now bids) × (i < length (now widths)) ⌝ }
     ensures { λ r. ⌜ (r .0 ≡ equal (now (widths .entry)) (now (bids .entry)) (bid .0) i) × (r .0 ≤ 250000) ⌝ }
 {
-    if li(bids[i]).0 == bid.0 {
-        return kwh(widths[i]);
+    if Li::from_column(bids[i]).0 == bid.0 {
+        return Kwh::from_column(widths[i]);
     }
     Kwh(0)
 }
@@ -199,7 +192,7 @@ pub fn price(bids: &[u32], called: &[u32]) -> Li
     let mut top = Li(0);
     let mut i = 0;
     while i < bids.len() {
-        top = higher(top, li(bids[i]), kwh(called[i]));
+        top = higher(top, Li::from_column(bids[i]), Kwh::from_column(called[i]));
         i += 1;
     }
     top

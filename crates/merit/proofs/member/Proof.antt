@@ -5,23 +5,23 @@ use borrow.Author.Needs.{needs}
 use Rattle.merit.proofs.member.Statement.{statement}
 use Rattle.merit.proofs.member.Tie as tie
 
-mul-li : tie.Need-mul-li
-mul-li c = search needs
+mul-from-column : tie.Need-mul-from-column
+mul-from-column c = search needs
 
-shared-slice-read-li : tie.Need-shared-slice-read-li
-shared-slice-read-li c = search needs
+shared-slice-read-from-column : tie.Need-shared-slice-read-from-column
+shared-slice-read-from-column c = search needs
 
-li-requires : tie.Need-li-requires
-li-requires c κs = search needs
+from-column-requires : tie.Need-from-column-requires
+from-column-requires c κs = search needs
 
-mul-kwh : tie.Need-mul-kwh
-mul-kwh c = search needs
+mul-from-column-2 : tie.Need-mul-from-column-2
+mul-from-column-2 c = search needs
 
-shared-slice-read-kwh : tie.Need-shared-slice-read-kwh
-shared-slice-read-kwh c = search needs
+shared-slice-read-from-column-2 : tie.Need-shared-slice-read-from-column-2
+shared-slice-read-from-column-2 c = search needs
 
-kwh-requires : tie.Need-kwh-requires
-kwh-requires c κs = search needs
+from-column-requires-2 : tie.Need-from-column-requires-2
+from-column-requires-2 c κs = search needs
 
 returns : tie.Need-returns
 returns c = (search member-it, search narrow-width)
@@ -33,11 +33,11 @@ pub member-spec : {M : Type 1} → statement M
 member-spec =
     tie.close
     (tie.spec
-    mul-li
-    shared-slice-read-li
-    li-requires
-    mul-kwh
-    shared-slice-read-kwh
-    kwh-requires
+    mul-from-column
+    shared-slice-read-from-column
+    from-column-requires
+    mul-from-column-2
+    shared-slice-read-from-column-2
+    from-column-requires-2
     returns
     returns-2)

@@ -17,23 +17,23 @@ abbrev μ-loop : tie.MeasureT-loop
 loop-holds : tie.Need-loop-holds Inv-loop μ-loop
 loop-holds c = (omega arith, search highest-none)
 
-mul-li : tie.Need-mul-li Inv-loop μ-loop
-mul-li c = search needs
+mul-from-column : tie.Need-mul-from-column Inv-loop μ-loop
+mul-from-column c = search needs
 
-shared-slice-read-li : tie.Need-shared-slice-read-li Inv-loop μ-loop
-shared-slice-read-li c = search needs
+shared-slice-read-from-column : tie.Need-shared-slice-read-from-column Inv-loop μ-loop
+shared-slice-read-from-column c = search needs
 
-li-requires : tie.Need-li-requires Inv-loop μ-loop
-li-requires c κs = search needs
+from-column-requires : tie.Need-from-column-requires Inv-loop μ-loop
+from-column-requires c κs = search needs
 
-mul-kwh : tie.Need-mul-kwh Inv-loop μ-loop
-mul-kwh c = search needs
+mul-from-column-2 : tie.Need-mul-from-column-2 Inv-loop μ-loop
+mul-from-column-2 c = search needs
 
-shared-slice-read-kwh : tie.Need-shared-slice-read-kwh Inv-loop μ-loop
-shared-slice-read-kwh c = search needs
+shared-slice-read-from-column-2 : tie.Need-shared-slice-read-from-column-2 Inv-loop μ-loop
+shared-slice-read-from-column-2 c = search needs
 
-kwh-requires : tie.Need-kwh-requires Inv-loop μ-loop
-kwh-requires c κs = search needs
+from-column-requires-2 : tie.Need-from-column-requires-2 Inv-loop μ-loop
+from-column-requires-2 c κs = search needs
 
 higher-requires : tie.Need-higher-requires Inv-loop μ-loop
 higher-requires c κs = search needs
@@ -57,12 +57,12 @@ price-spec =
     Inv-loop
     μ-loop
     loop-holds
-    mul-li
-    shared-slice-read-li
-    li-requires
-    mul-kwh
-    shared-slice-read-kwh
-    kwh-requires
+    mul-from-column
+    shared-slice-read-from-column
+    from-column-requires
+    mul-from-column-2
+    shared-slice-read-from-column-2
+    from-column-requires-2
     higher-requires
     add-i
     loop-less
