@@ -1,14 +1,15 @@
 // Worked figures of the merit order, run from code and printed.
 ghost use mathlib.Core.List.{[], _∷_};
 ghost use Rattle.merit.specs.Ready.{Ready};
+use columns::wide;
 use units::Kwh;
 use units::Li;
 
 // Two numbers on one line.
-fn show(a: u32, b: u32) {
-    io::print_decimal(1, a as u64);
+fn show(a: u64, b: u64) {
+    io::print_decimal(1, a);
     io::write_all(1, b" ");
-    io::print_decimal(1, b as u64);
+    io::print_decimal(1, b);
     io::write_all(1, b"\n");
 }
 
@@ -18,8 +19,8 @@ fn show_tier(need: Kwh, widths: &[u32], bids: &[u32]) -> Kwh
 {
     let mut called = [0u32, 0];
     let beyond = merit::call_tier(need, 0, widths, bids, &mut called);
-    show(called[0], called[1]);
-    show(beyond.0, merit::price(bids, &called).0 as u32);
+    show(wide(called[0]), wide(called[1]));
+    show(wide(beyond.0), merit::price(bids, &called).0);
     beyond
 }
 
@@ -36,7 +37,7 @@ fn show_both() {
 
 // Half a fen goes upward: P11.
 fn show_fen() {
-    show(Li(315).to_fen().0 as u32, Li(314).to_fen().0 as u32);
+    show(Li(315).to_fen().0, Li(314).to_fen().0);
 }
 
 fn main() {
