@@ -11,7 +11,6 @@ use mathlib.Core.List.{List}
 use native.Mathlib.Nat.{eq-zero-or-pos}
 use native.Mathlib.Omega.{arith}
 use lib.Dec.{ltb, eqb}
-use lib.ListN.{length}
 use borrow.Author.Tests.{lt-ltb, le-ltb, eq-eqb, ne-eqb, eqb-true, eqb-false}
 use Rattle.columns.specs.Sum.{sumTo, whole}
 use Rattle.columns.specs.Table.{at, table}
@@ -46,24 +45,32 @@ order-eq t x y =
     differ one h e = h (omega arith)
     differ two h e = h (omega arith)
 
+-- what a tier has to meet of the need: tier 2 what tier 1 leaves
+abbrev leftFor : ℕ → Bands → Tier → ℕ
+leftFor need b one = need
+leftFor need b two = need - whole (b .widths1)
+
 -- what is left and who shares it decide what a band gets
-share-same : (a c : ℕ) (g h : List ℕ) (first i : ℕ) → a ≡ c → g ≡ h → share (min a (whole g)) g first i ≡ share (min c (whole h)) h first i
+share-same : (a c : ℕ) (g h : List ℕ) (first i : ℕ) → a ≡ c → g ≡ h
+    → share (min a (whole g)) g first i ≡ share (min c (whole h)) h first i
 share-same a c g h first i e f = rw (e, f)
 
 module _ (b : Bands) (apart : Apart b) where
   group-own : (t : Tier) (i : ℕ) → group b t (orderAt b t i) ≡ groupIn (widths b t) (bids b t) (at (bids b t) i)
   unfolding group groupIn equal
   group-own t i =
-      table-same (rows b) (λ j. cond (eqb (orderAt b t j) (orderAt b t i)) (at (widths b t) j) 0) (equal (widths b t) (bids b t) (at (bids b t) i))
+      let own : ℕ → ℕ = equal (widths b t) (bids b t) (at (bids b t) i) in
+      table-same (rows b) (λ j. cond (eqb (orderAt b t j) (orderAt b t i)) (at (widths b t) j) 0) own
       (λ j l. ap (λ (o : Bool). cond o (at (widths b t) j) 0) (order-eq t (at (bids b t) j) (at (bids b t) i)))
-      ∙ ap (λ (n : ℕ). table n (equal (widths b t) (bids b t) (at (bids b t) i))) (sym (rows-of b (apart .level) t))
+      ∙ ap (λ (n : ℕ). table n own) (sym (rows-of b (apart .level) t))
 
   cheaper-own : (t : Tier) (i : ℕ) → cheaperIn b t (orderAt b t i) ≡ below (widths b t) (bids b t) (at (bids b t) i)
   unfolding cheaperIn below under
   cheaper-own t i =
-      sum-same (rows b) (λ j. cond (ltb (orderAt b t j) (orderAt b t i)) (at (widths b t) j) 0) (under (widths b t) (bids b t) (at (bids b t) i))
+      let own : ℕ → ℕ = under (widths b t) (bids b t) (at (bids b t) i) in
+      sum-same (rows b) (λ j. cond (ltb (orderAt b t j) (orderAt b t i)) (at (widths b t) j) 0) own
       (λ j l. ap (λ (o : Bool). cond o (at (widths b t) j) 0) (order-lt t (at (bids b t) j) (at (bids b t) i)))
-      ∙ ap (λ (n : ℕ). sumTo n (under (widths b t) (bids b t) (at (bids b t) i))) (sym (rows-of b (apart .level) t))
+      ∙ ap (λ (n : ℕ). sumTo n own) (sym (rows-of b (apart .level) t))
 
   -- no tier 2 band is cheaper than a tier 1 band that has a width
   none-of-two : (i : ℕ) → 0 < at (b .widths1) i → cheaperIn b two (orderAt b one i) ≡ 0
@@ -83,47 +90,47 @@ module _ (b : Bands) (apart : Apart b) where
       (λ j l m. ⊎-elim (λ (z : at (b .widths1) j ≡ 0). z) (λ (p : 0 < at (b .widths1) j). absurd (omega (arith, apart .rising j i p q)))
       (eq-zero-or-pos (at (b .widths1) j)))
 
-  module _ (need first : ℕ) where
-    called-one : (i : ℕ) → called need b first one i ≡ calledIn need (b .widths1) (b .bids1) first i
-    called-one i =
-        ⊎-elim
-        (λ (z : at (b .widths1) i ≡ 0). omega (arith, both.called-le need b first one i, alone.called-le need (b .widths1) (b .bids1) first i))
-        (λ (p : 0 < at (b .widths1) i). unfold called due calledIn dueIn in
-        share-same (need - cheaper b (orderAt b one i)) (need - below (b .widths1) (b .bids1) (at (b .bids1) i)) (group b one (orderAt b one i))
-        (groupIn (b .widths1) (b .bids1) (at (b .bids1) i)) first i
-        (unfold cheaper in omega (arith, cheaper-own one i, none-of-two i p)) (group-own one i))
-        (eq-zero-or-pos (at (b .widths1) i))
+  -- what bands of both tiers leave for a band with a width is what bands of its own tier leave of the tier's need
+  left-own : (need : ℕ) (t : Tier) (i : ℕ) → 0 < at (widths b t) i
+      → need - cheaper b (orderAt b t i) ≡ leftFor need b t - below (widths b t) (bids b t) (at (bids b t) i)
+  unfolding cheaper
+  left-own need one i p = omega (arith, cheaper-own one i, none-of-two i p)
+  left-own need two i p = omega (arith, cheaper-own two i, all-of-one i p)
 
-    called-two : (i : ℕ) → called need b first two i ≡ calledIn (need - whole (b .widths1)) (b .widths2) (b .bids2) first i
-    called-two i =
+  module _ (need first : ℕ) where
+    called-own : (t : Tier) (i : ℕ) → called need b first t i ≡ calledIn (leftFor need b t) (widths b t) (bids b t) first i
+    called-own t i =
         ⊎-elim
-        (λ (z : at (b .widths2) i ≡ 0).
-        omega (arith, both.called-le need b first two i, alone.called-le (need - whole (b .widths1)) (b .widths2) (b .bids2) first i))
-        (λ (p : 0 < at (b .widths2) i). unfold called due calledIn dueIn in
-        share-same (need - cheaper b (orderAt b two i)) (need - whole (b .widths1) - below (b .widths2) (b .bids2) (at (b .bids2) i))
-        (group b two (orderAt b two i)) (groupIn (b .widths2) (b .bids2) (at (b .bids2) i)) first i
-        (unfold cheaper in omega (arith, cheaper-own two i, all-of-one i p)) (group-own two i))
-        (eq-zero-or-pos (at (b .widths2) i))
+        (λ (z : at (widths b t) i ≡ 0).
+        omega (arith, both.called-le need b first t i, alone.called-le (leftFor need b t) (widths b t) (bids b t) first i))
+        (λ (p : 0 < at (widths b t) i). unfold called due calledIn dueIn in
+        share-same (need - cheaper b (orderAt b t i)) (leftFor need b t - below (widths b t) (bids b t) (at (bids b t) i))
+        (group b t (orderAt b t i)) (groupIn (widths b t) (bids b t) (at (bids b t) i)) first i (left-own need t i p) (group-own t i))
+        (eq-zero-or-pos (at (widths b t) i))
+
+    calls-own : (t : Tier) → calls need b first t ≡ tierCalls (leftFor need b t) (widths b t) (bids b t) first
+    unfolding calls tierCalls
+    calls-own t =
+        let own : ℕ → ℕ = calledIn (leftFor need b t) (widths b t) (bids b t) first in
+        table-same (rows b) (called need b first t) own (λ i l. called-own t i)
+        ∙ ap (λ (n : ℕ). table n own) (sym (rows-of b (apart .level) t))
 
     pub calls-one : calls need b first one ≡ tierCalls need (b .widths1) (b .bids1) first
-    unfolding calls tierCalls
-    calls-one = table-same (rows b) (called need b first one) (calledIn need (b .widths1) (b .bids1) first) (λ i l. called-one i)
+    calls-one = calls-own one
 
     pub calls-two : calls need b first two ≡ tierCalls (need - whole (b .widths1)) (b .widths2) (b .bids2) first
-    unfolding calls tierCalls
-    calls-two =
-        table-same (rows b) (called need b first two) (calledIn (need - whole (b .widths1)) (b .widths2) (b .bids2) first) (λ i l. called-two i)
-        ∙ ap (λ (n : ℕ). table n (calledIn (need - whole (b .widths1)) (b .widths2) (b .bids2) first)) (sym (apart .level))
+    calls-two = calls-own two
 
 pub uncovered-tiers : (need : ℕ) (b : Bands) → uncovered need b ≡ need - whole (b .widths1) - whole (b .widths2)
 unfolding uncovered
 uncovered-tiers need b = omega arith
 
-pub tier-by-tier : (need : ℕ) (b : Bands) (first r1 r2 : ℕ) (c1 c2 : List ℕ) → Apart b → TierCalled need (b .widths1) (b .bids1) first r1 c1
-    → TierCalled r1 (b .widths2) (b .bids2) first r2 c2 → Called need b first r2 c1 c2
+pub tier-by-tier : (need : ℕ) (b : Bands) (first r1 r2 : ℕ) (c1 c2 : List ℕ) → Apart b
+    → TierCalled need (b .widths1) (b .bids1) first r1 c1 → TierCalled r1 (b .widths2) (b .bids2) first r2 c2 → Called need b first r2 c1 c2
 tier-by-tier need b first r1 r2 c1 c2 apart x y =
     record {
       called1 = x .called ∙ sym (calls-one b apart need first);
-      called2 = y .called ∙ ap (λ (m : ℕ). tierCalls m (b .widths2) (b .bids2) first) (x .beyond) ∙ sym (calls-two b apart need first);
+      called2 =
+          y .called ∙ ap (λ (m : ℕ). tierCalls m (b .widths2) (b .bids2) first) (x .beyond) ∙ sym (calls-two b apart need first);
       beyond = omega (arith, x .beyond, y .beyond, uncovered-tiers need b);
     }

@@ -62,13 +62,15 @@ module _ (b : Bands) where
     rows-of two = level
 
     -- past every band with a width
-    pub in-all : (t : Tier) (k : ℕ) → Below (rows b) (λ i. k ≤ orderAt b t i → at (widths b t) i ≡ 0) → cheaperIn b t k ≡ whole (widths b t)
+    pub in-all : (t : Tier) (k : ℕ) → Below (rows b) (λ i. k ≤ orderAt b t i → at (widths b t) i ≡ 0)
+        → cheaperIn b t k ≡ whole (widths b t)
     unfolding cheaperIn before whole
     in-all t k h =
         before-all (rows b) (orderAt b t) (at (widths b t)) k h
         ∙ ap (λ (n : ℕ). sumTo n (at (widths b t))) (sym (rows-of t))
 
-    pub cheaper-all : (k : ℕ) → ((t : Tier) → Below (rows b) (λ i. orderAt b t i < k)) → cheaper b k ≡ whole (widths b one) + whole (widths b two)
+    pub cheaper-all : (k : ℕ) → ((t : Tier) → Below (rows b) (λ i. orderAt b t i < k))
+        → cheaper b k ≡ whole (widths b one) + whole (widths b two)
     unfolding cheaper
     cheaper-all k h =
         omega (arith, in-all one k (λ i l m. absurd (omega (arith, h one i l))), in-all two k (λ i l m. absurd (omega (arith, h two i l))))

@@ -25,7 +25,7 @@ use Rattle.columns.proofs.Sum.{lt-or-le, sum-same, sum-add, sum-le, sum-zero}
 use Rattle.columns.proofs.Rank.{test-or}
 use Rattle.columns.proofs.Table.{table-length, table-at, table-past}
 use Rattle.columns.proofs.Whole.{whole-table}
-use Rattle.share.specs.Share.{share, shares}
+use Rattle.share.specs.Share.{share}
 use Rattle.share.proofs.Laws.{share-zero, share-le-amount, share-le-weight, share-is-weight, share-sum}
 
 -- what is before the next key is before this one, or at it
@@ -34,7 +34,8 @@ cond-next o k w =
     ⊎-elim (λ (l : o < k). rw (lt-ltb o (suc k) (omega arith), lt-ltb o k l, ne-eqb o k (omega arith)) (omega arith))
     (λ (m : k ≤ o). ⊎-elim
     (λ (l : k < o). rw (le-ltb o (suc k) (omega arith), le-ltb o k m, ne-eqb o k (omega arith)) (omega arith))
-    (λ (n : o ≤ k). rw (lt-ltb o (suc k) (omega arith), le-ltb o k m, eq-eqb o k (omega arith)) (omega arith)) (lt-or-le k o)) (lt-or-le o k)
+    (λ (n : o ≤ k). rw (lt-ltb o (suc k) (omega arith), le-ltb o k m, eq-eqb o k (omega arith)) (omega arith))
+    (lt-or-le k o)) (lt-or-le o k)
 
 pub cond-le : (t : Bool) (w : ℕ) → cond t w 0 ≤ w
 cond-le true w = le-refl w
@@ -130,7 +131,9 @@ module _ (n : ℕ) (key width : ℕ → ℕ) where
   before-all k h = sum-same n (λ i. cond (ltb (key i) k) (width i) 0) width each
     where
       each : (i : ℕ) → i < n → cond (ltb (key i) k) (width i) 0 ≡ width i
-      each i l = ⊎-elim (λ (m : key i < k). rw (lt-ltb (key i) k m)) (λ (m : k ≤ key i). rw (le-ltb (key i) k m) (sym (h i l m))) (lt-or-le (key i) k)
+      each i l =
+          ⊎-elim (λ (m : key i < k). rw (lt-ltb (key i) k m)) (λ (m : k ≤ key i). rw (le-ltb (key i) k m) (sym (h i l m)))
+          (lt-or-le (key i) k)
 
   -- what the bands of key k get together of what is left there
   unfoldable pub portion : (ℕ → ℕ) → ℕ → ℕ
@@ -177,7 +180,9 @@ module _ (n : ℕ) (key width : ℕ → ℕ) where
 
     portion-shared : (0 < n → first < n) → (k : ℕ) → sumTo n (share (portion left k) (peers k) first) ≡ portion left k
     portion-shared inside k =
-        ⊎-elim (λ (e : whole (peers k) ≡ 0). omega (arith, portion-le left k, sum-zero n (share (portion left k) (peers k) first) (λ i l. none e i)))
+        ⊎-elim
+        (λ (e : whole (peers k) ≡ 0).
+        omega (arith, portion-le left k, sum-zero n (share (portion left k) (peers k) first) (λ i l. none e i)))
         (λ (p : 0 < whole (peers k)). ap (λ (m : ℕ). sumTo m (share (portion left k) (peers k) first)) (sym (peers-length k))
         ∙ share-sum (portion left k) (peers k) first p (rw (peers-length k) inside)) (eq-zero-or-pos (whole (peers k)))
       where

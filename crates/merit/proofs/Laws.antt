@@ -36,7 +36,8 @@ use Rattle.units.proofs.Unique.{li-unique}
 use Rattle.merit.specs.Band.{Tier, one, two, Bands, widths, bids, rows, orderAt}
 use Rattle.merit.specs.Call.{cheaper, group, due, called, calls, uncovered}
 use Rattle.merit.specs.Price.{price}
-use Rattle.merit.proofs.Keyed.{cond-le, before, peers, peers-sum, before-next, before-zero, before-all, portion, shared, shared-le, shared-past, shared-met, shared-full, shared-sum}
+use Rattle.merit.proofs.Keyed.{cond-le, before, before-next, before-zero, before-all}
+use Rattle.merit.proofs.Keyed.{peers, peers-sum, portion, shared, shared-le, shared-past, shared-met, shared-full, shared-sum}
 use Rattle.merit.proofs.Groups.{cheaper-next, cheaper-tier, cheaper-rise, cheaper-zero, cheaper-all, groups-apart}
 
 pub lower-bid : (b : Bands) (t u : Tier) (i j : ℕ) → at (bids b u) j < at (bids b t) i → orderAt b u j < orderAt b t i

@@ -5,7 +5,7 @@
 --     tier-unique      two results that the contract of `call_tier` allows are equal
 -- For the walk: `below-..` what lower bids stand for, `called-..` what a band is called for, `parts-..` what the bands of one bid are.
 use Prim.Native.Nat.{ℕ, suc, _+_, _-_, _≤_, _<_, min}
-use mathlib.Core.Path.{_≡_, ap, sym, _∙_}
+use mathlib.Core.Path.{_≡_, sym, _∙_}
 use mathlib.Core.Logic.{⊎-elim}
 use mathlib.Core.Bool.{cond}
 use mathlib.Core.List.{List}
@@ -21,7 +21,8 @@ use Rattle.share.proofs.Laws.{shares-at, shares-length}
 use Rattle.merit.specs.OneTier.{under, equal, below, groupIn, dueIn, calledIn, tierCalls}
 use Rattle.merit.specs.Ready.{TierCalled}
 use Rattle.merit.specs.Walk.{partsIn}
-use Rattle.merit.proofs.Keyed.{before, peers, peers-length, Empty, before-next, before-rise, before-skip, before-zero, before-le, before-all, portion, shared, shared-le, shared-past, shared-met, shared-part, shared-sum}
+use Rattle.merit.proofs.Keyed.{before, Empty, before-next, before-rise, before-skip, before-zero, before-le, before-all}
+use Rattle.merit.proofs.Keyed.{peers, portion, shared, shared-le, shared-past, shared-met, shared-part, shared-sum}
 
 module _ (ws bs : List ℕ) where
   pub group-length : (k : ℕ) → length (groupIn ws bs k) ≡ length ws

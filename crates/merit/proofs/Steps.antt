@@ -12,7 +12,7 @@ use Rattle.columns.specs.Sum.{sumTo, whole, maxTo}
 use Rattle.columns.specs.Table.{at, table}
 use Rattle.columns.proofs.Sum.{sum-next, sum-bound, max-next}
 use Rattle.columns.proofs.Table.{table-list, table-length, front-long}
-use Rattle.columns.proofs.Fill.{Reached, reached-next, reached-all}
+use Rattle.columns.proofs.Fill.{Reached, reached-none, reached-next, reached-all}
 use Rattle.columns.proofs.Whole.{whole-table}
 use Rattle.share.specs.Share.{shares}
 use Rattle.share.specs.Split.{Splittable}
@@ -91,10 +91,6 @@ copied-all s start now i r e l =
     reached-all 0 (at s) start now i r (omega (arith, r .room)) ∙ ap (λ (n : ℕ). table n (at s)) e ∙ sym (table-list 0 s)
 
 module _ (k : ℕ) (ws bs : List ℕ) where
-  pub group-none : 0 ≡ sumTo 0 (equal ws bs k)
-  unfolding sumTo
-  group-none = refl
-
   pub member-it : (w own i : ℕ) → w ≡ at ws i → own ≡ at bs i → own ≡ k → w ≡ equal ws bs k i
   unfolding equal
   member-it w own i e f g = rw (eq-eqb (at bs i) k (sym f ∙ g)) e
@@ -103,25 +99,37 @@ module _ (k : ℕ) (ws bs : List ℕ) where
   unfolding equal
   member-not own i f g = rw (ne-eqb (at bs i) k (λ e. g (f ∙ e)))
 
-  pub group-next : (start now : List ℕ) (i v : ℕ) → Reached 0 (equal ws bs k) start now i → length start ≡ length ws → i < length ws
-      → v ≡ equal ws bs k i → Reached 0 (equal ws bs k) start (set now i v) (i + 1)
-  group-next start now i v r m l e = reached-next 0 (equal ws bs k) start now i v r (omega (arith, r .room)) e
+  -- the bands of bid k before row i stand in their places, and `sum` is theirs
+  pub record Grouped (start now : List ℕ) (sum i : ℕ) : Type 0 where
+    pub within : i ≤ length ws
+    pub reached : Reached 0 (equal ws bs k) start now i
+    pub sum-is : sum ≡ sumTo i (equal ws bs k)
+    pub small : sum ≤ 250000 * i
 
-  pub group-sum : (sum i v : ℕ) → sum ≡ sumTo i (equal ws bs k) → v ≡ equal ws bs k i → sum + v ≡ sumTo (i + 1) (equal ws bs k)
-  group-sum sum i v s e = omega (arith, s, e, sum-next i (equal ws bs k))
+  pub grouped-none : (start : List ℕ) → Grouped start start 0 0
+  unfolding sumTo
+  grouped-none start = record { within = omega arith; reached = reached-none 0 (equal ws bs k) start; sum-is = refl; small = omega arith }
 
-  pub group-all : (start now : List ℕ) (i : ℕ) → Reached 0 (equal ws bs k) start now i → length start ≡ length ws → length ws ≤ i
-      → now ≡ groupIn ws bs k
-  unfolding groupIn
-  group-all start now i r e l =
-      reached-all 0 (equal ws bs k) start now i r (omega (arith, r .room)) ∙ ap (λ (n : ℕ). table n (equal ws bs k)) e
+  pub grouped-next : (start now : List ℕ) (sum i v : ℕ) → Grouped start now sum i → length start ≡ length ws → i < length ws
+      → v ≡ equal ws bs k i → v ≤ 250000 → Grouped start (set now i v) (sum + v) (i + 1)
+  grouped-next start now sum i v r m l e h =
+      record {
+        within = omega arith;
+        reached = reached-next 0 (equal ws bs k) start now i v (r .reached) (omega (arith, r .reached .room)) e;
+        sum-is = omega (arith, r .sum-is, e, sum-next i (equal ws bs k));
+        small = omega (arith, r .small);
+      }
 
-  pub group-whole : (start now : List ℕ) (i sum : ℕ) → Reached 0 (equal ws bs k) start now i → length start ≡ length ws → i ≤ length ws
-      → length ws ≤ i → sum ≡ sumTo i (equal ws bs k) → sum ≡ whole now
-  unfolding groupIn
-  group-whole start now i sum r e m l f =
-      let s : i ≡ length ws = omega arith in
-      rw (group-all start now i r e l, whole-table) (rw (← s) f)
+  module _ (start now : List ℕ) (sum i : ℕ) (r : Grouped start now sum i) (room : length start ≡ length ws) (end : length ws ≤ i) where
+    pub group-all : now ≡ groupIn ws bs k
+    unfolding groupIn
+    group-all =
+        reached-all 0 (equal ws bs k) start now i (r .reached) (omega (arith, r .reached .room))
+        ∙ ap (λ (n : ℕ). table n (equal ws bs k)) room
+
+    pub group-whole : sum ≡ whole now
+    unfolding groupIn
+    group-whole = let s : i ≡ length ws = omega (arith, r .within) in rw (group-all, whole-table) (rw (← s) (r .sum-is))
 
   group-small : Columns ws bs → whole (groupIn ws bs k) ≤ 250000 * length ws
   unfolding groupIn equal
@@ -163,7 +171,8 @@ front ws bs xs c e = front-long xs (length ws) 256 e (c .few)
 pub front-room : (ws bs xs : List ℕ) → Columns ws bs → length xs ≡ 256 → length (take (length ws) xs) ≡ length ws
 front-room ws bs xs c e = sym (front ws bs xs c e)
 
-pub front-ready : (ws bs : List ℕ) (first : ℕ) (cs xs : List ℕ) → Ready ws bs first cs → length xs ≡ 256 → length ws ≡ length (take (length ws) xs)
+pub front-ready : (ws bs : List ℕ) (first : ℕ) (cs xs : List ℕ) → Ready ws bs first cs → length xs ≡ 256
+    → length ws ≡ length (take (length ws) xs)
 front-ready ws bs first cs xs r e = front ws bs xs (r .columns) e
 
 pub blank : (ws bs : List ℕ) (first : ℕ) (cs xs : List ℕ) → Ready ws bs first cs → length xs ≡ 256

@@ -30,7 +30,8 @@ use Rattle.merit.specs.Ready.{TierCalled}
 use Rattle.merit.specs.Walk.{Room, Blank, past, nextBid, partsIn}
 use Rattle.merit.proofs.Keyed.{cond-next, cond-le, cond-skip, Empty}
 use Rattle.merit.proofs.Next.{next-from, next-empty}
-use Rattle.merit.proofs.OneTier.{below-next, below-rise, below-skip, below-zero, below-le, below-all, called-le, called-past, called-met, partsOf, parts-length, parts-at, parts-sum}
+use Rattle.merit.proofs.OneTier.{below-next, below-rise, below-skip, below-zero, below-le, below-all}
+use Rattle.merit.proofs.OneTier.{called-le, called-past, called-met, partsOf, parts-length, parts-at, parts-sum}
 
 -- what row j is called for by the bands below bid k
 unfoldable pub done : ℕ → List ℕ → List ℕ → ℕ → ℕ → ℕ → ℕ
@@ -114,7 +115,8 @@ module _ (need : ℕ) (ws bs : List ℕ) (first : ℕ) where
   unfolding done
   done-le k j = omega (arith, cond-le (ltb (at bs j) k) (calledIn need ws bs first j), called-le need ws bs first j)
 
-  done-next : (k j : ℕ) → done need ws bs first (k + 1) j ≡ done need ws bs first k j + cond (eqb (at bs j) k) (calledIn need ws bs first j) 0
+  done-next : (k j : ℕ) → done need ws bs first (k + 1) j
+      ≡ done need ws bs first k j + cond (eqb (at bs j) k) (calledIn need ws bs first j) 0
   unfolding done
   done-next k j = rw (add-one k) (cond-next (at bs j) k (calledIn need ws bs first j))
 
@@ -132,11 +134,14 @@ module _ (need : ℕ) (ws bs : List ℕ) (first : ℕ) where
   walked-skip k n left cs ps h e w =
       rw e
       (record {
-        left-is = w .left-is ∙ ap (λ (x : ℕ). need - x) (below-skip ws bs k (nextBid k ws bs) (next-from k ws bs h) (next-empty k ws bs));
+        left-is = w .left-is ∙ ap (λ (x : ℕ). need - x) (below-skip ws bs k (nextBid k ws bs) from (next-empty k ws bs));
         room = w .room;
         parts-room = w .parts-room;
-        is = λ j. w .is j ∙ done-skip k (nextBid k ws bs) j (next-from k ws bs h) (next-empty k ws bs);
+        is = λ j. w .is j ∙ done-skip k (nextBid k ws bs) j from (next-empty k ws bs);
       })
+    where
+      from : k ≤ nextBid k ws bs
+      from = next-from k ws bs h
 
   -- the walk may end before bid k if the bands from k up are called for nothing
   ended : (k left : ℕ) (cs ps : List ℕ) → Walked need ws bs first k left cs ps → ((j : ℕ) → k ≤ at bs j → calledIn need ws bs first j ≡ 0)

@@ -3,9 +3,10 @@
 ghost use mathlib.Core.Path.{_≡_};
 ghost use mathlib.Core.Bool.{cond};
 ghost use Prim.Native.Nat.{_<_, _≤_, max};
-ghost use lib.Dec.{ltb, eqb};
+ghost use lib.Dec.{ltb};
 ghost use lib.ListN.{length};
 ghost use Rattle.columns.specs.Sum.{whole};
+ghost use Rattle.columns.specs.Table.{at};
 ghost use Rattle.share.specs.Split.{Splittable};
 ghost use Rattle.merit.specs.OneTier.{equal, groupIn};
 ghost use Rattle.merit.specs.Price.{price};
@@ -17,18 +18,34 @@ use units::Li;
 // Past every bid: they are below 65,536.
 const PAST: u64 = 65536;
 
-// The lower of two bids, if the second is not below `from` and is that of a band with a width.
-fn sooner(from: Li, best: Li, width: Kwh, bid: Li) -> Li
-    ensures { λ r. ⌜ r .0 ≡ sooner (from .0) (best .0) (width .0) (bid .0) ⌝ }
+// A row's energy in the tier, offered or called, and its bid there.
+struct Offer {
+    energy: Kwh,
+    bid: Li,
+}
+
+fn offer_at(i: usize, energies: &[u32], bids: &[u32]) -> Offer
+    requires { ⌜ (i < length (now energies)) × (length (now bids) ≡ length (now energies)) ⌝ }
+    ensures { λ r. ⌜ (r .energy .0 ≡ at (now (energies .entry)) i) × (r .bid .0 ≡ at (now (bids .entry)) i) ⌝ }
 {
-    if width.0 == 0 {
+    Offer {
+        energy: Kwh::from_column(energies[i]),
+        bid: Li::from_column(bids[i]),
+    }
+}
+
+// The lower of two bids, if the second is not below `from` and is that of a band with a width.
+fn sooner(from: Li, best: Li, offer: Offer) -> Li
+    ensures { λ r. ⌜ r .0 ≡ sooner (from .0) (best .0) (offer .energy .0) (offer .bid .0) ⌝ }
+{
+    if offer.energy.0 == 0 {
         return best;
     }
-    if bid.0 < from.0 {
+    if offer.bid.0 < from.0 {
         return best;
     }
-    if bid.0 < best.0 {
-        return bid;
+    if offer.bid.0 < best.0 {
+        return offer.bid;
     }
     best
 }
@@ -41,12 +58,7 @@ fn next_bid(from: Li, widths: &[u32], bids: &[u32]) -> Li
     let mut next = Li(PAST);
     let mut i = 0;
     while i < widths.len() {
-        next = sooner(
-            from,
-            next,
-            Kwh::from_column(widths[i]),
-            Li::from_column(bids[i]),
-        );
+        next = sooner(from, next, offer_at(i, widths, bids));
         i += 1;
     }
     next
@@ -57,8 +69,9 @@ fn member(bid: Li, i: usize, widths: &[u32], bids: &[u32]) -> Kwh
     requires { ⌜ Columns (now widths) (now bids) × (i < length (now widths)) ⌝ }
     ensures { λ r. ⌜ (r .0 ≡ equal (now (widths .entry)) (now (bids .entry)) (bid .0) i) × (r .0 ≤ 250000) ⌝ }
 {
-    if Li::from_column(bids[i]).0 == bid.0 {
-        return Kwh::from_column(widths[i]);
+    let offer = offer_at(i, widths, bids);
+    if offer.bid.0 == bid.0 {
+        return offer.energy;
     }
     Kwh(0)
 }
@@ -172,14 +185,14 @@ pub fn call_tier(need: Kwh, first: usize, widths: &[u32], bids: &[u32], called: 
 }
 
 // The higher of two bids, if the second is that of a row called for more than 0.
-fn higher(top: Li, bid: Li, call: Kwh) -> Li
-    ensures { λ r. ⌜ r .0 ≡ max (top .0) (cond (ltb 0 (call .0)) (bid .0) 0) ⌝ }
+fn higher(top: Li, offer: Offer) -> Li
+    ensures { λ r. ⌜ r .0 ≡ max (top .0) (cond (ltb 0 (offer .energy .0)) (offer .bid .0) 0) ⌝ }
 {
-    if call.0 == 0 {
+    if offer.energy.0 == 0 {
         return top;
     }
-    if top.0 < bid.0 {
-        return bid;
+    if top.0 < offer.bid.0 {
+        return offer.bid;
     }
     top
 }
@@ -192,7 +205,7 @@ pub fn price(bids: &[u32], called: &[u32]) -> Li
     let mut top = Li(0);
     let mut i = 0;
     while i < bids.len() {
-        top = higher(top, Li::from_column(bids[i]), Kwh::from_column(called[i]));
+        top = higher(top, offer_at(i, called, bids));
         i += 1;
     }
     top

@@ -1,6 +1,6 @@
 -- Two rows are few enough, and small widths and bids small enough, for `merit::call_tier`.
 use Prim.Native.Nat.{ℕ, zero, suc, _≤_, zero-le}
-use mathlib.Core.Path.{_≡_, refl}
+use mathlib.Core.Path.{refl}
 use mathlib.Core.List.{[], _∷_}
 use native.Mathlib.Omega.{arith}
 use Rattle.columns.specs.Table.{at}

@@ -1,24 +1,19 @@
 -- `merit::group_of` meets its contract: the positions passed are written, and the sum is theirs.
-use Prim.Native.Nat.{_*_, _-_, _≤_}
-use mathlib.Core.Path.{_≡_}
-use native.Mathlib.Omega.{arith}
+use Prim.Native.Nat.{_-_}
 use lib.ListN.{length}
-use Rattle.columns.specs.Sum.{sumTo}
-use Rattle.columns.proofs.Fill.{Reached, reached-none}
-use Rattle.merit.specs.OneTier.{equal}
-use Rattle.merit.proofs.Steps.{group-none, group-next, group-sum, group-all, group-whole}
+use Rattle.merit.proofs.Steps.{Grouped, grouped-none, grouped-next, group-all, group-whole}
 use borrow.Author.Needs.{needs}
 use Rattle.merit.proofs.group_of.Statement.{statement}
 use Rattle.merit.proofs.group_of.Tie as tie
 
 abbrev Inv-loop : tie.InvT-loop
-Inv-loop bid widths bids out₀ sum₀ i₀ out sum i = (i ≤ length widths) × Reached 0 (equal widths bids (bid .0)) out₀ out i × (sum .0 ≡ sumTo i (equal widths bids (bid .0))) × (sum .0 ≤ 250000 * i)
+Inv-loop bid widths bids out₀ sum₀ i₀ out sum i = Grouped (bid .0) widths bids out₀ out (sum .0) i
 
 abbrev μ-loop : tie.MeasureT-loop
 μ-loop bid widths bids out₀ sum₀ i₀ out sum i = length widths - i
 
 loop-holds : tie.Need-loop-holds Inv-loop μ-loop
-loop-holds c = (search needs, search reached-none, search group-none, search needs)
+loop-holds c = search grouped-none
 
 member-requires : tie.Need-member-requires Inv-loop μ-loop
 member-requires c κs = search needs
@@ -42,7 +37,7 @@ loop-less : tie.Need-loop-less Inv-loop μ-loop
 loop-less c = search needs
 
 loop-again : tie.Need-loop-again Inv-loop μ-loop
-loop-again c = (search needs, search group-next, search group-sum, omega arith)
+loop-again c = search grouped-next
 
 same-length : tie.Need-same-length Inv-loop μ-loop
 same-length c = search needs

@@ -17,23 +17,8 @@ abbrev μ-loop : tie.MeasureT-loop
 loop-holds : tie.Need-loop-holds Inv-loop μ-loop
 loop-holds c = (omega arith, search highest-none)
 
-mul-from-column : tie.Need-mul-from-column Inv-loop μ-loop
-mul-from-column c = search needs
-
-shared-slice-read-from-column : tie.Need-shared-slice-read-from-column Inv-loop μ-loop
-shared-slice-read-from-column c = search needs
-
-from-column-requires : tie.Need-from-column-requires Inv-loop μ-loop
-from-column-requires c κs = search needs
-
-mul-from-column-2 : tie.Need-mul-from-column-2 Inv-loop μ-loop
-mul-from-column-2 c = search needs
-
-shared-slice-read-from-column-2 : tie.Need-shared-slice-read-from-column-2 Inv-loop μ-loop
-shared-slice-read-from-column-2 c = search needs
-
-from-column-requires-2 : tie.Need-from-column-requires-2 Inv-loop μ-loop
-from-column-requires-2 c κs = search needs
+offer-at-requires : tie.Need-offer-at-requires Inv-loop μ-loop
+offer-at-requires c κs = search needs
 
 higher-requires : tie.Need-higher-requires Inv-loop μ-loop
 higher-requires c κs = search needs
@@ -57,12 +42,7 @@ price-spec =
     Inv-loop
     μ-loop
     loop-holds
-    mul-from-column
-    shared-slice-read-from-column
-    from-column-requires
-    mul-from-column-2
-    shared-slice-read-from-column-2
-    from-column-requires-2
+    offer-at-requires
     higher-requires
     add-i
     loop-less

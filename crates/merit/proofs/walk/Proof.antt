@@ -1,21 +1,14 @@
 -- `merit::walk` meets its contract: what was called so far is what the definition calls below this bid.
-use Prim.Native.Nat.{_-_, _<_}
-use native.Mathlib.Omega.{arith}
+use Prim.Native.Nat.{_-_}
 use lib.ListN.{length}
-use Rattle.merit.specs.Walk.{past}
-use Rattle.merit.proofs.Next.{next-less}
-use Rattle.merit.proofs.Walking.{Walked, Turned, walked-first, walked-room, walked-calls, walked-parts, turned-first, part-small, part-fits, call-fits, turn-fits, turned-room, turned-calls, turned-parts, turned-next, walked-next, ended-met, ended-past}
-use Prim.Native.Nat.{_-_, _<_}
-use native.Mathlib.Omega.{arith}
-use lib.ListN.{length}
-use Rattle.merit.specs.Walk.{past}
-use Rattle.merit.proofs.Next.{next-less}
-use Rattle.merit.proofs.Walking.{Walked, Turned, walked-first, walked-room, walked-calls, walked-parts, turned-first, part-small, part-fits, call-fits, turn-fits, turned-room, turned-calls, turned-parts, turned-next, walked-next, ended-met, ended-past}
 use borrow.Author.Needs.{needs}
+use Rattle.merit.specs.Walk.{past}
+use Rattle.merit.proofs.Next.{next-less}
+use Rattle.merit.proofs.Walking.{Walked, walked-first, walked-room, walked-calls, walked-parts, walked-next}
+use Rattle.merit.proofs.Walking.{Turned, turned-first, turned-room, turned-calls, turned-parts, turned-next}
+use Rattle.merit.proofs.Walking.{part-small, part-fits, call-fits, turn-fits, ended-met, ended-past}
 use Rattle.merit.proofs.walk.Statement.{statement}
 use Rattle.merit.proofs.walk.Tie as tie
-
--- `merit::walk` meets its contract: what was called so far is what the definition calls below this bid.
 
 abbrev Inv-loop : tie.InvT-loop
 Inv-loop first widths bids called₀ parts left₀ bid i₀ called left i = Turned (left₀ .0) called₀ parts i (left .0) called
