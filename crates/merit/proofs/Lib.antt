@@ -1,6 +1,8 @@
-pub mod Steps
+pub mod Keyed
 pub mod Groups
 pub mod Laws
-pub mod Parts
+pub mod OneTier
+pub mod Apart
+pub mod Steps
 pub mod Next
 pub mod Walking

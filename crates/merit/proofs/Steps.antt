@@ -1,85 +1,59 @@
 -- What the small steps of the code come to, each lemma in the shape of one need.
-use Prim.Native.Nat.{ℕ, _+_, _-_, _*_, _%_, _≤_, _<_, min, max}
+use Prim.Native.Nat.{ℕ, _+_, _*_, _≤_, _<_, min, max}
 use mathlib.Core.Path.{_≡_, refl, ap, sym, _∙_}
 use mathlib.Core.Bool.{cond}
 use mathlib.Core.List.{List}
 use native.Mathlib.Numerals.{add-one}
 use native.Mathlib.Omega.{arith}
 use lib.Dec.{ltb, eqb}
-use lib.ListN.{length, set}
+use lib.ListN.{length, set, take}
 use borrow.Author.Tests.{lt-ltb, le-ltb, eq-eqb, ne-eqb}
-use Rattle.columns.specs.Sum.{sumTo, maxTo}
+use Rattle.columns.specs.Sum.{sumTo, whole, maxTo}
 use Rattle.columns.specs.Table.{at, table}
-use Rattle.columns.proofs.Sum.{sum-next, max-next}
-use Rattle.columns.proofs.Table.{table-list}
-use Rattle.columns.proofs.Fill.{Reached, reached-next, reached-all}
-use Rattle.units.specs.Load.{forty, half}
-use Rattle.files.specs.declared.Row.{Row}
-use Rattle.columns.specs.Sum.{whole}
+use Rattle.columns.proofs.Sum.{sum-next, sum-bound, max-next}
+use Rattle.columns.proofs.Table.{table-list, table-length, front-long}
+use Rattle.columns.proofs.Fill.{Reached, reached-none, reached-next, reached-all}
 use Rattle.columns.proofs.Whole.{whole-table}
-use Rattle.merit.specs.Band.{Tier, one, two, width1, width2, orderOf}
+use Rattle.share.specs.Share.{shares}
+use Rattle.share.specs.Split.{Splittable}
+use Rattle.share.proofs.Laws.{shares-are-weights}
+use Rattle.merit.specs.OneTier.{equal, groupIn}
 use Rattle.merit.specs.Price.{price}
-use Rattle.merit.specs.Ready.{bandsIn, ReadyIn}
-use Rattle.merit.specs.Walk.{past, tierFor, sooner, nextIn, nextOrder, memberIn, groupIn, more}
+use Rattle.merit.specs.Ready.{Columns, Ready}
+use Rattle.merit.specs.Walk.{Room, Blank, sooner, nextIn, nextBid, partsIn}
+use Rattle.merit.proofs.Keyed.{cond-le}
 
-module _ (r : Row) where
-  pub width1-none : (r .offered ≡ 1 → ⊥) → 0 ≡ width1 r
-  unfolding width1
-  width1-none h = rw (ne-eqb (r .offered) 1 h)
-
-  pub width1-is : r .offered ≡ 1 → width1 r ≡ half (r .capacity) - max (r .minimum .0) (forty (r .capacity))
-  unfolding width1
-  width1-is e = rw (eq-eqb (r .offered) 1 e)
-
-  pub width2-none : (r .offered ≡ 1 → ⊥) → 0 ≡ width2 r
-  unfolding width2
-  width2-none h = rw (ne-eqb (r .offered) 1 h)
-
-  pub width2-is : r .offered ≡ 1 → width2 r ≡ forty (r .capacity) - r .minimum .0
-  unfolding width2
-  width2-is e = rw (eq-eqb (r .offered) 1 e)
-
-module _ (r : Row) (top foot : ℕ) (t : top ≡ half (r .capacity)) (f : foot ≡ forty (r .capacity)) (o : r .offered ≡ 1) where
-  pub width1-foot : r .minimum .0 < foot → top - foot ≡ width1 r
-  width1-foot l = omega (arith, width1-is r o)
-
-  pub width1-shut : foot ≤ r .minimum .0 → top ≤ r .minimum .0 → 0 ≡ width1 r
-  width1-shut l m = omega (arith, width1-is r o)
-
-  pub width1-min : foot ≤ r .minimum .0 → r .minimum .0 < top → top - r .minimum .0 ≡ width1 r
-  width1-min l m = omega (arith, width1-is r o)
-
-module _ (r : Row) (foot : ℕ) (f : foot ≡ forty (r .capacity)) (o : r .offered ≡ 1) where
-  pub width2-shut : foot ≤ r .minimum .0 → 0 ≡ width2 r
-  width2-shut l = omega (arith, width2-is r o)
-
-  pub width2-min : r .minimum .0 < foot → foot - r .minimum .0 ≡ width2 r
-  width2-min l = omega (arith, width2-is r o)
-
-pub order-one : (tier bid : ℕ) → tier ≡ 1 → bid * 2 ≡ orderOf (tierFor tier) bid
-order-one tier bid e = rw (eq-eqb tier 1 e)
-
-pub order-two : (tier bid : ℕ) → (tier ≡ 1 → ⊥) → bid * 2 + 1 ≡ orderOf (tierFor tier) bid
-order-two tier bid h = rw (ne-eqb tier 1 h)
-
-module _ (k best w o : ℕ) where
-  pub sooner-none : w ≡ 0 → best ≡ sooner k best w o
+module _ (k best w bid : ℕ) where
+  pub sooner-none : w ≡ 0 → best ≡ sooner k best w bid
   unfolding sooner
   sooner-none e = rw (eq-eqb w 0 e)
 
-  pub sooner-early : (w ≡ 0 → ⊥) → o < k → best ≡ sooner k best w o
+  pub sooner-early : (w ≡ 0 → ⊥) → bid < k → best ≡ sooner k best w bid
   unfolding sooner
-  sooner-early h l = rw (ne-eqb w 0 h, lt-ltb o k l)
+  sooner-early h l = rw (ne-eqb w 0 h, lt-ltb bid k l)
 
-  pub sooner-min : (w ≡ 0 → ⊥) → k ≤ o → sooner k best w o ≡ min best o
+  pub sooner-min : (w ≡ 0 → ⊥) → k ≤ bid → sooner k best w bid ≡ min best bid
   unfolding sooner
-  sooner-min h l = rw (ne-eqb w 0 h, le-ltb o k l)
+  sooner-min h l = rw (ne-eqb w 0 h, le-ltb bid k l)
 
-  pub sooner-it : (w ≡ 0 → ⊥) → k ≤ o → o < best → o ≡ sooner k best w o
+  pub sooner-it : (w ≡ 0 → ⊥) → k ≤ bid → bid < best → bid ≡ sooner k best w bid
   sooner-it h l m = omega (arith, sooner-min h l)
 
-  pub sooner-not : (w ≡ 0 → ⊥) → k ≤ o → best ≤ o → best ≡ sooner k best w o
+  pub sooner-not : (w ≡ 0 → ⊥) → k ≤ bid → best ≤ bid → best ≡ sooner k best w bid
   sooner-not h l m = omega (arith, sooner-min h l)
+
+pub next-none : (k : ℕ) (ws bs : List ℕ) → 65536 ≡ nextIn k ws bs 0
+unfolding nextIn
+next-none k ws bs = refl
+
+pub next-more : (k : ℕ) (ws bs : List ℕ) (i next w bid r : ℕ) → next ≡ nextIn k ws bs i → w ≡ at ws i → bid ≡ at bs i
+    → r ≡ sooner k next w bid → r ≡ nextIn k ws bs (i + 1)
+unfolding nextIn
+next-more k ws bs i next w bid r e f g h = rw (add-one, h, e, f, g)
+
+pub next-all : (k : ℕ) (ws bs : List ℕ) (i next : ℕ) → next ≡ nextIn k ws bs i → i ≤ length ws → length ws ≤ i → next ≡ nextBid k ws bs
+unfolding nextBid
+next-all k ws bs i next e l m = let s : i ≡ length ws = omega arith in rw (← s) e
 
 module _ (top bid call : ℕ) where
   pub higher-none : call ≡ 0 → top ≡ max top (cond (ltb 0 call) bid 0)
@@ -91,33 +65,6 @@ module _ (top bid call : ℕ) where
   pub higher-not : (call ≡ 0 → ⊥) → bid ≤ top → top ≡ max top (cond (ltb 0 call) bid 0)
   higher-not h l = rw (lt-ltb 0 call (omega arith)) (omega arith)
 
-pub member-it : (o k w : ℕ) (t : Tier) (bid : ℕ) → o ≡ orderOf t bid → o ≡ k → w ≡ cond (eqb (orderOf t bid) k) w 0
-member-it o k w t bid e f = rw (eq-eqb (orderOf t bid) k (sym e ∙ f))
-
-pub member-not : (o k w : ℕ) (t : Tier) (bid : ℕ) → o ≡ orderOf t bid → (o ≡ k → ⊥) → 0 ≡ cond (eqb (orderOf t bid) k) w 0
-member-not o k w t bid e f = rw (ne-eqb (orderOf t bid) k (λ g. f (e ∙ g)))
-
-pub low-bid : (ws bs : List ℕ) → ReadyIn ws bs → (i : ℕ) → at bs i < 65536
-low-bid ws bs r i = r .low i
-
-pub next-in-none : (t : Tier) (k best : ℕ) (ws bs : List ℕ) → best ≡ nextIn t k best ws bs 0
-unfolding nextIn
-next-in-none t k best ws bs = refl
-
-pub next-in-more : (t : Tier) (k best : ℕ) (ws bs : List ℕ) (i next o r : ℕ) → next ≡ nextIn t k best ws bs i
-    → o ≡ orderOf t (at bs i) → r ≡ sooner k next (at ws i) o → r ≡ nextIn t k best ws bs (i + 1)
-unfolding nextIn
-next-in-more t k best ws bs i next o r e f g = rw (add-one, g, e, f)
-
-pub next-in-all : (t : Tier) (k best : ℕ) (ws bs : List ℕ) (i next : ℕ) → next ≡ nextIn t k best ws bs i → i ≤ length ws → length ws ≤ i
-    → next ≡ nextIn t k best ws bs (length ws)
-next-in-all t k best ws bs i next e l m = let s : i ≡ length ws = omega arith in rw (← s) e
-
-pub next-both : (w1 w2 b1 b2 : List ℕ) (k n r : ℕ) → n ≡ nextIn one k past w1 b1 (length w1) → r ≡ nextIn two k n w2 b2 (length w2)
-    → length w2 ≡ length w1 → r ≡ nextOrder (bandsIn w1 w2 b1 b2) k
-unfolding nextOrder
-next-both w1 w2 b1 b2 k n r e f l = rw (f, e, l)
-
 -- the highest bid among the first n rows that are called for more than 0
 unfoldable pub highest : List ℕ → List ℕ → ℕ → ℕ
 highest bs cs n = maxTo n (λ i. cond (ltb 0 (at cs i)) (at bs i) 0)
@@ -126,30 +73,14 @@ pub highest-none : (bs cs : List ℕ) → 0 ≡ highest bs cs 0
 unfolding highest maxTo
 highest-none bs cs = refl
 
-pub highest-more : (bs cs : List ℕ) (i top r : ℕ) → top ≡ highest bs cs i → r ≡ max top (cond (ltb 0 (at cs i)) (at bs i) 0)
-    → r ≡ highest bs cs (i + 1)
+pub highest-more : (bs cs : List ℕ) (i top bid call r : ℕ) → top ≡ highest bs cs i → bid ≡ at bs i → call ≡ at cs i
+    → r ≡ max top (cond (ltb 0 call) bid 0) → r ≡ highest bs cs (i + 1)
 unfolding highest
-highest-more bs cs i top r e f = rw (f, e) (sym (max-next i (λ j. cond (ltb 0 (at cs j)) (at bs j) 0)))
+highest-more bs cs i top bid call r e f g h = rw (h, e, f, g) (sym (max-next i (λ j. cond (ltb 0 (at cs j)) (at bs j) 0)))
 
 pub highest-all : (bs cs : List ℕ) (i top : ℕ) → top ≡ highest bs cs i → i ≤ length bs → length bs ≤ i → top ≡ price bs cs
 unfolding highest price
 highest-all bs cs i top e l m = let s : i ≡ length bs = omega arith in rw (← s) e
-
-pub more-here1 : (k i x : ℕ) (c : List ℕ) → k % 2 ≡ 0 → set c i (at c i + x) ≡ more one k i x c
-unfolding more
-more-here1 k i x c e = rw (eq-eqb (k % 2) 0 e)
-
-pub more-there1 : (k i x : ℕ) (c : List ℕ) → k % 2 ≡ 0 → c ≡ more two k i x c
-unfolding more
-more-there1 k i x c e = rw (eq-eqb (k % 2) 0 e)
-
-pub more-here2 : (k i x : ℕ) (c : List ℕ) → (k % 2 ≡ 0 → ⊥) → set c i (at c i + x) ≡ more two k i x c
-unfolding more
-more-here2 k i x c e = rw (ne-eqb (k % 2) 0 e)
-
-pub more-there2 : (k i x : ℕ) (c : List ℕ) → (k % 2 ≡ 0 → ⊥) → c ≡ more one k i x c
-unfolding more
-more-there2 k i x c e = rw (ne-eqb (k % 2) 0 e)
 
 pub copied-next : (s start now : List ℕ) (i : ℕ) → Reached 0 (at s) start now i → length start ≡ length s → i < length s
     → Reached 0 (at s) start (set now i (at s i)) (i + 1)
@@ -159,33 +90,92 @@ pub copied-all : (s start now : List ℕ) (i : ℕ) → Reached 0 (at s) start n
 copied-all s start now i r e l =
     reached-all 0 (at s) start now i r (omega (arith, r .room)) ∙ ap (λ (n : ℕ). table n (at s)) e ∙ sym (table-list 0 s)
 
-module _ (t : Tier) (k : ℕ) (ws bs : List ℕ) where
-  pub group-none : 0 ≡ sumTo 0 (memberIn t k ws bs)
+module _ (k : ℕ) (ws bs : List ℕ) where
+  pub member-it : (w own i : ℕ) → w ≡ at ws i → own ≡ at bs i → own ≡ k → w ≡ equal ws bs k i
+  unfolding equal
+  member-it w own i e f g = rw (eq-eqb (at bs i) k (sym f ∙ g)) e
+
+  pub member-not : (own i : ℕ) → own ≡ at bs i → (own ≡ k → ⊥) → 0 ≡ equal ws bs k i
+  unfolding equal
+  member-not own i f g = rw (ne-eqb (at bs i) k (λ e. g (f ∙ e)))
+
+  -- the bands of bid k before row i stand in their places, and `sum` is theirs
+  pub record Grouped (start now : List ℕ) (sum i : ℕ) : Type 0 where
+    pub within : i ≤ length ws
+    pub reached : Reached 0 (equal ws bs k) start now i
+    pub sum-is : sum ≡ sumTo i (equal ws bs k)
+    pub small : sum ≤ 250000 * i
+
+  pub grouped-none : (start : List ℕ) → Grouped start start 0 0
   unfolding sumTo
-  group-none = refl
+  grouped-none start = record { within = omega arith; reached = reached-none 0 (equal ws bs k) start; sum-is = refl; small = omega arith }
 
-  pub group-next : (start now : List ℕ) (i v : ℕ) → Reached 0 (memberIn t k ws bs) start now i → length start ≡ length ws
-      → i < length ws → v ≡ cond (eqb (orderOf t (at bs i)) k) (at ws i) 0 → Reached 0 (memberIn t k ws bs) start (set now i v) (i + 1)
-  unfolding memberIn
-  group-next start now i v r m l e = reached-next 0 (memberIn t k ws bs) start now i v r (omega (arith, r .room)) e
+  pub grouped-next : (start now : List ℕ) (sum i v : ℕ) → Grouped start now sum i → length start ≡ length ws → i < length ws
+      → v ≡ equal ws bs k i → v ≤ 250000 → Grouped start (set now i v) (sum + v) (i + 1)
+  grouped-next start now sum i v r m l e h =
+      record {
+        within = omega arith;
+        reached = reached-next 0 (equal ws bs k) start now i v (r .reached) (omega (arith, r .reached .room)) e;
+        sum-is = omega (arith, r .sum-is, e, sum-next i (equal ws bs k));
+        small = omega (arith, r .small);
+      }
 
-  pub group-sum : (sum i v : ℕ) → sum ≡ sumTo i (memberIn t k ws bs) → v ≡ cond (eqb (orderOf t (at bs i)) k) (at ws i) 0
-      → sum + v ≡ sumTo (i + 1) (memberIn t k ws bs)
-  unfolding memberIn
-  group-sum sum i v e f = omega (arith, e, f, sum-next i (memberIn t k ws bs))
+  module _ (start now : List ℕ) (sum i : ℕ) (r : Grouped start now sum i) (room : length start ≡ length ws) (end : length ws ≤ i) where
+    pub group-all : now ≡ groupIn ws bs k
+    unfolding groupIn
+    group-all =
+        reached-all 0 (equal ws bs k) start now i (r .reached) (omega (arith, r .reached .room))
+        ∙ ap (λ (n : ℕ). table n (equal ws bs k)) room
 
-  pub group-all : (start now : List ℕ) (i : ℕ) → Reached 0 (memberIn t k ws bs) start now i → length start ≡ length ws → length ws ≤ i
-      → now ≡ groupIn t k ws bs
-  unfolding groupIn
-  group-all start now i r e l =
-      reached-all 0 (memberIn t k ws bs) start now i r (omega (arith, r .room)) ∙ ap (λ (n : ℕ). table n (memberIn t k ws bs)) e
+    pub group-whole : sum ≡ whole now
+    unfolding groupIn
+    group-whole = let s : i ≡ length ws = omega (arith, r .within) in rw (group-all, whole-table) (rw (← s) (r .sum-is))
 
-  pub group-whole : (start now : List ℕ) (i sum : ℕ) → Reached 0 (memberIn t k ws bs) start now i → length start ≡ length ws → i ≤ length ws
-      → length ws ≤ i → sum ≡ sumTo i (memberIn t k ws bs) → sum ≡ whole now
-  unfolding groupIn
-  group-whole start now i sum r e m l f =
-      let s : i ≡ length ws = omega arith in
-      rw (group-all start now i r e l, whole-table) (rw (← s) f)
+  group-small : Columns ws bs → whole (groupIn ws bs k) ≤ 250000 * length ws
+  unfolding groupIn equal
+  group-small r =
+      rw (whole-table (length ws) (equal ws bs k))
+      (sum-bound (length ws) 250000 (equal ws bs k) (λ i l. omega (arith, cond-le (eqb (at bs i) k) (at ws i), r .narrow i)))
 
-pub narrow-width : (ws bs : List ℕ) → ReadyIn ws bs → (i v : ℕ) → v ≤ at ws i → v ≤ 250000
-narrow-width ws bs r i v l = omega (arith, r .narrow i)
+  pub splittable : (g out : List ℕ) (first : ℕ) → Columns ws bs → Room ws first out → g ≡ groupIn ws bs k → Splittable g out first
+  splittable g out first r m e =
+      let long : length (groupIn ws bs k) ≡ length ws = unfold groupIn in table-length (length ws) (equal ws bs k) in
+      rw e
+      (record {
+        short = omega (arith, r .few, long);
+        room = m .room ∙ sym long;
+        fits = omega (arith, r .few, group-small r);
+        inside = rw long (m .inside);
+      })
+
+pub narrow-width : (ws bs : List ℕ) → Columns ws bs → (i w : ℕ) → w ≡ at ws i → w ≤ 250000
+narrow-width ws bs r i w e = omega (arith, r .narrow i)
+
+module _ (left sum : ℕ) (g out : List ℕ) (first : ℕ) (is : sum ≡ whole g) where
+  pub called-in-full : sum ≤ left → out ≡ g → out ≡ partsIn left g first
+  unfolding partsIn
+  called-in-full l e =
+      let m : min left (whole g) ≡ whole g = omega arith in rw m (e ∙ sym (shares-are-weights (whole g) g first refl))
+
+  pub called-in-part : left < sum → out ≡ shares left g first → out ≡ partsIn left g first
+  unfolding partsIn
+  called-in-part l e = let m : min left (whole g) ≡ left = omega arith in rw m e
+
+pub parts-of : (left : ℕ) (g h out : List ℕ) (first : ℕ) → out ≡ partsIn left g first → g ≡ h → out ≡ partsIn left h first
+parts-of left g h out first e f = rw (← f) e
+
+-- the front of an array of 256 is as long as the columns
+pub front : (ws bs xs : List ℕ) → Columns ws bs → length xs ≡ 256 → length ws ≡ length (take (length ws) xs)
+front ws bs xs c e = front-long xs (length ws) 256 e (c .few)
+
+pub front-room : (ws bs xs : List ℕ) → Columns ws bs → length xs ≡ 256 → length (take (length ws) xs) ≡ length ws
+front-room ws bs xs c e = sym (front ws bs xs c e)
+
+pub front-ready : (ws bs : List ℕ) (first : ℕ) (cs xs : List ℕ) → Ready ws bs first cs → length xs ≡ 256
+    → length ws ≡ length (take (length ws) xs)
+front-ready ws bs first cs xs r e = front ws bs xs (r .columns) e
+
+pub blank : (ws bs : List ℕ) (first : ℕ) (cs xs : List ℕ) → Ready ws bs first cs → length xs ≡ 256
+    → Blank ws bs first cs (take (length ws) xs)
+blank ws bs first cs xs r e =
+    record { ready = r; parts = record { room = sym (front-ready ws bs first cs xs r e); inside = r .inside } }

@@ -1,127 +1,92 @@
-// Merit order (01, Calls and prices): bands, the walk, calls, clearing prices.
+// Merit order (01, Calls and prices), one tier's columns at a time: the walk over its bids and bands, the calls it makes, the clearing
+// price. Columns hold bare numbers: widths and calls in kWh, bids in li.
 ghost use mathlib.Core.Path.{_≡_};
 ghost use mathlib.Core.Bool.{cond};
-ghost use Prim.Native.Nat.{_*_, _<_, _≤_, max};
-ghost use lib.Dec.{ltb, eqb};
+ghost use Prim.Native.Nat.{_<_, _≤_, max};
+ghost use lib.Dec.{ltb};
 ghost use lib.ListN.{length};
-ghost use Rattle.columns.specs.Table.{table};
 ghost use Rattle.columns.specs.Sum.{whole};
+ghost use Rattle.columns.specs.Table.{at};
 ghost use Rattle.share.specs.Split.{Splittable};
-ghost use Rattle.merit.specs.Band.{one, two, width1, width2, orderOf};
+ghost use Rattle.merit.specs.OneTier.{equal, groupIn};
 ghost use Rattle.merit.specs.Price.{price};
-ghost use Rattle.merit.specs.Ready.{bandsIn, ReadyIn, Columns, Ready, Called};
-ghost use Rattle.merit.specs.Walk.{Room, Blank, tierFor, sooner, nextIn, nextOrder, memberIn, groupIn, partsIn, parts, more, uncalled, Roomy};
-use files::Row;
-use units::forty;
-use units::half;
+ghost use Rattle.merit.specs.Ready.{Columns, Ready, TierCalled};
+ghost use Rattle.merit.specs.Walk.{Room, Blank, sooner, nextBid, partsIn};
+use units::Kwh;
+use units::Li;
 
-// Past every order: bids are below 65,536.
-const PAST: u32 = 131072;
+// Past every bid: they are below 65,536.
+const PAST: u64 = 65536;
 
-// The width of a row's tier 1 band: from half load down to the larger of its minimum and 40 percent.
-pub fn width1(row: Row) -> u32
-    ensures { λ r. ⌜ (r ≡ width1 row) × (r ≤ 25 * row .capacity) ⌝ }
-{
-    let top = half(row.capacity);
-    let foot = forty(row.capacity);
-    if row.offered != 1 {
-        return 0;
-    }
-    if row.minimum.0 < foot.0 {
-        return top.0 - foot.0;
-    }
-    if top.0 <= row.minimum.0 {
-        return 0;
-    }
-    top.0 - row.minimum.0
+// A row's energy in the tier, offered or called, and its bid there.
+struct Offer {
+    energy: Kwh,
+    bid: Li,
 }
 
-// The width of a row's tier 2 band: from 40 percent down to its minimum.
-pub fn width2(row: Row) -> u32
-    ensures { λ r. ⌜ (r ≡ width2 row) × (r ≤ 100 * row .capacity) ⌝ }
+fn offer_at(i: usize, energies: &[u32], bids: &[u32]) -> Offer
+    requires { ⌜ (i < length (now energies)) × (length (now bids) ≡ length (now energies)) ⌝ }
+    ensures { λ r. ⌜ (r .energy .0 ≡ at (now (energies .entry)) i) × (r .bid .0 ≡ at (now (bids .entry)) i) ⌝ }
 {
-    let foot = forty(row.capacity);
-    if row.offered != 1 {
-        return 0;
+    Offer {
+        energy: Kwh::from_column(energies[i]),
+        bid: Li::from_column(bids[i]),
     }
-    if foot.0 <= row.minimum.0 {
-        return 0;
-    }
-    foot.0 - row.minimum.0
 }
 
-// A bid's place in the merit order: tier 1 goes before tier 2 at an equal bid.
-fn order_of(tier: u32, bid: u32) -> u32
-    requires { ⌜ bid < 65536 ⌝ }
-    ensures { λ r. ⌜ (r ≡ orderOf (tierFor tier) bid) × (r < 131072) ⌝ }
+// The lower of two bids, if the second is not below `from` and is that of a band with a width.
+fn sooner(from: Li, best: Li, offer: Offer) -> Li
+    ensures { λ r. ⌜ r .0 ≡ sooner (from .0) (best .0) (offer .energy .0) (offer .bid .0) ⌝ }
 {
-    if tier == 1 {
-        return bid * 2;
-    }
-    bid * 2 + 1
-}
-
-// The sooner of two orders, if the second is not before `from` and is that of a band with a width.
-fn sooner(from: u32, best: u32, width: u32, order: u32) -> u32
-    ensures { λ r. ⌜ r ≡ sooner from best width order ⌝ }
-{
-    if width == 0 {
+    if offer.energy.0 == 0 {
         return best;
     }
-    if order < from {
+    if offer.bid.0 < from.0 {
         return best;
     }
-    if order < best {
-        return order;
+    if offer.bid.0 < best.0 {
+        return offer.bid;
     }
     best
 }
 
-// The first order not before `from` among a tier's bands, and `best` if none comes before that.
-fn next_in(tier: u32, from: u32, best: u32, widths: &[u32], bids: &[u32]) -> u32
-    requires { ⌜ ReadyIn (now widths) (now bids) ⌝ }
-    ensures { λ r. ⌜ r ≡ nextIn (tierFor tier) from best (now (widths .entry)) (now (bids .entry)) (length (now (widths .entry))) ⌝ }
+// The lowest bid from `from` up among the bands with a width, and PAST if there is none.
+fn next_bid(from: Li, widths: &[u32], bids: &[u32]) -> Li
+    requires { ⌜ length (now bids) ≡ length (now widths) ⌝ }
+    ensures { λ r. ⌜ r .0 ≡ nextBid (from .0) (now (widths .entry)) (now (bids .entry)) ⌝ }
 {
-    let mut next = best;
+    let mut next = Li(PAST);
     let mut i = 0;
     while i < widths.len() {
-        next = sooner(from, next, widths[i], order_of(tier, bids[i]));
+        next = sooner(from, next, offer_at(i, widths, bids));
         i += 1;
     }
     next
 }
 
-// The first order not before `from`, and PAST if there is none.
-fn next_order(from: u32, widths1: &[u32], widths2: &[u32], bids1: &[u32], bids2: &[u32]) -> u32
-    requires { ⌜ ReadyIn (now widths1) (now bids1) × ReadyIn (now widths2) (now bids2) × (length (now widths2) ≡ length (now widths1)) ⌝ }
-    ensures { λ r. ⌜ r ≡ nextOrder (bandsIn (now (widths1 .entry)) (now (widths2 .entry)) (now (bids1 .entry)) (now (bids2 .entry))) from ⌝ }
+// The width of band i if it is of this bid, and 0 if not.
+fn member(bid: Li, i: usize, widths: &[u32], bids: &[u32]) -> Kwh
+    requires { ⌜ Columns (now widths) (now bids) × (i < length (now widths)) ⌝ }
+    ensures { λ r. ⌜ (r .0 ≡ equal (now (widths .entry)) (now (bids .entry)) (bid .0) i) × (r .0 ≤ 250000) ⌝ }
 {
-    let next = next_in(1, from, PAST, widths1, bids1);
-    next_in(2, from, next, widths2, bids2)
-}
-
-// A band's width if it is of this order, and 0 if not.
-fn member(tier: u32, order: u32, width: u32, bid: u32) -> u64
-    requires { ⌜ bid < 65536 ⌝ }
-    ensures { λ r. ⌜ (r ≡ cond (eqb (orderOf (tierFor tier) bid) order) width 0) × (r ≤ width) ⌝ }
-{
-    if order_of(tier, bid) == order {
-        return width as u64;
+    let offer = offer_at(i, widths, bids);
+    if offer.bid.0 == bid.0 {
+        return offer.energy;
     }
-    0
+    Kwh(0)
 }
 
-// A tier's bands of one order, into `out`; answers the sum of their widths.
-fn group_of(tier: u32, order: u32, widths: &[u32], bids: &[u32], out: &mut [u64]) -> u64
-    requires { ⌜ ReadyIn (now widths) (now bids) × (length (now out) ≡ length (now widths)) ⌝ }
-    ensures { λ r. ⌜ (now (out .exit) ≡ groupIn (tierFor tier) order (now (widths .entry)) (now (bids .entry))) × (r ≡ whole (now (out .exit))) ⌝ }
+// The bands of one bid, into `out`; answers the sum of their widths.
+fn group_of(bid: Li, widths: &[u32], bids: &[u32], out: &mut [u64]) -> Kwh
+    requires { ⌜ Columns (now widths) (now bids) × (length (now out) ≡ length (now widths)) ⌝ }
+    ensures { λ r. ⌜ (now (out .exit) ≡ groupIn (now (widths .entry)) (now (bids .entry)) (bid .0)) × (r .0 ≡ whole (now (out .exit))) ⌝ }
 {
-    let mut sum: u64 = 0;
+    let mut sum = Kwh(0);
     let mut i = 0;
     while i < widths.len() {
-        let width = member(tier, order, widths[i], bids[i]);
-        out[i] = width;
-        sum += width;
+        let width = member(bid, i, widths, bids);
+        out[i] = width.0 as u64;
+        sum = Kwh(sum.0 + width.0);
         i += 1;
     }
     sum
@@ -139,168 +104,108 @@ fn copy(from: &[u64], out: &mut [u64])
 }
 
 // What of `left` each band of a group is called for: in full if it lasts, else each its share.
-fn share_group(left: u64, sum: u64, group: &[u64], first: usize, out: &mut [u64])
-    requires { ⌜ Splittable (now group) (now out) first × (sum ≡ whole (now group)) ⌝ }
-    ensures { λ _. ⌜ now (out .exit) ≡ partsIn left (now (group .entry)) first ⌝ }
+fn share_group(left: Kwh, sum: Kwh, group: &[u64], first: usize, out: &mut [u64])
+    requires { ⌜ Splittable (now group) (now out) first × (sum .0 ≡ whole (now group)) ⌝ }
+    ensures { λ _. ⌜ now (out .exit) ≡ partsIn (left .0) (now (group .entry)) first ⌝ }
 {
-    if sum <= left {
+    if sum.0 <= left.0 {
         copy(group, out);
         return;
     }
-    share::split(left, group, first, out);
+    share::split(left.0 as u64, group, first, out);
 }
 
-// The same for a tier's bands of one order, which come to stand in `group`.
+// The same for the bands of one bid, which come to stand in `group`.
 fn parts_in(
-    tier: u32,
-    order: u32,
-    left: u64,
+    bid: Li,
+    left: Kwh,
     first: usize,
     widths: &[u32],
     bids: &[u32],
     group: &mut [u64],
     out: &mut [u64],
 )
-    requires { ⌜ ReadyIn (now widths) (now bids) × Room (now widths) (now group) (now out) first ⌝ }
-    ensures { λ _. ⌜ now (out .exit) ≡ partsIn left (groupIn (tierFor tier) order (now (widths .entry)) (now (bids .entry))) first ⌝ }
+    requires { ⌜ Columns (now widths) (now bids) × Room (now widths) first (now out) × (length (now group) ≡ length (now widths)) ⌝ }
+    ensures { λ _. ⌜ now (out .exit) ≡ partsIn (left .0) (groupIn (now (widths .entry)) (now (bids .entry)) (bid .0)) first ⌝ }
 {
-    let sum = group_of(tier, order, widths, bids, group);
+    let sum = group_of(bid, widths, bids, group);
     share_group(left, sum, group, first, out);
 }
 
-// The same for the bands of one order, whichever tier it belongs to.
-fn parts_at(
-    order: u32,
-    left: u64,
-    first: usize,
-    widths1: &[u32],
-    widths2: &[u32],
-    bids1: &[u32],
-    bids2: &[u32],
-    out: &mut [u64],
-)
-    requires { ⌜ Columns (bandsIn (now widths1) (now widths2) (now bids1) (now bids2)) first × (length (now out) ≡ length (now widths1)) ⌝ }
-    ensures { λ _. ⌜ now (out .exit) ≡ parts left (bandsIn (now (widths1 .entry)) (now (widths2 .entry)) (now (bids1 .entry)) (now (bids2 .entry))) order first ⌝ }
+// What of `left` each band of one bid is called for.
+fn parts_at(bid: Li, left: Kwh, first: usize, widths: &[u32], bids: &[u32], out: &mut [u64])
+    requires { ⌜ Columns (now widths) (now bids) × Room (now widths) first (now out) ⌝ }
+    ensures { λ _. ⌜ now (out .exit) ≡ partsIn (left .0) (groupIn (now (widths .entry)) (now (bids .entry)) (bid .0)) first ⌝ }
 {
-    let n = widths1.len();
+    let n = widths.len();
     let mut group = [0u64; 256];
-    if order % 2 == 0 {
-        parts_in(1, order, left, first, widths1, bids1, &mut group[..n], out);
-        return;
-    }
-    parts_in(2, order, left, first, widths2, bids2, &mut group[..n], out);
+    parts_in(bid, left, first, widths, bids, &mut group[..n], out);
 }
 
-// Row i is called for `part` more, in the tier that the order belongs to.
-fn call_band(order: u32, i: usize, part: u64, called1: &mut [u32], called2: &mut [u32])
-    requires { ⌜ Roomy i part (now called1) (now called2) ⌝ }
-    ensures { λ _. ⌜ (now (called1 .exit) ≡ more one order i part (now (called1 .entry))) × (now (called2 .exit) ≡ more two order i part (now (called2 .entry))) ⌝ }
-{
-    if order % 2 == 0 {
-        called1[i] += part as u32;
-        return;
-    }
-    called2[i] += part as u32;
-}
-
-fn clear(out: &mut [u32])
-    ensures { λ _. ⌜ now (out .exit) ≡ table (length (now (out .entry))) uncalled ⌝ }
-{
-    let mut i = 0;
-    while i < out.len() {
-        out[i] = 0;
-        i += 1;
-    }
-}
-
-// The walk over bids and bands, by rising order, from columns of 0; `parts` is what the bands of one order are called for.
+// The walk over bids and bands, by rising bid, from a column of 0; `parts` is what the bands of one bid are called for.
 // It is left as soon as the need is met.
 fn walk(
-    need: u32,
+    need: Kwh,
     first: usize,
-    widths1: &[u32],
-    widths2: &[u32],
-    bids1: &[u32],
-    bids2: &[u32],
-    called1: &mut [u32],
-    called2: &mut [u32],
+    widths: &[u32],
+    bids: &[u32],
+    called: &mut [u32],
     parts: &mut [u64],
-) -> u32
-    requires { ⌜ Columns (bandsIn (now widths1) (now widths2) (now bids1) (now bids2)) first × Blank (length (now widths1)) (now called1) (now called2) (now parts) ⌝ }
-    ensures { λ r. ⌜ Called need (bandsIn (now (widths1 .entry)) (now (widths2 .entry)) (now (bids1 .entry)) (now (bids2 .entry))) first r (now (called1 .exit)) (now (called2 .exit)) ⌝ }
+) -> Kwh
+    requires { ⌜ Blank (now widths) (now bids) first (now called) (now parts) ⌝ }
+    ensures { λ r. ⌜ TierCalled (need .0) (now (widths .entry)) (now (bids .entry)) first (r .0) (now (called .exit)) ⌝ }
 {
-    let mut left = need as u64;
-    let mut order = next_order(0, widths1, widths2, bids1, bids2);
-    'walk: while order < PAST {
-        parts_at(order, left, first, widths1, widths2, bids1, bids2, parts);
+    let mut left = need;
+    let mut bid = next_bid(Li(0), widths, bids);
+    'walk: while bid.0 < PAST {
+        parts_at(bid, left, first, widths, bids, parts);
         let mut i = 0;
         while i < parts.len() {
-            let part = parts[i];
-            call_band(order, i, part, called1, called2);
-            left -= part;
-            if left == 0 {
+            let part = parts[i] as u32;
+            called[i] += part;
+            left = Kwh(left.0 - part);
+            if left.0 == 0 {
                 break 'walk;
             }
             i += 1;
         }
-        order = next_order(order + 1, widths1, widths2, bids1, bids2);
+        bid = next_bid(Li(bid.0 + 1), widths, bids);
     }
-    left as u32
+    left
 }
 
-// What each row is called for in each tier; answers the need beyond all bands.
-pub fn calls(
-    need: u32,
-    first: usize,
-    widths1: &[u32],
-    widths2: &[u32],
-    bids1: &[u32],
-    bids2: &[u32],
-    called1: &mut [u32],
-    called2: &mut [u32],
-) -> u32
-    requires { ⌜ Ready (bandsIn (now widths1) (now widths2) (now bids1) (now bids2)) first (now called1) (now called2) ⌝ }
-    ensures { λ r. ⌜ Called need (bandsIn (now (widths1 .entry)) (now (widths2 .entry)) (now (bids1 .entry)) (now (bids2 .entry))) first r (now (called1 .exit)) (now (called2 .exit)) ⌝ }
+// What each row is called for in one tier, from a column of 0; answers the need beyond all its bands.
+pub fn call_tier(need: Kwh, first: usize, widths: &[u32], bids: &[u32], called: &mut [u32]) -> Kwh
+    requires { ⌜ Ready (now widths) (now bids) first (now called) ⌝ }
+    ensures { λ r. ⌜ TierCalled (need .0) (now (widths .entry)) (now (bids .entry)) first (r .0) (now (called .exit)) ⌝ }
 {
-    let n = widths1.len();
+    let n = widths.len();
     let mut parts = [0u64; 256];
-    clear(called1);
-    clear(called2);
-    walk(
-        need,
-        first,
-        widths1,
-        widths2,
-        bids1,
-        bids2,
-        called1,
-        called2,
-        &mut parts[..n],
-    )
+    walk(need, first, widths, bids, called, &mut parts[..n])
 }
 
 // The higher of two bids, if the second is that of a row called for more than 0.
-fn higher(top: u32, bid: u32, call: u32) -> u32
-    ensures { λ r. ⌜ r ≡ max top (cond (ltb 0 call) bid 0) ⌝ }
+fn higher(top: Li, offer: Offer) -> Li
+    ensures { λ r. ⌜ r .0 ≡ max (top .0) (cond (ltb 0 (offer .energy .0)) (offer .bid .0) 0) ⌝ }
 {
-    if call == 0 {
+    if offer.energy.0 == 0 {
         return top;
     }
-    if top < bid {
-        return bid;
+    if top.0 < offer.bid.0 {
+        return offer.bid;
     }
     top
 }
 
 // A tier's clearing price: the highest bid among the rows called for more than 0, and 0 if there is none.
-pub fn price(bids: &[u32], called: &[u32]) -> u32
+pub fn price(bids: &[u32], called: &[u32]) -> Li
     requires { ⌜ length (now called) ≡ length (now bids) ⌝ }
-    ensures { λ r. ⌜ r ≡ price (now (bids .entry)) (now (called .entry)) ⌝ }
+    ensures { λ r. ⌜ r .0 ≡ price (now (bids .entry)) (now (called .entry)) ⌝ }
 {
-    let mut top: u32 = 0;
+    let mut top = Li(0);
     let mut i = 0;
     while i < bids.len() {
-        top = higher(top, bids[i], called[i]);
+        top = higher(top, offer_at(i, called, bids));
         i += 1;
     }
     top

@@ -1,55 +1,47 @@
-// Worked figures of merit order and compensation, run from code and printed.
+// Worked figures of the merit order, run from code and printed.
+ghost use mathlib.Core.List.{[], _∷_};
+ghost use Rattle.merit.specs.Ready.{Ready};
+use columns::wide;
 use units::Kwh;
 use units::Li;
 
 // Two numbers on one line.
-fn show(a: u32, b: u32) {
-    io::print_decimal(1, a as u64);
+fn show(a: u64, b: u64) {
+    io::print_decimal(1, a);
     io::write_all(1, b" ");
-    io::print_decimal(1, b as u64);
+    io::print_decimal(1, b);
     io::write_all(1, b"\n");
 }
 
-// Two tier 1 bands at one bid, which a need of 100 does not fill: P9.
-fn show_calls() {
-    let widths1 = [2500u32, 5000];
-    let widths2 = [0u32, 0];
-    let bids1 = [200u32, 200];
-    let bids2 = [400u32, 400];
-    let mut called1 = [0u32, 0];
-    let mut called2 = [0u32, 0];
-    let beyond = merit::calls(
-        100,
-        0,
-        &widths1,
-        &widths2,
-        &bids1,
-        &bids2,
-        &mut called1,
-        &mut called2,
-    );
-    show(called1[0], called1[1]);
-    show(beyond, merit::price(&bids1, &called1));
+// What two rows are called for in one tier; then the need beyond it, which it answers, and its price.
+fn show_tier(need: Kwh, widths: &[u32], bids: &[u32]) -> Kwh
+    requires { ⌜ Ready (now widths) (now bids) 0 (0 ∷ 0 ∷ []) ⌝ }
+{
+    let mut called = [0u32, 0];
+    let beyond = merit::call_tier(need, 0, widths, bids, &mut called);
+    show(wide(called[0]), wide(called[1]));
+    show(wide(beyond.0), merit::price(bids, &called).0);
+    beyond
+}
+
+// Two bands at one bid, which a need of 100 does not fill: P9.
+fn show_shared() {
+    show_tier(Kwh(100), &[2500, 5000], &[200, 200]);
+}
+
+// The need of interval X, in tier 1 and then in tier 2: row 1 is called for 2,500 and 500, its neighbour offers nothing.
+fn show_both() {
+    let left = show_tier(Kwh(3000), &[2500, 0], &[200, 0]);
+    show_tier(left, &[2000, 0], &[400, 0]);
 }
 
 // Half a fen goes upward: P11.
 fn show_fen() {
-    show(Li(315).to_fen().0 as u32, Li(314).to_fen().0 as u32);
-}
-
-// Paid energy in both tiers at 100 MW.
-fn show_paid(metered: Kwh) {
-    let base = units::half(100);
-    show(
-        pay::paid1(base, 100, metered).0,
-        pay::paid2(base, 100, metered).0,
-    );
+    show(Li(315).to_fen().0, Li(314).to_fen().0);
 }
 
 fn main() {
-    show_calls();
+    show_shared();
+    show_both();
     show_fen();
-    show_paid(Kwh(12499));
-    show_paid(Kwh(10000));
-    show_paid(Kwh(9999));
 }

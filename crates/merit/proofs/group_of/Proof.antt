@@ -1,39 +1,25 @@
 -- `merit::group_of` meets its contract: the positions passed are written, and the sum is theirs.
-use Prim.Native.Nat.{_*_, _-_, _≤_}
-use mathlib.Core.Path.{_≡_}
-use native.Mathlib.Omega.{arith}
+use Prim.Native.Nat.{_-_}
 use lib.ListN.{length}
+use Rattle.merit.proofs.Steps.{Grouped, grouped-none, grouped-next, group-all, group-whole}
 use borrow.Author.Needs.{needs}
-use Rattle.columns.specs.Sum.{sumTo}
-use Rattle.columns.proofs.Fill.{Reached, reached-none}
-use Rattle.merit.specs.Walk.{tierFor, memberIn}
-use Rattle.merit.proofs.Steps.{low-bid, narrow-width, group-none, group-next, group-sum, group-all, group-whole}
 use Rattle.merit.proofs.group_of.Statement.{statement}
 use Rattle.merit.proofs.group_of.Tie as tie
 
 abbrev Inv-loop : tie.InvT-loop
-Inv-loop tier order widths bids out₀ sum₀ i₀ out sum i = (i ≤ length widths) × Reached 0 (memberIn (tierFor tier) order widths bids) out₀ out i × (sum ≡ sumTo i (memberIn (tierFor tier) order widths bids)) × (sum ≤ 250000 * i)
+Inv-loop bid widths bids out₀ sum₀ i₀ out sum i = Grouped (bid .0) widths bids out₀ out (sum .0) i
 
 abbrev μ-loop : tie.MeasureT-loop
-μ-loop tier order widths bids out₀ sum₀ i₀ out sum i = length widths - i
+μ-loop bid widths bids out₀ sum₀ i₀ out sum i = length widths - i
 
 loop-holds : tie.Need-loop-holds Inv-loop μ-loop
-loop-holds c = (search needs, search reached-none, search group-none, search needs)
-
-mul-member : tie.Need-mul-member Inv-loop μ-loop
-mul-member c = search needs
-
-shared-slice-read-member : tie.Need-shared-slice-read-member Inv-loop μ-loop
-shared-slice-read-member c = search needs
-
-mul-member-2 : tie.Need-mul-member-2 Inv-loop μ-loop
-mul-member-2 c = search needs
-
-shared-slice-read-member-2 : tie.Need-shared-slice-read-member-2 Inv-loop μ-loop
-shared-slice-read-member-2 c = search needs
+loop-holds c = search grouped-none
 
 member-requires : tie.Need-member-requires Inv-loop μ-loop
-member-requires c κs = search low-bid
+member-requires c κs = search needs
+
+cast-out : tie.Need-cast-out Inv-loop μ-loop
+cast-out c = search needs
 
 mul-out : tie.Need-mul-out Inv-loop μ-loop
 mul-out c = search needs
@@ -41,8 +27,8 @@ mul-out c = search needs
 slice-write-out : tie.Need-slice-write-out Inv-loop μ-loop
 slice-write-out c = search needs
 
-add-sum : tie.Need-add-sum Inv-loop μ-loop
-add-sum c = let h : c .member .result ≤ 250000 = search narrow-width in omega arith
+add-t12 : tie.Need-add-t12 Inv-loop μ-loop
+add-t12 c = search needs
 
 add-i : tie.Need-add-i Inv-loop μ-loop
 add-i c = search needs
@@ -51,9 +37,7 @@ loop-less : tie.Need-loop-less Inv-loop μ-loop
 loop-less c = search needs
 
 loop-again : tie.Need-loop-again Inv-loop μ-loop
-loop-again c =
-    let h : c .member .result ≤ 250000 = search narrow-width in
-    (search needs, search group-next, search group-sum, omega arith)
+loop-again c = search grouped-next
 
 same-length : tie.Need-same-length Inv-loop μ-loop
 same-length c = search needs
@@ -68,14 +52,11 @@ group-of-spec =
     Inv-loop
     μ-loop
     loop-holds
-    mul-member
-    shared-slice-read-member
-    mul-member-2
-    shared-slice-read-member-2
     member-requires
+    cast-out
     mul-out
     slice-write-out
-    add-sum
+    add-t12
     add-i
     loop-less
     loop-again

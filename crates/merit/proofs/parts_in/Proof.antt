@@ -1,6 +1,6 @@
--- `merit::parts_in` meets its contract: the group that is shared is the tier's bands of this order.
+-- `merit::parts_in` meets its contract: the group that is shared is the bands of this bid.
+use Rattle.merit.proofs.Steps.{splittable, parts-of}
 use borrow.Author.Needs.{needs}
-use Rattle.merit.proofs.Parts.{splittable, parts-of}
 use Rattle.merit.proofs.parts_in.Statement.{statement}
 use Rattle.merit.proofs.parts_in.Tie as tie
 

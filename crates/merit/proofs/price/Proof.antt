@@ -3,13 +3,13 @@ use Prim.Native.Nat.{_-_, _≤_}
 use mathlib.Core.Path.{_≡_}
 use native.Mathlib.Omega.{arith}
 use lib.ListN.{length}
-use borrow.Author.Needs.{needs}
 use Rattle.merit.proofs.Steps.{highest, highest-none, highest-more, highest-all}
+use borrow.Author.Needs.{needs}
 use Rattle.merit.proofs.price.Statement.{statement}
 use Rattle.merit.proofs.price.Tie as tie
 
 abbrev Inv-loop : tie.InvT-loop
-Inv-loop bids called top₀ i₀ top i = (i ≤ length bids) × (top ≡ highest bids called i)
+Inv-loop bids called top₀ i₀ top i = (i ≤ length bids) × (top .0 ≡ highest bids called i)
 
 abbrev μ-loop : tie.MeasureT-loop
 μ-loop bids called top₀ i₀ top i = length bids - i
@@ -17,17 +17,8 @@ abbrev μ-loop : tie.MeasureT-loop
 loop-holds : tie.Need-loop-holds Inv-loop μ-loop
 loop-holds c = (omega arith, search highest-none)
 
-mul-higher : tie.Need-mul-higher Inv-loop μ-loop
-mul-higher c = search needs
-
-shared-slice-read-higher : tie.Need-shared-slice-read-higher Inv-loop μ-loop
-shared-slice-read-higher c = search needs
-
-mul-higher-2 : tie.Need-mul-higher-2 Inv-loop μ-loop
-mul-higher-2 c = search needs
-
-shared-slice-read-higher-2 : tie.Need-shared-slice-read-higher-2 Inv-loop μ-loop
-shared-slice-read-higher-2 c = search needs
+offer-at-requires : tie.Need-offer-at-requires Inv-loop μ-loop
+offer-at-requires c κs = search needs
 
 higher-requires : tie.Need-higher-requires Inv-loop μ-loop
 higher-requires c κs = search needs
@@ -51,10 +42,7 @@ price-spec =
     Inv-loop
     μ-loop
     loop-holds
-    mul-higher
-    shared-slice-read-higher
-    mul-higher-2
-    shared-slice-read-higher-2
+    offer-at-requires
     higher-requires
     add-i
     loop-less

@@ -1,6 +1,6 @@
 -- `merit::share_group` meets its contract: a group within what is left is called in full, any other shares it.
+use Rattle.merit.proofs.Steps.{called-in-full, called-in-part}
 use borrow.Author.Needs.{needs}
-use Rattle.merit.proofs.Parts.{called-in-full, called-in-part}
 use Rattle.merit.proofs.share_group.Statement.{statement}
 use Rattle.merit.proofs.share_group.Tie as tie
 
@@ -13,6 +13,9 @@ same-length c = search needs
 returns : tie.Need-returns
 returns c = search called-in-full
 
+cast-split : tie.Need-cast-split
+cast-split c = search needs
+
 split-requires : tie.Need-split-requires
 split-requires c κs = search needs
 
@@ -24,4 +27,5 @@ returns-2 c = search called-in-part
 
 pub share-group-spec : {M : Type 1} → statement M
 share-group-spec =
-    tie.close (tie.spec copy-requires same-length returns split-requires same-length-2 returns-2)
+    tie.close
+    (tie.spec copy-requires same-length returns cast-split split-requires same-length-2 returns-2)
