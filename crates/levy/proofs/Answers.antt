@@ -1,32 +1,15 @@
 -- Two results that one contract allows are equal, for each public function of the crate.
---     pays-unique, weight-unique, cap-unique      of a row; weight-unique serves `thermal_weight` too
 --     rounds-unique         marks and what is left
 --     shortfall-unique
 --     payments-unique, cuts-unique      the columns
 use Prim.Native.Nat.{ℕ}
 use mathlib.Core.Path.{_≡_, ap, sym, _∙_}
-use mathlib.Core.Bool.{Bool}
 use mathlib.Core.List.{List, []}
 use lib.ListN.{take-append-drop}
-use Rattle.units.proofs.Unique.{kwh-unique, fen-unique}
-use Rattle.units.specs.declared.Kwh.{Kwh}
-use Rattle.units.specs.declared.Fen.{Fen}
-use Rattle.files.specs.declared.Row.{Row}
 use Rattle.share.specs.Share.{shares}
-use Rattle.levy.specs.Weight.{payer, cap}
 use Rattle.levy.specs.Rounds.{Standing, payments}
 use Rattle.levy.specs.Asked.{standingOf, Finished, Short}
 use Rattle.levy.specs.declared.Rest.{Rest}
-
-pub pays-unique : (base : ℕ) (r : Row) (s t : Bool) → s ≡ payer base r → t ≡ payer base r → s ≡ t
-pays-unique base r s t p q = p ∙ sym q
-
--- w is the weight of a row, or what a thermal unit's energy counts for
-pub weight-unique : (w : ℕ) (a b : Kwh) → a .0 ≡ w → b .0 ≡ w → a ≡ b
-weight-unique = kwh-unique
-
-pub cap-unique : (base tariff : ℕ) (r : Row) (a b : Fen) → a .0 ≡ cap base tariff r → b .0 ≡ cap base tariff r → a ≡ b
-cap-unique base tariff r = fen-unique (cap base tariff r)
 
 pub rounds-unique : (total n : ℕ) (weights caps : List ℕ) (a b : List ℕ) (r s : Rest) → Finished total n weights caps a r
     → Finished total n weights caps b s → (a ≡ b) × (r ≡ s)

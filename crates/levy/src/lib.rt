@@ -1,16 +1,12 @@
-// Who pays and how much (01, Weights and caps; Rounds): weights, caps, rounds, payments, cuts.
+// Who pays and how much (01, Rounds; Article 32), on columns: rounds, payments, cuts. A column of weights is one of bare numbers of
+// proportion, kWh today; caps and payments are fen.
 mod closing;
 mod paying;
-mod weighing;
 
 pub use closing::rounds;
 pub use closing::shortfall;
 pub use paying::cuts;
 pub use paying::payments;
-pub use weighing::cap;
-pub use weighing::pays;
-pub use weighing::thermal_weight;
-pub use weighing::weight;
 
 // What closes in one round: the caps and the weights of those that close, added up.
 pub struct Closed {
