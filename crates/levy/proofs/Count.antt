@@ -23,7 +23,7 @@ use Rattle.columns.proofs.First.{right-true}
 use Rattle.columns.proofs.Sum.{lt-or-le, count-none, count-sub, max-bound, max-term}
 use Rattle.columns.proofs.Rank.{some-or-none}
 use Rattle.levy.specs.Rounds.{Standing, isOpen, payers, opens, closes, next, opening, final}
-use Rattle.levy.proofs.Step.{run-keeps, closes-unmarked, mark-next, next-rounds, opens-fall, final-sound}
+use Rattle.levy.proofs.Step.{run-keeps, closes-not-yet, mark-next, next-rounds, opens-fall, final-sound}
 
 pub record Counted (ws : List ℕ) (st : Standing) : Type 0 where
   pub early : st .rounds + opens ws (st .marks) ≤ payers ws
@@ -45,7 +45,7 @@ module _ (ws cs : List ℕ) (st : Standing) where
   mark-stays i l some = mark-next ws cs st i l ∙ same (closes ws cs st i) refl
     where
       same : (t : Bool) → closes ws cs st i ≡ t → cond t (suc (st .rounds)) (at (st .marks) i) ≡ at (st .marks) i
-      same true e = absurd (omega (arith, eqb-true (at (st .marks) i) 0 (closes-unmarked ws cs st i e)))
+      same true e = absurd (omega (arith, eqb-true (at (st .marks) i) 0 (closes-not-yet ws cs st i e)))
       same false e = refl
 
   pub next-counted : 0 < countTo (length ws) (closes ws cs st) → Counted ws st → Counted ws (next ws cs st)
