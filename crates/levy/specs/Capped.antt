@@ -6,7 +6,7 @@ use mathlib.Core.Bool.{Bool, true, false, _&&_, not}
 use mathlib.Core.List.{List}
 use lib.Dec.{ltb, eqb}
 use lib.ListN.{length}
-use Rattle.columns.specs.Sum.{sumWhere}
+use Rattle.columns.specs.Sum.{countTo, sumWhere}
 use Rattle.columns.specs.Table.{at}
 
 -- position i has closed, by the marks: the set of those that the rounds close
@@ -20,6 +20,10 @@ inside ws p i = ltb 0 (at ws i) && p i
 -- a payer that is not in it
 abbrev pub outside : List ℕ → (ℕ → Bool) → ℕ → Bool
 outside ws p i = ltb 0 (at ws i) && not (p i)
+
+-- how many payers the set has
+unfoldable pub payersInside : List ℕ → (ℕ → Bool) → ℕ
+payersInside ws p = countTo (length ws) (inside ws p)
 
 -- the caps of the set together
 unfoldable pub capsInside : List ℕ → List ℕ → (ℕ → Bool) → ℕ
