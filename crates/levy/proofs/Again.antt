@@ -7,6 +7,7 @@
 --     ready-again            what the next call asks
 --     stopped                the answer, if nobody closed
 --     went-on                the answer, from the answer of the next call
+--     weights-few            the weights are few enough to be added up
 --     rounds-begin           what the first call asks
 --     rounds-end             the answer of all rounds
 use Prim.Native.Nat.{ℕ, suc, _+_, _-_, _*_, _^_, _≤_, _<_}
@@ -15,19 +16,19 @@ use mathlib.Core.Bool.{cond}
 use mathlib.Core.List.{List, [], _∷_}
 use native.Mathlib.Numerals.{add-one}
 use native.Mathlib.Omega.{arith}
-use lib.ListN.{length, take, replicate, length-replicate}
+use lib.ListN.{length, take, replicate}
 use lib.Seq.{length-take-le}
-use Rattle.columns.specs.Sum.{countTo, sumWhere}
+use Rattle.columns.specs.Sum.{whole, countTo, sumWhere}
 use Rattle.columns.specs.Table.{at}
 use Rattle.columns.proofs.Sum.{sum-bound, count-zero}
 use Rattle.columns.proofs.Table.{table-is}
-use Rattle.columns.specs.Sum.{whole}
 use Rattle.levy.specs.Rounds.{Standing, opens, closes, closed, next, run, opening}
-use Rattle.levy.specs.Capped.{marked}
-use Rattle.levy.specs.Asked.{standing, Columns, Round, Shut, Ready, Ended, Finished}
+use Rattle.levy.specs.Capped.{hasClosed}
+use Rattle.levy.specs.Asked.{standing, Levyable, Round, Shut, Ready, Ended, Finished}
 use Rattle.levy.specs.declared.Closed.{Closed}
-use Rattle.levy.proofs.Arrays.{take-replicate, drop-replicate}
-use Rattle.levy.proofs.Step.{Sound, sound-weight, closed-nobody, closed-somebody, closed-caps-le, closed-weights-le, next-sound, opens-fall, opens-le, run-stop, run-again, final-run, opening-sound}
+use Rattle.levy.proofs.Arrays.{zeros-are, take-replicate, drop-replicate}
+use Rattle.levy.proofs.Step.{Sound, sound-weight, closed-nobody, closed-somebody, closed-caps-le, closed-weights-le, next-sound, opening-sound}
+use Rattle.levy.proofs.Step.{opens-fall, opens-le, run-stop, run-again, final-run}
 
 -- where nobody closes no mark changes
 same-marks : (ws cs : List ℕ) (st : Standing) → length (st .marks) ≡ length ws → closed ws cs st ws ≡ 0 → next ws cs st .marks ≡ st .marks
@@ -36,7 +37,8 @@ same-marks ws cs st long e =
     sym (table-is 0 (st .marks) (length ws) (λ i. cond (closes ws cs st i) (suc (st .rounds)) (at (st .marks) i)) long
     (λ k l. rw (count-zero (length ws) (closes ws cs st) (closed-nobody ws cs st e) k l)))
 
-module _ (n : ℕ) (weights caps marks : List ℕ) (money weight rounds : ℕ) (asked : Ready n weights caps marks money weight rounds) where
+module _ (n : ℕ) (weights caps marks : List ℕ) (money weight rounds : ℕ)
+    (asked : Ready n weights caps marks money weight rounds) where
   abbrev ws : List ℕ
   ws = take n weights
 
@@ -47,13 +49,13 @@ module _ (n : ℕ) (weights caps marks : List ℕ) (money weight rounds : ℕ) (
   st = standing n marks money weight rounds
 
   wide : length (take n weights) ≡ n
-  wide = length-take-le n weights (omega (arith, asked .columns .few, asked .columns .weights-long))
+  wide = length-take-le n weights (omega (arith, asked .held .few, asked .held .weights-long))
 
   marks-wide : length (take n marks) ≡ n
-  marks-wide = length-take-le n marks (omega (arith, asked .columns .few, asked .columns .marks-long))
+  marks-wide = length-take-le n marks (omega (arith, asked .held .few, asked .held .marks-long))
 
   total : ℕ
-  total = money + sumWhere (length (take n weights)) (marked (take n marks)) (at (take n caps))
+  total = money + sumWhere (length (take n weights)) (hasClosed (take n marks)) (at (take n caps))
 
   sound : Sound total (take n weights) (take n caps) (standing n marks money weight rounds)
   unfolding total
@@ -68,28 +70,30 @@ module _ (n : ℕ) (weights caps marks : List ℕ) (money weight rounds : ℕ) (
 
   whole-le : whole (take n weights) ≤ 550000000 * length (take n weights)
   unfolding whole
-  whole-le = sum-bound (length ws) 550000000 (at ws) (λ k l. asked .columns .light k)
+  whole-le = sum-bound (length ws) 550000000 (at ws) (λ k l. asked .held .light k)
 
   heavy : weight ≤ 140800000000
   heavy =
       omega
-      (arith, wide, asked .columns .few, sound-weight total ws cs st sound, whole-le)
+      (arith, wide, asked .held .few, sound-weight total ws cs st sound, whole-le)
 
   pub round-asked : Round n weights caps marks money weight rounds
-  round-asked = record { columns = asked .columns; heavy = heavy; early = omega (arith, asked .early) }
+  round-asked = record { held = asked .held; heavy = heavy; early = omega (arith, asked .early) }
 
   module _ (after : List ℕ) (r : Closed) (shut : Shut n weights caps marks (standing n marks money weight rounds) after r) where
-    pub caps-in : r .caps ≤ money
+    pub caps-in : r .caps .0 ≤ money
     caps-in = omega (arith, shut .caps-are, closed-caps-le total ws cs st sound)
 
     pub weights-in : r .weights ≤ weight
     weights-in = omega (arith, shut .weights-are, closed-weights-le total ws cs st sound)
 
-    pub stopped : r .weights ≡ 0 → Ended n weights caps marks (standing n marks money weight rounds) after (money ∷ weight ∷ rounds ∷ [])
+    pub stopped : r .weights ≡ 0
+        → Ended n weights caps marks (standing n marks money weight rounds) after (money ∷ weight ∷ rounds ∷ [])
     stopped none =
         record {
           is = λ f l. run-stop ws cs st (closed-nobody ws cs st shut-none) f
-              ∙ ap (λ (ks : List ℕ). record { marks = ks; money = money; weight = weight; rounds = rounds }) (sym (shut .marks-are ∙ same-marks ws cs st (sound .long) shut-none));
+              ∙ ap (λ (ks : List ℕ). record { marks = ks; money = money; weight = weight; rounds = rounds })
+              (sym (shut .marks-are ∙ same-marks ws cs st (sound .long) shut-none));
           past = shut .past;
           long = shut .long;
           early = omega (arith, asked .early);
@@ -102,11 +106,13 @@ module _ (n : ℕ) (weights caps marks : List ℕ) (money weight rounds : ℕ) (
       closing : 0 < countTo (length ws) (closes ws cs st)
       closing = closed-somebody ws cs st (λ e. some (shut .weights-are ∙ e))
 
-      step-is : standing n after (money - r .caps) (weight - r .weights) (rounds + 1) ≡ next (take n weights) (take n caps) (standing n marks money weight rounds)
+      step-is : standing n after (money - r .caps .0) (weight - r .weights) (rounds + 1)
+          ≡ next (take n weights) (take n caps) (standing n marks money weight rounds)
       unfolding next
       step-is = rw (shut .marks-are, shut .caps-are, shut .weights-are, add-one rounds)
 
-      after-sound : Sound total (take n weights) (take n caps) (standing n after (money - r .caps) (weight - r .weights) (rounds + 1))
+      after-sound : Sound total (take n weights) (take n caps)
+          (standing n after (money - r .caps .0) (weight - r .weights) (rounds + 1))
       after-sound = subst (Sound total ws cs) (sym step-is) (next-sound total ws cs st sound)
 
       fewer : opens (take n weights) (take n after) < opens (take n weights) (take n marks)
@@ -115,22 +121,22 @@ module _ (n : ℕ) (weights caps marks : List ℕ) (money weight rounds : ℕ) (
       pub opens-less : (m : ℕ) → opens (take n weights) (take n marks) ≡ m → opens (take n weights) (take n after) < m
       opens-less m e = omega (arith, fewer)
 
-      pub count-in : rounds + 1 < 2 ^ 16
+      pub count-in : rounds + 1 < 2 ^ 32
       count-in = omega (arith, asked .early)
 
       -- whatever the money falls by
       pub ready-again : (by : ℕ) → Ready n weights caps after (money - by) (weight - r .weights) (rounds + 1)
       ready-again by =
           record {
-            columns =
+            held =
                 record {
-                  few = asked .columns .few;
-                  weights-long = asked .columns .weights-long;
-                  caps-long = asked .columns .caps-long;
+                  few = asked .held .few;
+                  weights-long = asked .held .weights-long;
+                  caps-long = asked .held .caps-long;
                   marks-long = shut .long;
-                  light = asked .columns .light;
-                  low = asked .columns .low;
-                  rich = omega (arith, asked .columns .rich);
+                  light = asked .held .light;
+                  low = asked .held .low;
+                  rich = omega (arith, asked .held .rich);
                 };
             weight-is = after-sound .weight-is;
             marks-le = after-sound .marks-le;
@@ -139,7 +145,7 @@ module _ (n : ℕ) (weights caps marks : List ℕ) (money weight rounds : ℕ) (
           }
 
       pub went-on : (end rest : List ℕ)
-          → Ended n weights caps after (standing n after (money - r .caps) (weight - r .weights) (rounds + 1)) end rest
+          → Ended n weights caps after (standing n after (money - r .caps .0) (weight - r .weights) (rounds + 1)) end rest
           → Ended n weights caps marks (standing n marks money weight rounds) end rest
       went-on end rest ended =
           record {
@@ -150,14 +156,22 @@ module _ (n : ℕ) (weights caps marks : List ℕ) (money weight rounds : ℕ) (
             early = ended .early;
           }
 
--- a cleared array holds the marks before the first round
-module _ (total n : ℕ) (weights caps marks₀ : List ℕ) (asked : Columns n weights caps marks₀ total) (marks : List ℕ) (clear : marks ≡ replicate 256 0)
+pub weights-few : (total n : ℕ) (weights caps marks : List ℕ) → Levyable n weights caps marks total → length (take n weights) ≤ 256
+weights-few total n weights caps marks asked =
+    omega (arith, asked .held .few, length-take-le n weights (omega (arith, asked .held .few, asked .held .weights-long)))
+
+-- all marks are 0 before the first round
+module _ (total n : ℕ) (weights caps marks : List ℕ) (asked : Levyable n weights caps marks total)
     (weight : ℕ) (weight-is : weight ≡ whole (take n weights)) where
+  first-long : length (take n weights) ≡ n
+  first-long = length-take-le n weights (omega (arith, asked .held .few, asked .held .weights-long))
+
+  zeros : marks ≡ replicate 256 0
+  zeros = zeros-are marks (asked .held .marks-long) (asked .blank)
+
   begin-is : standing n marks total weight 0 ≡ opening total (take n weights)
   unfolding opening
-  begin-is =
-      let wide : length (take n weights) ≡ n = length-take-le n weights (omega (arith, asked .few, asked .weights-long)) in
-      rw (wide, weight-is, clear, take-replicate 256 n (asked .few))
+  begin-is = rw (first-long, weight-is, zeros, take-replicate 256 n (asked .held .few))
 
   begin-sound : Sound total (take n weights) (take n caps) (standing n marks total weight 0)
   begin-sound = subst (Sound total (take n weights) (take n caps)) (sym begin-is) (opening-sound total (take n weights) (take n caps))
@@ -165,30 +179,22 @@ module _ (total n : ℕ) (weights caps marks₀ : List ℕ) (asked : Columns n w
   pub rounds-begin : Ready n weights caps marks total weight 0
   rounds-begin =
       record {
-        columns =
-            record {
-              few = asked .few;
-              weights-long = asked .weights-long;
-              caps-long = asked .caps-long;
-              marks-long = rw clear (length-replicate {A = ℕ} 256 0);
-              light = asked .light;
-              low = asked .low;
-              rich = asked .rich;
-            };
+        held = asked .held;
         weight-is = begin-sound .weight-is;
         marks-le = begin-sound .marks-le;
         payers = begin-sound .payers;
-        early = omega (arith, opens-le (take n weights) (take n marks), asked .few, length-take-le n weights (omega (arith, asked .few, asked .weights-long)));
+        early = omega (arith, opens-le (take n weights) (take n marks), asked .held .few, first-long);
       }
 
   pub rounds-end : (after rest : List ℕ) → Ended n weights caps marks (standing n marks total weight 0) after rest
-      → Finished total n weights caps after (record { money = at rest 0; weight = at rest 1; rounds = at rest 2 })
+      → Finished total n weights caps after (record { money = record { 0 = at rest 0 }; weight = at rest 1; rounds = at rest 2 })
   rounds-end after rest ended =
       record {
         is =
             sym (ended .is (length (take n weights)) (opens-le (take n weights) (take n marks)))
             ∙ ap (run (length (take n weights)) (take n weights) (take n caps)) begin-is
-            ∙ final-run total (take n weights) (take n caps) (length (take n weights)) (opens-le (take n weights) (opening total (take n weights) .marks));
-        past = ended .past ∙ rw clear (drop-replicate 256 n (asked .few));
+            ∙ final-run total (take n weights) (take n caps) (length (take n weights))
+            (opens-le (take n weights) (opening total (take n weights) .marks));
+        past = ended .past ∙ rw zeros (drop-replicate 256 n (asked .held .few));
         long = ended .long;
       }

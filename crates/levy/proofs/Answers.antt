@@ -1,49 +1,51 @@
--- Two results that one contract allows are equal, for each public function of the crate.
---     pays-unique, weight-unique, cap-unique      of a row; weight-unique serves `thermal_weight` too
+-- Two results that one contract allows are equal, for each public function of the crate. `Learnt` is what the caller of a function
+-- learns from its `ensures`, as written in src/: a weaker contract would fail here.
 --     rounds-unique         marks and what is left
 --     shortfall-unique
 --     payments-unique, cuts-unique      the columns
-use Prim.Native.Nat.{ℕ}
 use mathlib.Core.Path.{_≡_, ap, sym, _∙_}
-use mathlib.Core.Bool.{Bool}
-use mathlib.Core.List.{List, []}
+use mathlib.Core.List.{[]}
 use lib.ListN.{take-append-drop}
-use Rattle.units.proofs.Unique.{kwh-unique, fen-unique}
-use Rattle.units.specs.declared.Kwh.{Kwh}
+use contract.Lifetimes.{Lfts}
+use denote.Triple.Clauses.{AtExit}
+use borrow.Fn.Kinds.{Dens, resT, endedOf}
 use Rattle.units.specs.declared.Fen.{Fen}
-use Rattle.files.specs.declared.Row.{Row}
-use Rattle.share.specs.Share.{shares}
-use Rattle.levy.specs.Weight.{payer, cap}
-use Rattle.levy.specs.Rounds.{Standing, payments}
-use Rattle.levy.specs.Asked.{standingOf, Finished, Short}
+use Rattle.units.proofs.Unique.{fen-unique}
+use Rattle.levy.specs.Rounds.{Standing, shortfall}
+use Rattle.levy.specs.Asked.{standingOf}
 use Rattle.levy.specs.declared.Rest.{Rest}
+use Rattle.levy.proofs.closing.rounds.Kinds as rounds-kinds
+use Rattle.levy.proofs.closing.rounds.Reads as rounds-reads
+use Rattle.levy.proofs.closing.shortfall.Kinds as shortfall-kinds
+use Rattle.levy.proofs.closing.shortfall.Reads as shortfall-reads
+use Rattle.levy.proofs.paying.payments.Kinds as payments-kinds
+use Rattle.levy.proofs.paying.payments.Reads as payments-reads
+use Rattle.levy.proofs.paying.cuts.Kinds as cuts-kinds
+use Rattle.levy.proofs.paying.cuts.Reads as cuts-reads
 
-pub pays-unique : (base : ℕ) (r : Row) (s t : Bool) → s ≡ payer base r → t ≡ payer base r → s ≡ t
-pays-unique base r s t p q = p ∙ sym q
+module _ (κs : Lfts 3) (a : Dens κs rounds-kinds.ps) (r s : Rest) (p q : AtExit (endedOf 3 rounds-kinds.ps rounds-kinds.r) κs)
+    (one : rounds-reads.Learnt κs a r p) (other : rounds-reads.Learnt κs a s q) where
+  same : standingOf (a .1 .0) (p .1 .1 .1 .1 .0 .now) r ≡ standingOf (a .1 .0) (q .1 .1 .1 .1 .0 .now) s
+  same = one .is ∙ sym (other .is)
 
--- w is the weight of a row, or what a thermal unit's energy counts for
-pub weight-unique : (w : ℕ) (a b : Kwh) → a .0 ≡ w → b .0 ≡ w → a ≡ b
-weight-unique = kwh-unique
+  pub rounds-unique : (p .1 .1 .1 .1 .0 .now ≡ q .1 .1 .1 .1 .0 .now) × (r ≡ s)
+  rounds-unique = (
+    sym (take-append-drop (a .1 .0) (p .1 .1 .1 .1 .0 .now))
+        ∙ rw (ap (λ (st : Standing). st .marks) same, one .past ∙ sym (other .past)) (take-append-drop (a .1 .0) (q .1 .1 .1 .1 .0 .now)),
+    ap (λ (st : Standing). record { money = record { 0 = st .money }; weight = st .weight; rounds = st .rounds }) same,
+  )
 
-pub cap-unique : (base tariff : ℕ) (r : Row) (a b : Fen) → a .0 ≡ cap base tariff r → b .0 ≡ cap base tariff r → a ≡ b
-cap-unique base tariff r = fen-unique (cap base tariff r)
+pub shortfall-unique : (κs : Lfts 0) (a : Dens κs shortfall-kinds.ps) (x y : Fen)
+    (p q : AtExit (endedOf 0 shortfall-kinds.ps shortfall-kinds.r) κs)
+    → shortfall-reads.Learnt κs a x p → shortfall-reads.Learnt κs a y q → x ≡ y
+shortfall-unique κs a x y p q one other = fen-unique (shortfall (standingOf 0 [] (a .0))) x y (one 0 []) (other 0 [])
 
-pub rounds-unique : (total n : ℕ) (weights caps : List ℕ) (a b : List ℕ) (r s : Rest) → Finished total n weights caps a r
-    → Finished total n weights caps b s → (a ≡ b) × (r ≡ s)
-rounds-unique total n weights caps a b r s p q = (
-  sym (take-append-drop n a) ∙ rw (ap (λ (st : Standing). st .marks) same, p .past ∙ sym (q .past)) (take-append-drop n b),
-  ap (λ (st : Standing). record { money = st .money; weight = st .weight; rounds = st .rounds }) same,
-)
-  where
-    same : standingOf n a r ≡ standingOf n b s
-    same = p .is ∙ sym (q .is)
+pub payments-unique : (κs : Lfts 4) (a : Dens κs payments-kinds.ps) (x y : resT payments-kinds.r κs .Denot)
+    (p q : AtExit (endedOf 4 payments-kinds.ps payments-kinds.r) κs)
+    → payments-reads.Learnt κs a x p → payments-reads.Learnt κs a y q → p .1 .1 .1 .1 .1 .1 .0 .now ≡ q .1 .1 .1 .1 .1 .1 .0 .now
+payments-unique κs a x y p q one other = one ∙ sym other
 
-pub shortfall-unique : (r : Rest) (x y : ℕ) → Short r x → Short r y → x ≡ y
-shortfall-unique r x y p q = p 0 [] ∙ sym (q 0 [])
-
-pub payments-unique : (ws cs : List ℕ) (st : Standing) (first : ℕ) (a b : List ℕ) → a ≡ payments ws cs st first → b ≡ payments ws cs st first → a ≡ b
-payments-unique ws cs st first a b p q = p ∙ sym q
-
-pub cuts-unique : (shortfall : ℕ) (compensations : List ℕ) (first : ℕ) (a b : List ℕ) → a ≡ shares shortfall compensations first
-    → b ≡ shares shortfall compensations first → a ≡ b
-cuts-unique shortfall compensations first a b p q = p ∙ sym q
+pub cuts-unique : (κs : Lfts 2) (a : Dens κs cuts-kinds.ps) (x y : resT cuts-kinds.r κs .Denot)
+    (p q : AtExit (endedOf 2 cuts-kinds.ps cuts-kinds.r) κs)
+    → cuts-reads.Learnt κs a x p → cuts-reads.Learnt κs a y q → p .1 .1 .1 .0 .now ≡ q .1 .1 .1 .0 .now
+cuts-unique κs a x y p q one other = one ∙ sym other

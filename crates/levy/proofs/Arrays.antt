@@ -1,27 +1,23 @@
--- Columns in arrays: the sum of the first n, and a cleared array.
---     whole-end        the sum of the first n positions is the whole of the column
---     take-replicate, drop-replicate     the first n of a cleared array, and the rest of it
+-- Arrays of zeros, as the rounds find their marks.
+--     zeros-at         every number of one is 0, past its end too
+--     zeros-are        an array of 256 whose numbers are all 0 is the array of zeros
+--     take-replicate, drop-replicate     its first n, and the rest of it
 use Prim.Native.Nat.{ℕ, zero, suc, _-_, _≤_}
 use mathlib.Core.Path.{_≡_, refl, ap, sym, _∙_}
 use mathlib.Core.List.{List, _∷_}
 use native.Mathlib.Omega.{arith}
-use lib.ListN.{length, take, drop, replicate}
-use lib.Seq.{getD-take, length-take-le}
-use Rattle.columns.specs.Sum.{sumTo}
+use lib.ListN.{length, take, drop, replicate, length-replicate}
+use lib.Seq.{ext-getD}
 use Rattle.columns.specs.Table.{at}
-use Rattle.columns.proofs.Sum.{sum-same}
-use Rattle.columns.specs.Sum.{whole}
 
-pub whole-end : (n : ℕ) (weights : List ℕ) → n ≤ 256 → length weights ≡ 256 → (sum i : ℕ) → i ≤ n → sum ≡ sumTo i (at weights) → n ≤ i
-    → sum ≡ whole (take n weights)
-unfolding whole
-whole-end n weights few long sum i m e q =
-    e
-    ∙ ap (λ (m : ℕ). sumTo m (at weights)) (omega (arith, wide))
-    ∙ sum-same (length (take n weights)) (at weights) (at (take n weights)) (λ k l. sym (getD-take n weights k 0 (omega (arith, wide))))
-  where
-    wide : length (take n weights) ≡ n
-    wide = length-take-le n weights (omega arith)
+pub zeros-at : (m i : ℕ) → at (replicate m 0) i ≡ 0
+zeros-at zero i = refl
+zeros-at (suc m) zero = refl
+zeros-at (suc m) (suc i) = zeros-at m i
+
+pub zeros-are : (xs : List ℕ) → length xs ≡ 256 → ((i : ℕ) → at xs i ≡ 0) → xs ≡ replicate 256 0
+zeros-are xs long blank =
+    ext-getD 0 xs (replicate 256 0) (long ∙ sym (length-replicate {A = ℕ} 256 0)) (λ k l. blank k ∙ sym (zeros-at 256 k))
 
 pub take-replicate : (m n : ℕ) → n ≤ m → take {A = ℕ} n (replicate m 0) ≡ replicate n 0
 take-replicate m zero l = refl

@@ -3,27 +3,31 @@
 --     opening-counted    it holds before the first round
 --     next-counted       a round in which somebody closes keeps it
 --     final-counted      it holds after the last round
+--     opens-inside       a payer is open or has closed
 --     rounds-count       the rounds are at most the payers of weight above 0
+--     rounds-capped      they are at most the capped of them
 --     marks-rounds       no closing round is above the number of rounds
---     round-somebody     somebody closed in each round
+--     round-somebody     in each round a capped payer closed, one of weight above 0
 --     rounds-max         the number of rounds is the largest closing round
 use Prim.Native.Nat.{ℕ, suc, _+_, _≤_, _<_}
 use mathlib.Core.Path.{_≡_, refl, sym, _∙_}
 use mathlib.Core.Logic.{_⊎_, ⊎-elim}
-use mathlib.Core.Bool.{Bool, true, false, cond}
+use mathlib.Core.Bool.{Bool, true, false, cond, _&&_, not}
 use mathlib.Core.List.{List}
 use native.Mathlib.Nat.{eq-zero-or-pos, le-refl}
 use native.Mathlib.Omega.{arith}
 use lib.Dec.{ltb, eqb}
 use lib.ListN.{length}
 use borrow.Author.Tests.{eqb-true}
-use Rattle.columns.specs.Sum.{countTo, maxTo}
+use Rattle.columns.specs.Sum.{bit, countTo, maxTo}
 use Rattle.columns.specs.Table.{at, Below}
 use Rattle.columns.proofs.First.{right-true}
 use Rattle.columns.proofs.Sum.{lt-or-le, count-none, count-sub, max-bound, max-term}
+use Rattle.columns.proofs.Mask.{count-parts}
 use Rattle.columns.proofs.Rank.{some-or-none}
 use Rattle.levy.specs.Rounds.{Standing, isOpen, payers, opens, closes, next, opening, final}
-use Rattle.levy.proofs.Step.{run-keeps, closes-unmarked, mark-next, next-rounds, opens-fall, final-sound}
+use Rattle.levy.specs.Capped.{hasClosed, inside, payersInside}
+use Rattle.levy.proofs.Step.{run-keeps, closes-not-yet, mark-next, next-rounds, opens-fall, final-sound}
 
 pub record Counted (ws : List ℕ) (st : Standing) : Type 0 where
   pub early : st .rounds + opens ws (st .marks) ≤ payers ws
@@ -33,6 +37,19 @@ pub opens-payers : (ws marks : List ℕ) → opens ws marks ≤ payers ws
 unfolding opens payers
 opens-payers ws marks =
     count-sub (length ws) (isOpen ws marks) (λ i. ltb 0 (at ws i)) (λ i l e. right-true (eqb (at marks i) 0) (ltb 0 (at ws i)) e)
+
+-- a payer is open or has closed
+pub opens-inside : (ws marks : List ℕ) → payers ws ≡ opens ws marks + payersInside ws (hasClosed marks)
+unfolding opens payers payersInside
+opens-inside ws marks =
+    count-parts (length ws) (λ i. ltb 0 (at ws i)) (isOpen ws marks) (inside ws (hasClosed marks))
+    (λ i l. each (eqb (at marks i) 0) (ltb 0 (at ws i)))
+  where
+    each : (s t : Bool) → bit t ≡ bit (s && t) + bit (t && not s)
+    each true true = refl
+    each true false = refl
+    each false true = refl
+    each false false = refl
 
 pub opening-counted : (total : ℕ) (ws : List ℕ) → Counted ws (opening total ws)
 unfolding opening
@@ -45,7 +62,7 @@ module _ (ws cs : List ℕ) (st : Standing) where
   mark-stays i l some = mark-next ws cs st i l ∙ same (closes ws cs st i) refl
     where
       same : (t : Bool) → closes ws cs st i ≡ t → cond t (suc (st .rounds)) (at (st .marks) i) ≡ at (st .marks) i
-      same true e = absurd (omega (arith, eqb-true (at (st .marks) i) 0 (closes-unmarked ws cs st i e)))
+      same true e = absurd (omega (arith, eqb-true (at (st .marks) i) 0 (closes-not-yet ws cs st i e)))
       same false e = refl
 
   pub next-counted : 0 < countTo (length ws) (closes ws cs st) → Counted ws st → Counted ws (next ws cs st)
@@ -81,17 +98,22 @@ module _ (total : ℕ) (ws cs : List ℕ) where
   pub rounds-count : end .rounds ≤ payers ws
   rounds-count = omega (arith, final-counted .early)
 
+  pub rounds-capped : end .rounds ≤ payersInside ws (hasClosed (end .marks))
+  rounds-capped = omega (arith, final-counted .early, opens-inside ws (end .marks))
+
   pub marks-rounds : (i : ℕ) → at (end .marks) i ≤ end .rounds
   marks-rounds i = final-sound total ws cs .marks-le i
 
-  pub round-somebody : (r : ℕ) → 0 < r → r ≤ end .rounds → (i : ℕ) × (i < length ws) × (at (end .marks) i ≡ r)
-  round-somebody r up le = final-counted .somebody r up le
+  pub round-somebody : (r : ℕ) → 0 < r → r ≤ end .rounds → (i : ℕ) × (0 < at ws i) × (at (end .marks) i ≡ r)
+  round-somebody r up le =
+      let w = final-counted .somebody r up le in
+      (w .0, final-sound total ws cs .payers (w .0) (omega (arith, w .2)), w .2)
 
   pub rounds-max : end .rounds ≡ maxTo (length ws) (at (end .marks))
   rounds-max =
       ⊎-elim (λ (e : end .rounds ≡ 0). omega (arith, bound))
       (λ (up : 0 < end .rounds).
-      let w = round-somebody (end .rounds) up (le-refl (end .rounds)) in
+      let w = final-counted .somebody (end .rounds) up (le-refl (end .rounds)) in
       omega (arith, bound, w .2, max-term (length ws) (at (end .marks)) (w .0) (w .1)))
       (eq-zero-or-pos (end .rounds))
     where

@@ -2,9 +2,9 @@
 --     Fill                          the loops' invariant: f stands at every position passed, and each number is small
 --     fill-none, fill-on, fill-end    before the loop, one position more, after it
 --     fill-small                    after it every number is one of 32 bits
---     fill-is, fill-clear           a filled copy is what was copied; zeros make a cleared column
+--     fill-is                       a filled copy is what was copied
 --     small-at                      a number of such a column
---     open-at, open-end             the column of open weights
+--     open-on, open-end             the column of open weights
 --     part-fits, paid-part, paid-cap, made-at, paid-at     one payment
 --     whole-small                   the sum of such a column fits 64 bits
 use Prim.Native.Nat.{ℕ, _+_, _^_, _≤_, _<_}
@@ -14,17 +14,17 @@ use mathlib.Core.Bool.{cond}
 use mathlib.Core.List.{List}
 use native.Mathlib.Omega.{arith}
 use lib.Dec.{eqb}
-use lib.ListN.{length, take, set, replicate, getD-replicate, List·getD-eq-default}
+use lib.ListN.{length, take, set, List·getD-eq-default}
 use lib.Seq.{getD-take, length-take-le, getD-set-other, getD-set-same, ext-getD}
 use borrow.Author.Count.{below-more}
 use borrow.Author.Tests.{eq-eqb, ne-eqb}
+use Rattle.columns.specs.Sum.{whole}
 use Rattle.columns.specs.Table.{at, table, Below}
 use Rattle.columns.proofs.Sum.{lt-or-le, sum-bound}
 use Rattle.columns.proofs.Table.{table-is}
 use Rattle.columns.proofs.Fill.{Reached, reached-none, reached-next, reached-all}
-use Rattle.columns.specs.Sum.{whole}
 use Rattle.levy.specs.Rounds.{openWeights}
-use Rattle.levy.specs.Asked.{markedOnly, Small, paidFrom, Made}
+use Rattle.levy.specs.Asked.{Small, Still, paidFrom, Made}
 
 pub record Fill (f : ℕ → ℕ) (start out : List ℕ) (i : ℕ) : Type 0 where
   pub reached : Reached 0 f start out i
@@ -58,12 +58,6 @@ pub fill-is : (from to out : List ℕ) (i : ℕ) → Fill (at from) to out i →
 fill-is from to out i fill q long =
     ext-getD 0 out from (fill .reached .room ∙ long) (λ k l. fill .reached .done k (omega (arith, fill .reached .room)))
 
--- a column of zeros is the cleared column
-pub fill-clear : (start out : List ℕ) (i : ℕ) → Fill (λ k. 0) start out i → length start ≡ 256 → 256 ≤ i → out ≡ replicate 256 0
-fill-clear start out i fill long q =
-    ext-getD 0 out (replicate 256 0) (fill .reached .room ∙ long)
-    (λ k l. fill .reached .done k (omega (arith, fill .reached .room)) ∙ sym (getD-replicate 256 k 0 0 (omega (arith, fill .reached .room))))
-
 pub small-at : (xs : List ℕ) → Small xs → (i : ℕ) → at xs i < 2 ^ 32
 small-at xs low i = low i
 
@@ -71,20 +65,32 @@ small-at xs low i = low i
 unfoldable pub openAt : List ℕ → List ℕ → ℕ → ℕ
 openAt weights marks i = cond (eqb (at marks i) 0) (at weights i) 0
 
-pub open-at : (weights marks : List ℕ) (i v : ℕ) → v ≡ cond (eqb (at marks i) 0) (at weights i) 0 → v ≡ openAt weights marks i
-unfolding openAt
-open-at weights marks i v e = e
+pub open-on : (n : ℕ) (weights marks start out : List ℕ) (i : ℕ) → Fill (openAt weights marks) start out i → n ≤ 256 → length start ≡ 256
+    → i < n → (v : ℕ) → v ≡ cond (eqb (at marks i) 0) (at weights i) 0 → v < 2 ^ 32 → Fill (openAt weights marks) start (set out i v) (i + 1)
+open-on n weights marks start out i fill few long l v e low =
+    fill-on (openAt weights marks) start out i fill 256 long (omega arith) v (unfold openAt in e) low
 
-pub open-end : (n : ℕ) (weights marks start out : List ℕ) (i : ℕ) → Fill (openAt weights marks) start out i → length start ≡ n → n ≤ i → n ≤ 256
-    → length weights ≡ 256
-    → out ≡ openWeights (take n weights) (markedOnly n marks)
+pub open-end : (n : ℕ) (weights marks start out : List ℕ) (i : ℕ) → Fill (openAt weights marks) start out i → n ≤ i → n ≤ 256
+    → length weights ≡ 256 → length start ≡ 256 → Still n weights marks out
 unfolding openWeights openAt
-open-end n weights marks start out i fill room q few long =
-    table-is 0 out (length (take n weights)) (λ k. cond (eqb (at (take n marks) k) 0) (at (take n weights) k) 0) (fill .reached .room ∙ room ∙ sym wide)
-    (λ k l. rw (getD-take n weights k 0 (omega (arith, wide)), getD-take n marks k 0 (omega (arith, wide))) (fill .reached .done k (omega (arith, wide))))
+open-end n weights marks start out i fill q few long room =
+    record {
+      is =
+          table-is 0 (take n out) (length (take n weights)) (λ k. cond (eqb (at (take n marks) k) 0) (at (take n weights) k) 0)
+          (front ∙ sym wide)
+          (λ k l. rw (getD-take n out k 0 (omega (arith, wide)), getD-take n weights k 0 (omega (arith, wide)), getD-take n marks k 0 (omega (arith, wide)))
+          (fill .reached .done k (omega (arith, wide))));
+      small = λ k. ⊎-elim (λ (l : k < n). rw (getD-take n out k 0 l) (fill .small k (omega arith)))
+          (λ (m : n ≤ k). let e : at (take n out) k ≡ 0 = List·getD-eq-default (take n out) 0 (omega (arith, front)) in omega arith)
+          (lt-or-le k n);
+      long = fill .reached .room ∙ room;
+    }
   where
     wide : length (take n weights) ≡ n
     wide = length-take-le n weights (omega arith)
+
+    front : length (take n out) ≡ n
+    front = length-take-le n out (omega (arith, fill .reached .room))
 
 -- what the one who closed pays, and what the others do
 pub part-fits : (m a b : ℕ) → cond (eqb m 0) a b < 2 ^ 32 → m ≡ 0 → a < 2 ^ 32

@@ -1,4 +1,3 @@
-pub mod Row
 pub mod Arrays
 pub mod Step
 pub mod Rate

@@ -1,112 +1,125 @@
 -- From shares to payments and cuts: each need of the code that makes them, and what the callers of payments have.
---     open-split, made-asked, payments-made     payments: what the sharing asks, what the making asks, the column
---     cut-split, cut-long, cut-small, cut-made     cuts: the same
+--     spread-split, spread-made, spread-out     the money left, shared and paid: what the sharing asks, what the making asks, the column
+--     pay-spread, payments-made                 payments: what the sharing of the money left asks, the column
+--     cut-split, cut-long, cut-small, cut-made     cuts: what the sharing and the copying ask, the column
 --     front-room                                the room lent for columns of n
 --     shortfall-final                           the shortfall that the code answers, of the last standing
 --     payable, cuttable                         what the makers of payments and cuts ask, from the answer of the rounds
 use Prim.Native.Nat.{ℕ, _≤_, _<_}
 use mathlib.Core.Path.{_≡_, ap, sym, _∙_}
-use mathlib.Core.Bool.{cond}
 use mathlib.Core.List.{List}
 use native.Mathlib.Omega.{arith}
-use lib.Dec.{eqb}
 use lib.ListN.{length, take}
 use lib.Seq.{getD-take, length-take-le}
-use Rattle.columns.specs.Table.{at, table}
-use Rattle.columns.proofs.Table.{table-length, table-same, front-long}
 use Rattle.columns.specs.Sum.{whole}
+use Rattle.columns.specs.Table.{table}
+use Rattle.columns.proofs.Table.{table-same, front-long}
 use Rattle.share.specs.Share.{shares}
 use Rattle.share.specs.Split.{Splittable}
 use Rattle.share.proofs.Laws.{shares-at, shares-length, share-le-weight}
-use Rattle.levy.specs.Rounds.{openWeights, final, paid, payments, shortfall}
-use Rattle.levy.specs.Asked.{standingOf, markedOnly, Small, Columns, Finished, Short, Payable, paidFrom, Made, Room, Cuttable}
+use Rattle.levy.specs.Rounds.{final, paid, payments, shortfall}
+use Rattle.levy.specs.Asked.{standingOf, Small, Levyable, Finished, Short, Still, Payable, Spread, paidFrom, Made, Room, Cuttable}
 use Rattle.levy.specs.declared.Rest.{Rest}
 use Rattle.levy.proofs.Payment.{paid-le-cap, shortfall-le}
 use Rattle.levy.proofs.Fill.{whole-small}
 
-module _ (n : ℕ) (weights caps marks : List ℕ) (rest : Rest) (first : ℕ) (out : List ℕ) (asked : Payable n weights caps marks rest first out) where
+module _ (money : ℕ) (still caps marks : List ℕ) (first : ℕ) (parts₀ out : List ℕ)
+    (asked : Spread money still caps marks first parts₀ out) where
+  pub spread-split : Splittable still parts₀ first
+  spread-split =
+      record { short = asked .few; room = asked .parts-long; fits = whole-small still (asked .few) (asked .small); inside = asked .turn }
+
+  module _ (parts : List ℕ) (parts-are : parts ≡ shares money still first) where
+    pub spread-made : Made caps marks parts out
+    spread-made =
+        record {
+          few = omega (arith, asked .out-long, asked .few);
+          parts-long = ap length parts-are ∙ shares-length money still first ∙ sym (asked .out-long);
+          fits = rw parts-are (asked .fits);
+        }
+
+    pub spread-out : (made : List ℕ) → made ≡ table (length out) (paidFrom caps marks parts)
+        → made ≡ table (length out) (paidFrom caps marks (shares money still first))
+    spread-out made is = is ∙ ap (λ (xs : List ℕ). table (length out) (paidFrom caps marks xs)) parts-are
+
+module _ (n : ℕ) (weights caps marks : List ℕ) (rest : Rest) (first : ℕ) (out : List ℕ) (asked : Payable n weights caps marks rest first out)
+    (still : List ℕ) (open-are : Still n weights marks still) where
   wide : length (take n weights) ≡ n
   wide = length-take-le n weights (omega (arith, asked .few, asked .weights-long))
 
-  module _ (still : List ℕ) (open-is : still ≡ openWeights (take n weights) (markedOnly n marks)) where
-    still-long : length still ≡ n
-    unfolding openWeights
-    still-long =
-        ap length open-is
-        ∙ table-length (length (take n weights)) (λ i. cond (eqb (at (take n marks) i) 0) (at (take n weights) i) 0) ∙ wide
+  front : length (take n still) ≡ n
+  front = length-take-le n still (omega (arith, asked .few, open-are .long))
 
-    pub open-split : (still₀ parts : List ℕ) → Room n still₀ parts → Small still → Splittable still parts first
-    open-split still₀ parts room low =
-        record {
-          short = omega (arith, still-long, asked .few);
-          room = omega (arith, still-long, room .two-long);
-          fits = whole-small still (omega (arith, still-long, asked .few)) low;
-          inside = λ l. let some = asked .turn (omega (arith, still-long)) in omega (arith, still-long);
-        }
+  paid-same : (i : ℕ) → i < n
+      → paidFrom caps marks (shares (rest .money .0) (take n still) first) i ≡ paid (take n weights) (take n caps) (standingOf n marks rest) first i
+  unfolding paidFrom paid
+  paid-same i l =
+      rw (getD-take n marks i 0 l, getD-take n caps i 0 l, shares-at (rest .money .0) (take n still) first i, open-are .is)
 
-    module _ (parts : List ℕ) (parts-are : parts ≡ shares (rest .money) still first) where
-      paid-same : (i : ℕ) → i < n → paidFrom caps marks parts i ≡ paid (take n weights) (take n caps) (standingOf n marks rest) first i
-      unfolding paidFrom paid openWeights
-      paid-same i l =
-          rw (getD-take n marks i 0 l, getD-take n caps i 0 l, parts-are, shares-at (rest .money) still first i, open-is)
+  pub pay-spread : (parts : List ℕ) → length parts ≡ 256 → Spread (rest .money .0) (take n still) caps marks first (take n parts) out
+  pay-spread parts room =
+      record {
+        few = omega (arith, front, asked .few);
+        small = open-are .small;
+        parts-long = omega (arith, front, length-take-le n parts (omega (arith, asked .few)));
+        out-long = omega (arith, front, asked .out-long);
+        turn = rw front (asked .turn);
+        fits = λ i l. rw (paid-same i (omega (arith, asked .out-long))) (asked .fits i);
+      }
 
-      pub made-asked : Made caps marks parts out
-      made-asked =
-          record {
-            few = omega (arith, asked .out-long, asked .few);
-            parts-long = ap length parts-are ∙ shares-length (rest .money) still first ∙ still-long ∙ sym (asked .out-long);
-            fits = λ i l. rw (paid-same i (omega (arith, asked .out-long))) (asked .fits i);
-          }
-
-      pub payments-made : (made : List ℕ) → made ≡ table (length out) (paidFrom caps marks parts)
-          → made ≡ payments (take n weights) (take n caps) (standingOf n marks rest) first
-      unfolding payments
-      payments-made made is =
-          is
-          ∙ ap (λ (m : ℕ). table m (paidFrom caps marks parts)) (omega (arith, wide, asked .out-long))
-          ∙ table-same (length (take n weights)) (paidFrom caps marks parts) (paid (take n weights) (take n caps) (standingOf n marks rest) first)
-          (λ k l. paid-same k (omega (arith, wide)))
+  pub payments-made : (made : List ℕ) → made ≡ table (length out) (paidFrom caps marks (shares (rest .money .0) (take n still) first))
+      → made ≡ payments (take n weights) (take n caps) (standingOf n marks rest) first
+  unfolding payments
+  payments-made made is =
+      is
+      ∙ ap (λ (m : ℕ). table m (paidFrom caps marks (shares (rest .money .0) (take n still) first))) (omega (arith, wide, asked .out-long))
+      ∙ table-same (length (take n weights)) (paidFrom caps marks (shares (rest .money .0) (take n still) first))
+      (paid (take n weights) (take n caps) (standingOf n marks rest) first)
+      (λ k l. paid-same k (omega (arith, wide)))
 
 module _ (shortfall : ℕ) (compensations : List ℕ) (first : ℕ) (out : List ℕ) (asked : Cuttable shortfall compensations first out)
     (weights : List ℕ) (same : weights ≡ compensations) where
-  pub cut-split : (weights₀ parts : List ℕ) → Room (length compensations) weights₀ parts → Small weights → Splittable weights parts first
-  cut-split weights₀ parts room low =
+  -- whoever goes first: what is asked does not depend on it
+  pub cut-split : (weights₀ parts : List ℕ) → Room (length compensations) weights₀ parts → Small weights → (turn : ℕ) → turn ≤ first
+      → Splittable weights parts turn
+  cut-split weights₀ parts room low turn le =
       record {
         short = rw same (asked .few);
         room = room .two-long ∙ ap length (sym same);
         fits = whole-small weights (rw same (asked .few)) low;
-        inside = rw same (asked .turn);
+        inside = rw same (λ some. omega (arith, le, asked .turn some));
       }
 
-  module _ (parts : List ℕ) (parts-are : parts ≡ shares shortfall weights first) where
+  module _ (turn : ℕ) (parts : List ℕ) (parts-are : parts ≡ shares shortfall weights turn) where
     pub cut-long : length out ≡ length parts
-    cut-long = asked .out-long ∙ ap length (sym same) ∙ sym (ap length parts-are ∙ shares-length shortfall weights first)
+    cut-long = asked .out-long ∙ ap length (sym same) ∙ sym (ap length parts-are ∙ shares-length shortfall weights turn)
 
     pub cut-small : Small weights → Small parts
     cut-small low i =
-        rw (parts-are, shares-at shortfall weights first i)
-        (omega (arith, low i, share-le-weight shortfall weights first i (rw same (asked .covered))))
+        rw (parts-are, shares-at shortfall weights turn i)
+        (omega (arith, low i, share-le-weight shortfall weights turn i (rw same (asked .covered))))
 
-    pub cut-made : (made : List ℕ) → made ≡ parts → made ≡ shares shortfall compensations first
-    cut-made made is = is ∙ parts-are ∙ ap (λ (xs : List ℕ). shares shortfall xs first) same
+  pub cut-made : (parts : List ℕ) → parts ≡ shares shortfall weights first → (made : List ℕ) → made ≡ parts
+      → made ≡ shares shortfall compensations first
+  cut-made parts parts-are made is = is ∙ parts-are ∙ ap (λ (xs : List ℕ). shares shortfall xs first) same
 
 -- the first n of two whole arrays
 pub front-room : (n : ℕ) (xs ys : List ℕ) → n ≤ 256 → length xs ≡ 256 → length ys ≡ 256 → Room n (take n xs) (take n ys)
 front-room n xs ys few long more = record { one-long = sym (front-long xs n 256 long few); two-long = sym (front-long ys n 256 more few) }
 
 -- once the rounds have ended nobody pays above its cap, so each payment fits
-pub payable : (total n : ℕ) (weights caps marks₀ marks : List ℕ) (rest : Rest) → Columns n weights caps marks₀ total
+pub payable : (total n : ℕ) (weights caps marks₀ marks : List ℕ) (rest : Rest) → Levyable n weights caps marks₀ total
     → Finished total n weights caps marks rest → (first : ℕ) → (0 < n → first < n) → (out : List ℕ) → length out ≡ n
     → Payable n weights caps marks rest first out
 payable total n weights caps marks₀ marks rest asked ended first turn out long =
     record {
-      few = asked .few;
-      weights-long = asked .weights-long;
-      caps-long = asked .caps-long;
+      few = asked .held .few;
+      weights-long = asked .held .weights-long;
+      caps-long = asked .held .caps-long;
       marks-long = ended .long;
       out-long = long;
       turn = turn;
-      fits = λ i. rw (ended .is) (omega (arith, paid-le-cap total (take n weights) (take n caps) first i, asked .low i));
+      fits = λ i. rw (ended .is) (omega (arith, paid-le-cap total (take n weights) (take n caps) first i, asked .held .low i));
     }
 
 -- and the shortfall is at most the total, which is the compensations together

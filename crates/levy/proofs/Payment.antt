@@ -26,42 +26,41 @@ use native.Mathlib.Omega.{arith}
 use lib.Dec.{eqb}
 use lib.ListN.{length, List·getD-eq-default}
 use borrow.Author.Tests.{eq-eqb, ne-eqb}
-use Rattle.columns.specs.Sum.{sumTo, sumWhere}
+use Rattle.columns.specs.Sum.{sumTo, whole, sumWhere}
 use Rattle.columns.specs.Table.{at}
 use Rattle.columns.proofs.Sum.{lt-or-le, sum-same, sum-add, sum-zero}
 use Rattle.columns.proofs.Table.{table-length, table-at, table-past}
-use Rattle.columns.specs.Sum.{whole}
 use Rattle.share.specs.Share.{share, shares}
 use Rattle.share.proofs.Laws.{share-zero, share-under, share-near-over, share-near-short, shares-sum, shares-none, shares-length, shares-at}
 use Rattle.levy.specs.Rounds.{Standing, final, openWeights, paid, payments, shortfall}
-use Rattle.levy.specs.Capped.{marked, capsOf}
+use Rattle.levy.specs.Capped.{hasClosed, capsInside}
 use Rattle.levy.proofs.Step.{Sound, sound-caps, final-sound}
 use Rattle.levy.proofs.Rate.{open-owe, open-weight, closed-weight}
 
 -- the open weights by position
-pub open-at : (ws : List ℕ) (st : Standing) (i : ℕ) → at (openWeights ws st) i ≡ cond (eqb (at (st .marks) i) 0) (at ws i) 0
+pub open-at : (ws marks : List ℕ) (i : ℕ) → at (openWeights ws marks) i ≡ cond (eqb (at marks i) 0) (at ws i) 0
 unfolding openWeights
-open-at ws st i =
-    ⊎-elim (λ (l : i < length ws). table-at 0 (length ws) (λ k. cond (eqb (at (st .marks) k) 0) (at ws k) 0) i l)
+open-at ws marks i =
+    ⊎-elim (λ (l : i < length ws). table-at 0 (length ws) (λ k. cond (eqb (at marks k) 0) (at ws k) 0) i l)
     (λ (l : length ws ≤ i).
-    table-past 0 (length ws) (λ k. cond (eqb (at (st .marks) k) 0) (at ws k) 0) i l
-    ∙ (rw (List·getD-eq-default ws 0 l) (sym (same (eqb (at (st .marks) i) 0)))))
+    table-past 0 (length ws) (λ k. cond (eqb (at marks k) 0) (at ws k) 0) i l
+    ∙ (rw (List·getD-eq-default ws 0 l) (sym (same (eqb (at marks i) 0)))))
     (lt-or-le i (length ws))
   where
     same : (t : Bool) → _≡_ {A = ℕ} (cond t 0 0) 0
     same true = refl
     same false = refl
 
-pub open-length : (ws : List ℕ) (st : Standing) → length (openWeights ws st) ≡ length ws
+pub open-length : (ws marks : List ℕ) → length (openWeights ws marks) ≡ length ws
 unfolding openWeights
-open-length ws st = table-length (length ws) (λ k. cond (eqb (at (st .marks) k) 0) (at ws k) 0)
+open-length ws marks = table-length (length ws) (λ k. cond (eqb (at marks k) 0) (at ws k) 0)
 
 -- who has not closed still has its weight
-pub open-here : (ws : List ℕ) (st : Standing) (i : ℕ) → at (st .marks) i ≡ 0 → at (openWeights ws st) i ≡ at ws i
-open-here ws st i z = open-at ws st i ∙ rw (eq-eqb (at (st .marks) i) 0 z)
+pub open-here : (ws marks : List ℕ) (i : ℕ) → at marks i ≡ 0 → at (openWeights ws marks) i ≡ at ws i
+open-here ws marks i z = open-at ws marks i ∙ rw (eq-eqb (at marks i) 0 z)
 
 module _ (ws cs : List ℕ) (st : Standing) (first : ℕ) where
-  pub paid-open : (i : ℕ) → at (st .marks) i ≡ 0 → paid ws cs st first i ≡ share (st .money) (openWeights ws st) first i
+  pub paid-open : (i : ℕ) → at (st .marks) i ≡ 0 → paid ws cs st first i ≡ share (st .money) (openWeights ws (st .marks)) first i
   unfolding paid
   paid-open i z = rw (eq-eqb (at (st .marks) i) 0 z)
 
@@ -70,14 +69,14 @@ module _ (ws cs : List ℕ) (st : Standing) (first : ℕ) where
   paid-closed i up = rw (ne-eqb (at (st .marks) i) 0 (omega arith))
 
   -- who has closed takes no part in sharing
-  share-closed : (i : ℕ) → 0 < at (st .marks) i → share (st .money) (openWeights ws st) first i ≡ 0
+  share-closed : (i : ℕ) → 0 < at (st .marks) i → share (st .money) (openWeights ws (st .marks)) first i ≡ 0
   share-closed i up =
-      share-zero (st .money) (openWeights ws st) first i (open-at ws st i ∙ rw (ne-eqb (at (st .marks) i) 0 (omega arith)))
+      share-zero (st .money) (openWeights ws (st .marks)) first i (open-at ws (st .marks) i ∙ rw (ne-eqb (at (st .marks) i) 0 (omega arith)))
 
   -- what everybody pays, as a share and a cap one of which is 0
-  paid-parts : (i : ℕ) → paid ws cs st first i ≡ at (shares (st .money) (openWeights ws st) first) i + cond (marked (st .marks) i) (at cs i) 0
+  paid-parts : (i : ℕ) → paid ws cs st first i ≡ at (shares (st .money) (openWeights ws (st .marks)) first) i + cond (hasClosed (st .marks) i) (at cs i) 0
   paid-parts i =
-      rw (shares-at (st .money) (openWeights ws st) first i)
+      rw (shares-at (st .money) (openWeights ws (st .marks)) first i)
       (⊎-elim (λ (z : at (st .marks) i ≡ 0). rw (eq-eqb (at (st .marks) i) 0 z) (omega (arith, paid-open i z)))
       (λ (up : 0 < at (st .marks) i).
       rw (ne-eqb (at (st .marks) i) 0 (omega arith)) (omega (arith, paid-closed i up, share-closed i up)))
@@ -88,17 +87,17 @@ module _ (ws cs : List ℕ) (st : Standing) (first : ℕ) where
   payments-length = table-length (length ws) (paid ws cs st first)
 
 module _ (total : ℕ) (ws cs : List ℕ) (st : Standing) (s : Sound total ws cs st) where
-  pub open-whole : whole (openWeights ws st) ≡ st .weight
+  pub open-whole : whole (openWeights ws (st .marks)) ≡ st .weight
   unfolding whole sumWhere
   open-whole =
-      ap (λ (n : ℕ). sumTo n (at (openWeights ws st))) (open-length ws st)
-      ∙ sum-same (length ws) (at (openWeights ws st)) (λ k. cond (eqb (at (st .marks) k) 0) (at ws k) 0) (λ i l. open-at ws st i)
+      ap (λ (n : ℕ). sumTo n (at (openWeights ws (st .marks)))) (open-length ws (st .marks))
+      ∙ sum-same (length ws) (at (openWeights ws (st .marks))) (λ k. cond (eqb (at (st .marks) k) 0) (at ws k) 0) (λ i l. open-at ws (st .marks) i)
       ∙ sym (s .weight-is)
 
   pub paid-none : (first i : ℕ) → at ws i ≡ 0 → paid ws cs st first i ≡ 0
   paid-none first i e =
       ⊎-elim
-      (λ (z : at (st .marks) i ≡ 0). paid-open ws cs st first i z ∙ share-zero (st .money) (openWeights ws st) first i (open-here ws st i z ∙ e))
+      (λ (z : at (st .marks) i ≡ 0). paid-open ws cs st first i z ∙ share-zero (st .money) (openWeights ws (st .marks)) first i (open-here ws (st .marks) i z ∙ e))
       (λ (up : 0 < at (st .marks) i). absurd (omega (arith, s .payers i up))) (eq-zero-or-pos (at (st .marks) i))
 
   pub payments-at : (first i : ℕ) → at (payments ws cs st first) i ≡ paid ws cs st first i
@@ -110,32 +109,32 @@ module _ (total : ℕ) (ws cs : List ℕ) (st : Standing) (s : Sound total ws cs
 
   -- the shares of the open and the shortfall are the money
   shared-money : (first : ℕ) → (0 < length ws → first < length ws)
-      → whole (shares (st .money) (openWeights ws st) first) + shortfall st ≡ st .money
+      → whole (shares (st .money) (openWeights ws (st .marks)) first) + shortfall st ≡ st .money
   unfolding shortfall
   shared-money first inside =
       ⊎-elim
       (λ (e : st .weight ≡ 0). rw (eq-eqb (st .weight) 0 e) (omega (arith, none e)))
       (λ (some : 0 < st .weight).
       rw (ne-eqb (st .weight) 0 (omega arith))
-      (omega (arith, shares-sum (st .money) (openWeights ws st) first (omega (arith, open-whole)) (rw (open-length ws st) inside))))
+      (omega (arith, shares-sum (st .money) (openWeights ws (st .marks)) first (omega (arith, open-whole)) (rw (open-length ws (st .marks)) inside))))
       (eq-zero-or-pos (st .weight))
     where
-      none : st .weight ≡ 0 → whole (shares (st .money) (openWeights ws st) first) ≡ 0
+      none : st .weight ≡ 0 → whole (shares (st .money) (openWeights ws (st .marks)) first) ≡ 0
       none e =
           unfold whole in
-          sum-zero (length (shares (st .money) (openWeights ws st) first)) (at (shares (st .money) (openWeights ws st) first))
-          (λ i l. shares-none (st .money) (openWeights ws st) first (open-whole ∙ e) i)
+          sum-zero (length (shares (st .money) (openWeights ws (st .marks)) first)) (at (shares (st .money) (openWeights ws (st .marks)) first))
+          (λ i l. shares-none (st .money) (openWeights ws (st .marks)) first (open-whole ∙ e) i)
 
   -- payments are the shares of the open and the caps of the closed
   paid-whole : (first : ℕ) → whole (payments ws cs st first)
-      ≡ whole (shares (st .money) (openWeights ws st) first) + sumWhere (length ws) (marked (st .marks)) (at cs)
+      ≡ whole (shares (st .money) (openWeights ws (st .marks)) first) + sumWhere (length ws) (hasClosed (st .marks)) (at cs)
   unfolding whole sumWhere
   paid-whole first =
-      rw (payments-length ws cs st first, shares-length (st .money) (openWeights ws st) first, open-length ws st)
+      rw (payments-length ws cs st first, shares-length (st .money) (openWeights ws (st .marks)) first, open-length ws (st .marks))
       (sum-same (length ws) (at (payments ws cs st first))
-      (λ i. at (shares (st .money) (openWeights ws st) first) i + cond (marked (st .marks) i) (at cs i) 0)
+      (λ i. at (shares (st .money) (openWeights ws (st .marks)) first) i + cond (hasClosed (st .marks) i) (at cs i) 0)
       (λ i l. payments-at first i ∙ paid-parts ws cs st first i)
-      ∙ sum-add (length ws) (at (shares (st .money) (openWeights ws st) first)) (λ i. cond (marked (st .marks) i) (at cs i) 0))
+      ∙ sum-add (length ws) (at (shares (st .money) (openWeights ws (st .marks)) first)) (λ i. cond (hasClosed (st .marks) i) (at cs i) 0))
 
   pub sound-total : (first : ℕ) → (0 < length ws → first < length ws) → whole (payments ws cs st first) + shortfall st ≡ total
   sound-total first inside = omega (arith, paid-whole first, shared-money first inside, s .money-is)
@@ -165,34 +164,34 @@ module _ (total : ℕ) (ws cs : List ℕ) where
       (λ (z : at (end .marks) i ≡ 0). ⊎-elim (λ (e : at ws i ≡ 0). omega (arith, paid-none total ws cs end end-sound first i e))
       (λ (some : 0 < at ws i).
       rw (paid-open ws cs end first i z)
-      (share-under (end .money) (openWeights ws end) first i (at cs i)
-      (rw (open-whole total ws cs end end-sound, open-here ws end i z) (open-owe total ws cs i z some))))
+      (share-under (end .money) (openWeights ws (end .marks)) first i (at cs i)
+      (rw (open-whole total ws cs end end-sound, open-here ws (end .marks) i z) (open-owe total ws cs i z some))))
       (eq-zero-or-pos (at ws i)))
       (λ (up : 0 < at (end .marks) i). omega (arith, paid-closed ws cs end first i up)) (eq-zero-or-pos (at (end .marks) i))
 
   pub payment-le-cap : (first i : ℕ) → at (payments ws cs end first) i ≤ at cs i
   payment-le-cap first i = omega (arith, payments-at total ws cs end end-sound first i, paid-le-cap first i)
 
-  open-some : (i : ℕ) → at (end .marks) i ≡ 0 → 0 < at ws i → 0 < whole (openWeights ws end)
+  open-some : (i : ℕ) → at (end .marks) i ≡ 0 → 0 < at ws i → 0 < whole (openWeights ws (end .marks))
   open-some i z some = omega (arith, open-whole total ws cs end end-sound, open-weight total ws cs end end-sound i z)
 
   -- an open payer's payment is money times weight over the open weight, off by less than one
   pub open-rate-over : (first i : ℕ) → at (end .marks) i ≡ 0 → 0 < at ws i
       → paid ws cs end first i * end .weight < end .money * at ws i + end .weight
   open-rate-over first i z some =
-      let near = share-near-over (end .money) (openWeights ws end) first i (open-some i z some) in
-      rw (paid-open ws cs end first i z) (rw (open-whole total ws cs end end-sound, open-here ws end i z) at near)
+      let near = share-near-over (end .money) (openWeights ws (end .marks)) first i (open-some i z some) in
+      rw (paid-open ws cs end first i z) (rw (open-whole total ws cs end end-sound, open-here ws (end .marks) i z) at near)
 
   pub open-rate-short : (first i : ℕ) → at (end .marks) i ≡ 0 → 0 < at ws i
       → end .money * at ws i < paid ws cs end first i * end .weight + end .weight
   open-rate-short first i z some =
-      let near = share-near-short (end .money) (openWeights ws end) first i (open-some i z some) in
-      rw (paid-open ws cs end first i z) (rw (open-whole total ws cs end end-sound, open-here ws end i z) at near)
+      let near = share-near-short (end .money) (openWeights ws (end .marks)) first i (open-some i z some) in
+      rw (paid-open ws cs end first i z) (rw (open-whole total ws cs end end-sound, open-here ws (end .marks) i z) at near)
 
-  pub closed-caps : capsOf ws cs (marked (end .marks)) ≤ total
+  pub closed-caps : capsInside ws cs (hasClosed (end .marks)) ≤ total
   closed-caps = omega (arith, sound-caps total ws cs end end-sound)
 
-  pub all-capped : ((i : ℕ) → 0 < at ws i → 0 < at (end .marks) i) → shortfall end ≡ total - capsOf ws cs (marked (end .marks))
+  pub all-capped : ((i : ℕ) → 0 < at ws i → 0 < at (end .marks) i) → shortfall end ≡ total - capsInside ws cs (hasClosed (end .marks))
   unfolding shortfall
   all-capped all =
       rw (eq-eqb (end .weight) 0 (closed-weight total ws cs end end-sound all)) (omega (arith, sound-caps total ws cs end end-sound))

@@ -19,13 +19,14 @@ use native.Mathlib.Omega.{arith}
 use lib.Dec.{leb}
 use lib.ListN.{length, List·getD-eq-default}
 use borrow.Author.Tests.{lt-ltb, leb-false, eq-eqb, eqb-true}
+use Rattle.columns.specs.Sum.{whole}
 use Rattle.columns.specs.Table.{at}
 use Rattle.columns.proofs.Sum.{lt-or-le, count-some}
 use Rattle.columns.proofs.Mask.{where-zero, where-term}
 use Rattle.columns.proofs.Rank.{test-or}
-use Rattle.columns.specs.Sum.{whole}
 use Rattle.levy.specs.Rounds.{Standing, closes, closed, next, run, opening, final}
-use Rattle.levy.proofs.Step.{Sound, unmarked, run-keeps, closed-cross, closed-caps-le, closed-weights-le, closes-owe, mark-next, mark-past, next-money, next-weight, next-sound, opening-sound, opening-mark, final-ends, inside-weight}
+use Rattle.levy.proofs.Step.{Sound, notClosed, run-keeps, closed-cross, closed-caps-le, closed-weights-le, closes-owe, inside-weight}
+use Rattle.levy.proofs.Step.{mark-next, mark-past, next-money, next-weight, next-sound, opening-sound, opening-mark, final-ends}
 
 -- the step in plain numbers: caps a and weights b close, whose rate is at most the money's
 fall : (R W r w a b : ℕ) → R ≡ r + a → W ≡ w + b → a * W ≤ R * b → R * w ≤ r * W
@@ -118,7 +119,7 @@ module _ (total : ℕ) (ws cs : List ℕ) where
   pub open-weight : (st : Standing) → Sound total ws cs st → (i : ℕ) → at (st .marks) i ≡ 0 → at ws i ≤ st .weight
   open-weight st s i e =
       ⊎-elim
-      (λ (l : i < length ws). omega (arith, s .weight-is, where-term (length ws) (unmarked (st .marks)) (at ws) i l (eq-eqb (at (st .marks) i) 0 e)))
+      (λ (l : i < length ws). omega (arith, s .weight-is, where-term (length ws) (notClosed (st .marks)) (at ws) i l (eq-eqb (at (st .marks) i) 0 e)))
       (λ (l : length ws ≤ i). omega (arith, List·getD-eq-default ws 0 l)) (lt-or-le i (length ws))
 
   pub weight-closed : (st : Standing) → Sound total ws cs st → st .weight ≡ 0 → (i : ℕ) → 0 < at ws i → 0 < at (st .marks) i
@@ -128,6 +129,6 @@ module _ (total : ℕ) (ws cs : List ℕ) where
   pub closed-weight : (st : Standing) → Sound total ws cs st → ((i : ℕ) → 0 < at ws i → 0 < at (st .marks) i) → st .weight ≡ 0
   closed-weight st s all =
       s .weight-is
-      ∙ where-zero (length ws) (unmarked (st .marks)) (at ws)
+      ∙ where-zero (length ws) (notClosed (st .marks)) (at ws)
       (λ i l t. ⊎-elim (λ (z : at ws i ≡ 0). z)
       (λ (some : 0 < at ws i). absurd (omega (arith, all i some, eqb-true (at (st .marks) i) 0 t))) (eq-zero-or-pos (at ws i)))

@@ -1,6 +1,6 @@
 -- One round, and the run of rounds: what always holds between two rounds, and how `run` goes on and stops.
 --     Sound               how a standing hangs together with total, weights and caps
---     marked-up           who has closed has a mark above 0
+--     closed-up           who has closed has a mark above 0
 --     sound-caps          the money and the caps of those that closed are the total
 --     sound-weight        the open weight is at most the whole weight
 --     opening-sound       it holds before the first round
@@ -30,33 +30,32 @@ use mathlib.Core.List.{List}
 use native.Mathlib.Nat.{eq-zero-or-pos, mul-le-mul-left, le-of-mul-le-mul-right}
 use native.Mathlib.Omega.{arith}
 use lib.Dec.{leb, ltb, eqb}
-use lib.ListN.{length, replicate, getD, List·getD-eq-default}
+use lib.ListN.{length, length-replicate, List·getD-eq-default}
 use borrow.Author.Tests.{lt-ltb, ltb-true, leb-true, eq-eqb, ne-eqb, eqb-false, not-true}
-use Rattle.columns.specs.Sum.{bit, countTo, sumWhere}
+use Rattle.columns.specs.Sum.{bit, whole, countTo, sumWhere}
 use Rattle.columns.specs.Table.{at}
 use Rattle.columns.proofs.First.{left-true, right-true, and-false}
 use Rattle.columns.proofs.Sum.{lt-or-le, count-le, count-none, count-zero}
 use Rattle.columns.proofs.Mask.{where-same, where-parts, where-sub, where-whole, where-none, where-all, where-cross, where-term, count-parts}
 use Rattle.columns.proofs.Table.{table-length, table-at, table-past}
 use Rattle.columns.proofs.Rank.{test-or}
-use Rattle.columns.specs.Sum.{whole}
 use Rattle.levy.specs.Rounds.{Standing, isOpen, opens, closes, closed, next, run, opening, final}
-use Rattle.levy.specs.Capped.{inside, capsOf}
-pub use Rattle.levy.specs.Capped.{marked}
+use Rattle.levy.specs.Capped.{hasClosed, inside, capsInside}
+use Rattle.levy.proofs.Arrays.{zeros-at}
 
 -- position i has not closed
-abbrev pub unmarked : List ℕ → ℕ → Bool
-unmarked marks i = eqb (at marks i) 0
+abbrev pub notClosed : List ℕ → ℕ → Bool
+notClosed marks i = eqb (at marks i) 0
 
 pub record Sound (total : ℕ) (ws cs : List ℕ) (st : Standing) : Type 0 where
   pub long : length (st .marks) ≡ length ws
-  pub weight-is : st .weight ≡ sumWhere (length ws) (unmarked (st .marks)) (at ws)
-  pub money-is : st .money + sumWhere (length ws) (marked (st .marks)) (at cs) ≡ total
+  pub weight-is : st .weight ≡ sumWhere (length ws) (notClosed (st .marks)) (at ws)
+  pub money-is : st .money + sumWhere (length ws) (hasClosed (st .marks)) (at cs) ≡ total
   pub marks-le : (i : ℕ) → at (st .marks) i ≤ st .rounds
   pub payers : (i : ℕ) → 0 < at (st .marks) i → 0 < at ws i
 
-pub marked-up : (marks : List ℕ) (i : ℕ) → marked marks i ≡ true → 0 < at marks i
-marked-up marks i e =
+pub closed-up : (marks : List ℕ) (i : ℕ) → hasClosed marks i ≡ true → 0 < at marks i
+closed-up marks i e =
     ⊎-elim (λ (z : at marks i ≡ 0). absurd (eqb-false (at marks i) 0 (not-true (eqb (at marks i) 0) e) z)) (λ up. up) (eq-zero-or-pos (at marks i))
 
 -- whoever has weight stands in the column
@@ -70,8 +69,8 @@ module _ (ws cs : List ℕ) (st : Standing) where
   unfolding closes
   closes-open i e = left-true (isOpen ws (st .marks) i) (leb (at cs i * st .weight) (st .money * at ws i)) e
 
-  pub closes-unmarked : (i : ℕ) → closes ws cs st i ≡ true → unmarked (st .marks) i ≡ true
-  closes-unmarked i e = left-true (eqb (at (st .marks) i) 0) (ltb 0 (at ws i)) (closes-open i e)
+  pub closes-not-yet : (i : ℕ) → closes ws cs st i ≡ true → notClosed (st .marks) i ≡ true
+  closes-not-yet i e = left-true (eqb (at (st .marks) i) 0) (ltb 0 (at ws i)) (closes-open i e)
 
   pub closes-weight : (i : ℕ) → closes ws cs st i ≡ true → 0 < at ws i
   closes-weight i e = ltb-true 0 (at ws i) (right-true (eqb (at (st .marks) i) 0) (ltb 0 (at ws i)) (closes-open i e))
@@ -207,7 +206,7 @@ module _ (total : ℕ) (ws cs : List ℕ) where
         arith,
         closed-is ws cs st ws,
         s .weight-is,
-        where-sub (length ws) (closes ws cs st) (unmarked (st .marks)) (at ws) (λ i l e. closes-unmarked ws cs st i e),
+        where-sub (length ws) (closes ws cs st) (notClosed (st .marks)) (at ws) (λ i l e. closes-not-yet ws cs st i e),
       )
 
   -- the caps that close are at most the money
@@ -224,22 +223,22 @@ module _ (total : ℕ) (ws cs : List ℕ) where
           ∙ where-none (length ws) (closes ws cs st) (at cs)
           (λ i l. ⊎-elim
           (λ (t : closes ws cs st i ≡ true).
-          absurd (omega (arith, s .weight-is, closes-weight ws cs st i t, where-term (length ws) (unmarked (st .marks)) (at ws) i l (closes-unmarked ws cs st i t))))
+          absurd (omega (arith, s .weight-is, closes-weight ws cs st i t, where-term (length ws) (notClosed (st .marks)) (at ws) i l (closes-not-yet ws cs st i t))))
           (λ t. t) (test-or (closes ws cs st i)))
 
   -- the open weight is at most the whole weight, however many have closed
   pub sound-weight : (st : Standing) → Sound total ws cs st → st .weight ≤ whole ws
   unfolding whole
-  sound-weight st s = omega (arith, s .weight-is, where-whole (length ws) (unmarked (st .marks)) (at ws))
+  sound-weight st s = omega (arith, s .weight-is, where-whole (length ws) (notClosed (st .marks)) (at ws))
 
-  pub sound-caps : (st : Standing) → Sound total ws cs st → st .money + capsOf ws cs (marked (st .marks)) ≡ total
-  unfolding capsOf
+  pub sound-caps : (st : Standing) → Sound total ws cs st → st .money + capsInside ws cs (hasClosed (st .marks)) ≡ total
+  unfolding capsInside
   sound-caps st s =
       ap (λ (x : ℕ). st .money + x)
-      (where-same (length ws) (inside ws (marked (st .marks))) (marked (st .marks)) (at cs) (at cs)
+      (where-same (length ws) (inside ws (hasClosed (st .marks))) (hasClosed (st .marks)) (at cs) (at cs)
       (λ i l. ⊎-elim
-      (λ (e : marked (st .marks) i ≡ true). rw (lt-ltb 0 (at ws i) (s .payers i (marked-up (st .marks) i e))))
-      (λ (e : marked (st .marks) i ≡ false). rw e (and-false (ltb 0 (at ws i)))) (test-or (marked (st .marks) i)))
+      (λ (e : hasClosed (st .marks) i ≡ true). rw (lt-ltb 0 (at ws i) (s .payers i (closed-up (st .marks) i e))))
+      (λ (e : hasClosed (st .marks) i ≡ false). rw e (and-false (ltb 0 (at ws i)))) (test-or (hasClosed (st .marks) i)))
       (λ i l. refl))
       ∙ s .money-is
 
@@ -253,7 +252,7 @@ module _ (total : ℕ) (ws cs : List ℕ) where
               arith,
               s .weight-is,
               closed-is ws cs st ws,
-              where-parts (length ws) (unmarked (st .marks)) (unmarked (next ws cs st .marks)) (closes ws cs st) (at ws)
+              where-parts (length ws) (notClosed (st .marks)) (notClosed (next ws cs st .marks)) (closes ws cs st) (at ws)
                   (λ i l. rw (mark-next ws cs st i l) (open-part i (closes ws cs st i) refl)),
             ));
         money-is =
@@ -263,7 +262,7 @@ module _ (total : ℕ) (ws cs : List ℕ) where
               s .money-is,
               closed-caps-le st s,
               closed-is ws cs st cs,
-              where-parts (length ws) (marked (next ws cs st .marks)) (marked (st .marks)) (closes ws cs st) (at cs)
+              where-parts (length ws) (hasClosed (next ws cs st .marks)) (hasClosed (st .marks)) (closes ws cs st) (at cs)
                   (λ i l. rw (mark-next ws cs st i l) (shut-part i (closes ws cs st i) refl)),
             ));
         marks-le = λ i. ⊎-elim (λ (l : i < length ws). rw (mark-next ws cs st i l, next-rounds ws cs st) (low i (closes ws cs st i)))
@@ -274,12 +273,12 @@ module _ (total : ℕ) (ws cs : List ℕ) where
     where
       open-part : (i : ℕ) (t : Bool) → closes ws cs st i ≡ t
           → cond (eqb (at (st .marks) i) 0) (at ws i) 0 ≡ cond (eqb (cond t (suc (st .rounds)) (at (st .marks) i)) 0) (at ws i) 0 + cond t (at ws i) 0
-      open-part i true e = rw (closes-unmarked ws cs st i e, ne-eqb (suc (st .rounds)) 0 (omega arith)) (omega arith)
+      open-part i true e = rw (closes-not-yet ws cs st i e, ne-eqb (suc (st .rounds)) 0 (omega arith)) (omega arith)
       open-part i false e = omega arith
 
       shut-part : (i : ℕ) (t : Bool) → closes ws cs st i ≡ t
           → cond (not (eqb (cond t (suc (st .rounds)) (at (st .marks) i)) 0)) (at cs i) 0 ≡ cond (not (eqb (at (st .marks) i) 0)) (at cs i) 0 + cond t (at cs i) 0
-      shut-part i true e = rw (closes-unmarked ws cs st i e, ne-eqb (suc (st .rounds)) 0 (omega arith)) (omega arith)
+      shut-part i true e = rw (closes-not-yet ws cs st i e, ne-eqb (suc (st .rounds)) 0 (omega arith)) (omega arith)
       shut-part i false e = omega arith
 
       low : (i : ℕ) (t : Bool) → cond t (suc (st .rounds)) (at (st .marks) i) ≤ suc (st .rounds)
@@ -292,27 +291,18 @@ module _ (total : ℕ) (ws cs : List ℕ) where
 
   pub opening-mark : (i : ℕ) → at (opening total ws .marks) i ≡ 0
   unfolding opening
-  opening-mark i = none (length ws) i
-    where
-      none : (n i : ℕ) → getD {A = ℕ} (replicate n 0) i 0 ≡ 0
-      none zero i = refl
-      none (suc n) zero = refl
-      none (suc n) (suc i) = none n i
+  opening-mark i = zeros-at (length ws) i
 
   pub opening-sound : Sound total ws cs (opening total ws)
   unfolding opening whole
   opening-sound =
       record {
-        long = opening-long (length ws);
-        weight-is = sym (where-all (length ws) (unmarked (opening total ws .marks)) (at ws) (λ i l. rw (opening-mark i)));
-        money-is = omega (arith, where-none (length ws) (marked (opening total ws .marks)) (at cs) (λ i l. rw (opening-mark i)));
+        long = length-replicate {A = ℕ} (length ws) 0;
+        weight-is = sym (where-all (length ws) (notClosed (opening total ws .marks)) (at ws) (λ i l. rw (opening-mark i)));
+        money-is = omega (arith, where-none (length ws) (hasClosed (opening total ws .marks)) (at cs) (λ i l. rw (opening-mark i)));
         marks-le = λ i. omega (arith, opening-mark i);
         payers = λ i l. absurd (omega (arith, opening-mark i));
       }
-    where
-      opening-long : (n : ℕ) → length {A = ℕ} (replicate n 0) ≡ n
-      opening-long zero = refl
-      opening-long (suc n) = ap suc (opening-long n)
 
   pub run-sound : (f : ℕ) (st : Standing) → Sound total ws cs st → Sound total ws cs (run f ws cs st)
   run-sound = run-keeps ws cs (Sound total ws cs) (λ st some s. next-sound st s)

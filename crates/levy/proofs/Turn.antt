@@ -58,8 +58,8 @@ module _ (n : ℕ) (weights caps marks₀ : List ℕ) (money weight rounds : ℕ
 
   pub products : (i : ℕ) → i < n → (at caps i * weight < 2 ^ 63) × (money * at weights i < 2 ^ 63)
   products i l = (
-    product 44000000 140800000000 (2 ^ 63) (omega (arith, asked .columns .low i, getD-take n caps i 0 l)) (asked .heavy) tt,
-    product 6400000000 550000000 (2 ^ 63) (asked .columns .rich) (omega (arith, asked .columns .light i, getD-take n weights i 0 l)) tt,
+    product 44000000 140800000000 (2 ^ 63) (omega (arith, asked .held .low i, getD-take n caps i 0 l)) (asked .heavy) tt,
+    product 6400000000 550000000 (2 ^ 63) (asked .held .rich) (omega (arith, asked .held .light i, getD-take n weights i 0 l)) tt,
   )
 
   where-small : (xs : List ℕ) (b i : ℕ) → ((k : ℕ) → at xs k ≤ b) → sumWhere i hit (at xs) ≤ b * i
@@ -89,9 +89,9 @@ module _ (n : ℕ) (weights caps marks₀ : List ℕ) (money weight rounds : ℕ
         omega (
           arith,
           turn .caps-are,
-          asked .columns .few,
-          where-small (take n caps) 44000000 i (asked .columns .low),
-          counted-le t (at caps i) r 44000000 (omega (arith, asked .columns .low i, getD-take n caps i 0 l)) e,
+          asked .held .few,
+          where-small (take n caps) 44000000 i (asked .held .low),
+          counted-le t (at caps i) r 44000000 (omega (arith, asked .held .low i, getD-take n caps i 0 l)) e,
         )
 
     pub weights-fit : (t : Bool) (r : ℕ) → r ≡ cond t (at weights i) 0 → g + r < 2 ^ 64
@@ -99,9 +99,9 @@ module _ (n : ℕ) (weights caps marks₀ : List ℕ) (money weight rounds : ℕ
         omega (
           arith,
           turn .weights-are,
-          asked .columns .few,
-          where-small (take n weights) 550000000 i (asked .columns .light),
-          counted-le t (at weights i) r 550000000 (omega (arith, asked .columns .light i, getD-take n weights i 0 l)) e,
+          asked .held .few,
+          where-small (take n weights) 550000000 i (asked .held .light),
+          counted-le t (at weights i) r 550000000 (omega (arith, asked .held .light i, getD-take n weights i 0 l)) e,
         )
 
     sum-step : (xs : List ℕ) (t : Bool) → t ≡ hit i → (r : ℕ) → r ≡ cond t (at xs i) 0 → (sum : ℕ)
@@ -122,18 +122,18 @@ module _ (n : ℕ) (weights caps marks₀ : List ℕ) (money weight rounds : ℕ
           weights-are = sum-step weights t e s s-is g (turn .weights-are);
           reached =
               reached-next 0 (marksAfter n weights caps marks₀ money weight rounds) marks₀ marks i m (turn .reached)
-              (omega (arith, turn .reached .room, asked .columns .marks-long, asked .columns .few))
+              (omega (arith, turn .reached .room, asked .held .marks-long, asked .held .few))
               (rw (← e, getD-take n marks₀ i 0 l, ← still, ← (add-one rounds)) m-is);
           past = drop-set-lt n marks i m l ∙ turn .past;
         }
 
   pub turn-end : (marks : List ℕ) (p g i : ℕ) → Turn n weights caps marks₀ money weight rounds marks p g i → n ≤ i
-      → Shut n weights caps marks₀ (standing n marks₀ money weight rounds) marks (record { caps = p; weights = g })
+      → Shut n weights caps marks₀ (standing n marks₀ money weight rounds) marks (record { caps = record { 0 = p }; weights = g })
   turn-end marks p g i turn q =
       record {
         marks-are =
             unfold next in table-is 0 (take n marks) (length (take n weights)) (marksAfter n weights caps marks₀ money weight rounds)
-            (omega (arith, wide, length-take-le n marks (omega (arith, long, asked .columns .few))))
+            (omega (arith, wide, length-take-le n marks (omega (arith, long, asked .held .few))))
             (λ k l. getD-take n marks k 0 (omega (arith, wide)) ∙ turn .reached .done k (omega (arith, wide)));
         past = turn .past;
         long = long;
@@ -145,10 +145,10 @@ module _ (n : ℕ) (weights caps marks₀ : List ℕ) (money weight rounds : ℕ
       st = standing n marks₀ money weight rounds
 
       long : length marks ≡ 256
-      long = turn .reached .room ∙ asked .columns .marks-long
+      long = turn .reached .room ∙ asked .held .marks-long
 
       wide : length (take n weights) ≡ n
-      wide = length-take-le n weights (omega (arith, asked .columns .weights-long, asked .columns .few))
+      wide = length-take-le n weights (omega (arith, asked .held .weights-long, asked .held .few))
 
       ended : i ≡ length (take n weights)
       ended = omega (arith, wide, turn .within)

@@ -22,8 +22,8 @@ use Rattle.columns.proofs.Sum.{lt-or-le, sum-same, count-some}
 use Rattle.columns.proofs.Mask.{where-parts, where-zero, where-term, where-cross, where-cross-lt}
 use Rattle.columns.proofs.Rank.{test-or}
 use Rattle.levy.specs.Rounds.{Standing, final}
-use Rattle.levy.specs.Capped.{marked, inside, outside, capsOf, leftBy, weightsBeside, Capped}
-use Rattle.levy.proofs.Step.{unmarked, inside-weight, marked-up, sound-caps, final-sound}
+use Rattle.levy.specs.Capped.{hasClosed, inside, outside, capsInside, leftBy, weightsBeside, Capped}
+use Rattle.levy.proofs.Step.{notClosed, inside-weight, closed-up, sound-caps, final-sound}
 use Rattle.levy.proofs.Rate.{capped-owe, open-owe}
 
 and-true : (s t : Bool) → s ≡ true → t ≡ true → s && t ≡ true
@@ -73,31 +73,31 @@ clash R₀ W₀ R W A B k eR eW less enough = omega (arith, rw (eR, eW) at less)
 
 module _ (total : ℕ) (ws cs : List ℕ) where
   -- with weight beside it a rate of 0 reaches only caps of 0
-  pub caps-within : (p : ℕ → Bool) → Capped total ws cs p → capsOf ws cs p ≤ total
+  pub caps-within : (p : ℕ → Bool) → Capped total ws cs p → capsInside ws cs p ≤ total
   unfolding leftBy
   caps-within p h =
       ⊎-elim
       (λ (z : weightsBeside ws p ≡ 0). h .all (beside-none ws p z))
       (λ (some : 0 < weightsBeside ws p).
       ⊎-elim
-      (λ (over : total < capsOf ws cs p). absurd (omega (arith, zero-caps some over)))
-      (λ (fits : capsOf ws cs p ≤ total). fits) (lt-or-le total (capsOf ws cs p)))
+      (λ (over : total < capsInside ws cs p). absurd (omega (arith, zero-caps some over)))
+      (λ (fits : capsInside ws cs p ≤ total). fits) (lt-or-le total (capsInside ws cs p)))
       (eq-zero-or-pos (weightsBeside ws p))
     where
-      zero-caps : 0 < weightsBeside ws p → total < capsOf ws cs p → capsOf ws cs p ≡ 0
+      zero-caps : 0 < weightsBeside ws p → total < capsInside ws cs p → capsInside ws cs p ≡ 0
       zero-caps some over =
-          unfold capsOf in
+          unfold capsInside in
           where-zero (length ws) (inside ws p) (at cs)
           (λ i l e.
-          let z : total - capsOf ws cs p ≡ 0 = omega arith in
+          let z : total - capsInside ws cs p ≡ 0 = omega arith in
           let low : at cs i * weightsBeside ws p ≤ 0 * at ws i = rw z at (h .enough i e) in
           let c : at cs i ≤ 0 = le-of-mul-le-mul-right {k = weightsBeside ws p} (omega arith) some in
           omega arith)
 
   -- of two sets with the property, neither is larger
   module _ (p q : ℕ → Bool) (hp : Capped total ws cs p) (hq : Capped total ws cs q) (sub : (i : ℕ) → inside ws p i ≡ true → q i ≡ true) where
-    more-caps : capsOf ws cs q ≡ capsOf ws cs p + sumWhere (length ws) (more p q ws) (at cs)
-    unfolding capsOf more
+    more-caps : capsInside ws cs q ≡ capsInside ws cs p + sumWhere (length ws) (more p q ws) (at cs)
+    unfolding capsInside more
     more-caps =
         where-parts (length ws) (inside ws q) (inside ws p) (more p q ws) (at cs)
         (λ i l. grown (ltb 0 (at ws i)) (p i) (q i) (at cs i) (sub i))
@@ -189,7 +189,7 @@ module _ (total : ℕ) (ws cs : List ℕ) where
   end = final total ws cs
 
   abbrev closers : ℕ → Bool
-  closers = marked (end .marks)
+  closers = hasClosed (end .marks)
 
   pub closers-left : leftBy total ws cs closers ≡ end .money
   unfolding leftBy
@@ -198,9 +198,9 @@ module _ (total : ℕ) (ws cs : List ℕ) where
   pub closers-beside : weightsBeside ws closers ≡ end .weight
   unfolding weightsBeside sumWhere
   closers-beside =
-      sum-same (length ws) (λ i. cond (outside ws closers i) (at ws i) 0) (λ i. cond (unmarked (end .marks) i) (at ws i) 0)
-      (λ i l. ⊎-elim (λ (z : at ws i ≡ 0). rw z (none (unmarked (end .marks) i)))
-      (λ (some : 0 < at ws i). rw (lt-ltb 0 (at ws i) some) (twice (unmarked (end .marks) i) (at ws i))) (eq-zero-or-pos (at ws i)))
+      sum-same (length ws) (λ i. cond (outside ws closers i) (at ws i) 0) (λ i. cond (notClosed (end .marks) i) (at ws i) 0)
+      (λ i l. ⊎-elim (λ (z : at ws i ≡ 0). rw z (none (notClosed (end .marks) i)))
+      (λ (some : 0 < at ws i). rw (lt-ltb 0 (at ws i) some) (twice (notClosed (end .marks) i) (at ws i))) (eq-zero-or-pos (at ws i)))
       ∙ sym (final-sound total ws cs .weight-is)
     where
       none : (t : Bool) → _≡_ {A = ℕ} (cond (ltb 0 0 && not (not t)) 0 0) (cond t 0 0)
@@ -213,16 +213,16 @@ module _ (total : ℕ) (ws cs : List ℕ) where
 
   -- who is beside the closers is open
   beside-open : (i : ℕ) → outside ws closers i ≡ true → at (end .marks) i ≡ 0
-  beside-open i e = eqb-true (at (end .marks) i) 0 (not-false (unmarked (end .marks) i) (beside-is (at ws i) (closers i) e))
+  beside-open i e = eqb-true (at (end .marks) i) 0 (not-false (notClosed (end .marks) i) (beside-is (at ws i) (closers i) e))
 
-  pub final-capped : Capped total ws cs (marked (final total ws cs .marks))
+  pub final-capped : Capped total ws cs (hasClosed (final total ws cs .marks))
   final-capped =
       record {
         less = λ i e. rw (closers-left, closers-beside)
             (open-owe total ws cs i (beside-open i e) (ltb-true 0 (at ws i) (left-true (ltb 0 (at ws i)) (not (closers i)) e)));
-        enough = λ i e. rw (closers-left, closers-beside) (capped-owe total ws cs i (marked-up (end .marks) i (in-set-is (at ws i) (closers i) e)));
+        enough = λ i e. rw (closers-left, closers-beside) (capped-owe total ws cs i (closed-up (end .marks) i (in-set-is (at ws i) (closers i) e)));
         all = λ none. omega (arith, sound-caps total ws cs end (final-sound total ws cs));
       }
 
-  pub capped-unique : (p : ℕ → Bool) → Capped total ws cs p → (i : ℕ) → 0 < at ws i → p i ≡ marked (final total ws cs .marks) i
+  pub capped-unique : (p : ℕ → Bool) → Capped total ws cs p → (i : ℕ) → 0 < at ws i → p i ≡ hasClosed (final total ws cs .marks) i
   capped-unique p h = capped-same p closers h final-capped

@@ -6,10 +6,10 @@ use mathlib.Core.Bool.{cond}
 use mathlib.Core.List.{List}
 use lib.Dec.{eqb}
 use lib.ListN.{length, take, drop, replicate}
-use Rattle.columns.specs.Sum.{sumWhere}
+use Rattle.columns.specs.Sum.{whole, sumWhere}
 use Rattle.columns.specs.Table.{at}
-use Rattle.columns.specs.Sum.{whole}
-use Rattle.levy.specs.Rounds.{Standing, opens, closed, next, run, final, paid, shortfall}
+use Rattle.share.specs.Share.{shares}
+use Rattle.levy.specs.Rounds.{Standing, opens, closed, next, run, final, openWeights, paid, shortfall}
 use Rattle.levy.specs.declared.Closed.{Closed}
 use Rattle.levy.specs.declared.Rest.{Rest}
 
@@ -19,14 +19,14 @@ standing n marks money weight rounds =
     record { marks = take n marks; money = money; weight = weight; rounds = rounds }
 
 abbrev pub standingOf : ℕ → List ℕ → Rest → Standing
-standingOf n marks r = standing n marks (r .money) (r .weight) (r .rounds)
+standingOf n marks r = standing n marks (r .money .0) (r .weight) (r .rounds)
 
 -- a column of numbers of 32 bits
 abbrev pub Small : List ℕ → Type 0
 Small xs = (i : ℕ) → at xs i < 2 ^ 32
 
--- weights and caps small enough that each product of a round stays below 2 ^ 63
-pub record Columns (n : ℕ) (weights caps marks : List ℕ) (money : ℕ) : Type 0 where
+-- the arrays that the rounds hold, with weights and caps small enough that each product of a round stays below 2 ^ 63
+pub record Held (n : ℕ) (weights caps marks : List ℕ) (money : ℕ) : Type 0 where
   pub few : n ≤ 256
   pub weights-long : length weights ≡ 256
   pub caps-long : length caps ≡ 256
@@ -35,9 +35,14 @@ pub record Columns (n : ℕ) (weights caps marks : List ℕ) (money : ℕ) : Typ
   pub low : (i : ℕ) → at (take n caps) i ≤ 44000000
   pub rich : money ≤ 6400000000
 
--- asked of one round
+-- asked by the rounds: nobody has closed yet
+pub record Levyable (n : ℕ) (weights caps marks : List ℕ) (total : ℕ) : Type 0 where
+  pub held : Held n weights caps marks total
+  pub blank : (i : ℕ) → at marks i ≡ 0
+
+-- asked by one round
 pub record Round (n : ℕ) (weights caps marks : List ℕ) (money weight rounds : ℕ) : Type 0 where
-  pub columns : Columns n weights caps marks money
+  pub held : Held n weights caps marks money
   pub heavy : weight ≤ 140800000000
   pub early : rounds ≤ 256
 
@@ -46,13 +51,13 @@ pub record Shut (n : ℕ) (weights caps marks : List ℕ) (st : Standing) (after
   pub marks-are : take n after ≡ next (take n weights) (take n caps) st .marks
   pub past : drop n after ≡ drop n marks
   pub long : length after ≡ 256
-  pub caps-are : r .caps ≡ closed (take n weights) (take n caps) st (take n caps)
+  pub caps-are : r .caps .0 ≡ closed (take n weights) (take n caps) st (take n caps)
   pub weights-are : r .weights ≡ closed (take n weights) (take n caps) st (take n weights)
 
 -- asked where redistribution begins, and again at each round: the weight is that of those who have not closed, marks are
 -- numbers of past rounds, only payers of weight above 0 have closed, and there are rounds enough for the open ones
 pub record Ready (n : ℕ) (weights caps marks : List ℕ) (money weight rounds : ℕ) : Type 0 where
-  pub columns : Columns n weights caps marks money
+  pub held : Held n weights caps marks money
   pub weight-is : weight ≡ sumWhere (length (take n weights)) (λ i. eqb (at (take n marks) i) 0) (at (take n weights))
   pub marks-le : (i : ℕ) → at (take n marks) i ≤ rounds
   pub payers : (i : ℕ) → 0 < at (take n marks) i → 0 < at (take n weights) i
@@ -77,9 +82,11 @@ pub record Finished (total n : ℕ) (weights caps after : List ℕ) (r : Rest) :
 abbrev pub Short : Rest → ℕ → Type 0
 Short r x = (n : ℕ) (marks : List ℕ) → x ≡ shortfall (standingOf n marks r)
 
--- the open weights do not depend on what else is known of the standing
-abbrev pub markedOnly : ℕ → List ℕ → Standing
-markedOnly n marks = standing n marks 0 0 0
+-- answered by the column of open weights
+pub record Still (n : ℕ) (weights marks still : List ℕ) : Type 0 where
+  pub is : take n still ≡ openWeights (take n weights) (take n marks)
+  pub small : Small (take n still)
+  pub long : length still ≡ 256
 
 -- asked by the payments: each fits its field
 pub record Payable (n : ℕ) (weights caps marks : List ℕ) (r : Rest) (first : ℕ) (out : List ℕ) : Type 0 where
@@ -100,6 +107,15 @@ pub record Made (caps marks parts out : List ℕ) : Type 0 where
   pub few : length out ≤ 256
   pub parts-long : length parts ≡ length out
   pub fits : (i : ℕ) → i < length out → paidFrom caps marks parts i < 2 ^ 32
+
+-- asked where the money left is shared over the open weights: the payments that come of it fit
+pub record Spread (money : ℕ) (still caps marks : List ℕ) (first : ℕ) (parts out : List ℕ) : Type 0 where
+  pub few : length still ≤ 256
+  pub small : Small still
+  pub parts-long : length parts ≡ length still
+  pub out-long : length out ≡ length still
+  pub turn : 0 < length still → first < length still
+  pub fits : (i : ℕ) → i < length out → paidFrom caps marks (shares money still first) i < 2 ^ 32
 
 -- room for two columns of n
 pub record Room (n : ℕ) (one two : List ℕ) : Type 0 where

@@ -1,4 +1,3 @@
-pub mod Weight
 pub mod Rounds
 pub mod Capped
 pub mod Asked

@@ -5,9 +5,8 @@ use mathlib.Core.Bool.{Bool, cond, _&&_}
 use mathlib.Core.List.{List}
 use lib.Dec.{leb, ltb, eqb}
 use lib.ListN.{length, replicate}
-use Rattle.columns.specs.Sum.{sumTo, countTo}
+use Rattle.columns.specs.Sum.{sumTo, whole, countTo}
 use Rattle.columns.specs.Table.{at, table}
-use Rattle.columns.specs.Sum.{whole}
 use Rattle.share.specs.Share.{share, shares}
 
 -- how things stand between two rounds: each payer's closing round (0 while it has not closed), the money and the weight
@@ -64,14 +63,14 @@ opening total ws =
 unfoldable pub final : ℕ → List ℕ → List ℕ → Standing
 final total ws cs = run (length ws) ws cs (opening total ws)
 
--- the weights that are still open
-unfoldable pub openWeights : List ℕ → Standing → List ℕ
-openWeights ws st = table (length ws) (λ i. cond (eqb (at (st .marks) i) 0) (at ws i) 0)
+-- the weights that are still open, by the marks
+unfoldable pub openWeights : List ℕ → List ℕ → List ℕ
+openWeights ws marks = table (length ws) (λ i. cond (eqb (at marks i) 0) (at ws i) 0)
 
 -- what position i pays: its cap if it closed, else its share of the money left over the open weights; fen are made here, once
 unfoldable pub paid : List ℕ → List ℕ → Standing → ℕ → ℕ → ℕ
 paid ws cs st first i =
-    cond (eqb (at (st .marks) i) 0) (share (st .money) (openWeights ws st) first i) (at cs i)
+    cond (eqb (at (st .marks) i) 0) (share (st .money) (openWeights ws (st .marks)) first i) (at cs i)
 
 unfoldable pub payments : List ℕ → List ℕ → Standing → ℕ → List ℕ
 payments ws cs st first = table (length ws) (paid ws cs st first)

@@ -1,26 +1,23 @@
-// Who pays and how much (01, Weights and caps; Rounds): weights, caps, rounds, payments, cuts.
+// Who pays and how much (01, Rounds; Article 32), on columns with a position for each row: rounds, payments, cuts. Money is fen, in
+// columns too. Weights are bare numbers of proportion: kWh today, thousandths of a kWh under request 10.
 mod closing;
 mod paying;
-mod weighing;
 
 pub use closing::rounds;
 pub use closing::shortfall;
 pub use paying::cuts;
 pub use paying::payments;
-pub use weighing::cap;
-pub use weighing::pays;
-pub use weighing::thermal_weight;
-pub use weighing::weight;
+use units::Fen;
 
 // What closes in one round: the caps and the weights of those that close, added up.
 pub struct Closed {
-    pub caps: u64,
+    pub caps: Fen,
     pub weights: u64,
 }
 
-// What is left after the last round, and how many rounds somebody closed in.
+// What is left after the last round, and in how many rounds a payer reached its cap.
 pub struct Rest {
-    pub money: u64,
+    pub money: Fen,
     pub weight: u64,
     pub rounds: u16,
 }

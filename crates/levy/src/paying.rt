@@ -1,7 +1,8 @@
 // Payments once the rounds have ended, and cuts (01, Rounds; Article 32). The one sharing rule makes the fen of both.
 use crate::Rest;
 use crate::closing::counted;
-use crate::closing::wide;
+use columns::wide;
+use units::Fen;
 ghost use mathlib.Core.Path.{_≡_};
 ghost use mathlib.Core.Bool.{cond};
 ghost use Prim.Native.Nat.{_^_, _≤_, _<_};
@@ -9,14 +10,13 @@ ghost use lib.Dec.{eqb};
 ghost use lib.ListN.{length, take};
 ghost use Rattle.columns.specs.Table.{table};
 ghost use Rattle.share.specs.Share.{shares};
-ghost use Rattle.levy.specs.Rounds.{openWeights, payments};
-ghost use Rattle.levy.specs.Asked.{standingOf, Small, markedOnly, Payable, paidFrom, Made, Room, Cuttable};
+ghost use Rattle.levy.specs.Rounds.{payments};
+ghost use Rattle.levy.specs.Asked.{standingOf, Small, Still, Payable, Spread, paidFrom, Made, Room, Cuttable};
 
 // The column of open weights.
-fn open_weights(n: usize, weights: &[u32; 256], marks: &[u16; 256], still: &mut [u64])
-    requires { ⌜ (n ≤ 256) × (length (now weights) ≡ 256) × (length (now still) ≡ n) ⌝ }
-    ensures { λ _. ⌜ (now (still .exit) ≡ openWeights (take n (now (weights .entry))) (markedOnly n (now (marks .entry))))
-        × Small (now (still .exit)) ⌝ }
+fn open_weights(n: usize, weights: &[u32; 256], marks: &[u32; 256], still: &mut [u64; 256])
+    requires { ⌜ (n ≤ 256) × (length (now weights) ≡ 256) × (length (now still) ≡ 256) ⌝ }
+    ensures { λ _. ⌜ Still n (now (weights .entry)) (now (marks .entry)) (now (still .exit)) ⌝ }
 {
     let mut i = 0;
     while i < n {
@@ -26,7 +26,7 @@ fn open_weights(n: usize, weights: &[u32; 256], marks: &[u16; 256], still: &mut 
 }
 
 // Who closed pays its cap, the others what they were given.
-fn paid_by(mark: u16, part: u64, cap: u32) -> u32
+fn paid_by(mark: u32, part: u64, cap: u32) -> u32
     requires { ⌜ cond (eqb mark 0) part cap < 2 ^ 32 ⌝ }
     ensures { λ r. ⌜ r ≡ cond (eqb mark 0) part cap ⌝ }
 {
@@ -37,7 +37,7 @@ fn paid_by(mark: u16, part: u64, cap: u32) -> u32
 }
 
 // The column of payments, from the shares of the money that was left.
-fn pay_out(parts: &[u64], caps: &[u32; 256], marks: &[u16; 256], out: &mut [u32])
+fn pay_out(parts: &[u64], caps: &[u32; 256], marks: &[u32; 256], out: &mut [u32])
     requires { ⌜ Made (now caps) (now marks) (now parts) (now out) ⌝ }
     ensures { λ _. ⌜ now (out .exit) ≡ table (length (now (out .entry)))
         (paidFrom (now (caps .entry)) (now (marks .entry)) (now (parts .entry))) ⌝ }
@@ -50,24 +50,21 @@ fn pay_out(parts: &[u64], caps: &[u32; 256], marks: &[u16; 256], out: &mut [u32]
     }
 }
 
-// Open weights, shares, payments; two columns of room are lent.
+// The money left, shared over the open weights, then payments; `parts` is room for the shares.
 fn pay_open(
-    n: usize,
-    rest: Rest,
-    weights: &[u32; 256],
+    money: Fen,
+    still: &[u64],
     caps: &[u32; 256],
-    marks: &[u16; 256],
+    marks: &[u32; 256],
     first: usize,
-    still: &mut [u64],
     parts: &mut [u64],
     out: &mut [u32],
 )
-    requires { ⌜ Payable n (now weights) (now caps) (now marks) rest first (now out) × Room n (now still) (now parts) ⌝ }
-    ensures { λ _. ⌜ now (out .exit) ≡ payments (take n (now (weights .entry))) (take n (now (caps .entry)))
-        (standingOf n (now (marks .entry)) rest) first ⌝ }
+    requires { ⌜ Spread (money .0) (now still) (now caps) (now marks) first (now parts) (now out) ⌝ }
+    ensures { λ _. ⌜ now (out .exit) ≡ table (length (now (out .entry)))
+        (paidFrom (now (caps .entry)) (now (marks .entry)) (shares (money .0) (now (still .entry)) first)) ⌝ }
 {
-    open_weights(n, weights, marks, still);
-    share::split(rest.money, still, first, parts);
+    share::split(money.0, still, first, parts);
     pay_out(parts, caps, marks, out);
 }
 
@@ -77,7 +74,7 @@ pub fn payments(
     rest: Rest,
     weights: &[u32; 256],
     caps: &[u32; 256],
-    marks: &[u16; 256],
+    marks: &[u32; 256],
     first: usize,
     out: &mut [u32],
 )
@@ -87,14 +84,13 @@ pub fn payments(
 {
     let mut still = [0u64; 256];
     let mut parts = [0u64; 256];
+    open_weights(n, weights, marks, &mut still);
     pay_open(
-        n,
-        rest,
-        weights,
+        rest.money,
+        &still[..n],
         caps,
         marks,
         first,
-        &mut still[..n],
         &mut parts[..n],
         out,
     );
@@ -128,25 +124,25 @@ fn narrow(from: &[u64], to: &mut [u32])
 
 // Compensations with room, shares, cuts; two columns of room are lent.
 fn cut_over(
-    shortfall: u64,
+    shortfall: Fen,
     compensations: &[u32],
     first: usize,
     weights: &mut [u64],
     parts: &mut [u64],
     out: &mut [u32],
 )
-    requires { ⌜ Cuttable shortfall (now compensations) first (now out) × Room (length (now compensations)) (now weights) (now parts) ⌝ }
-    ensures { λ _. ⌜ now (out .exit) ≡ shares shortfall (now (compensations .entry)) first ⌝ }
+    requires { ⌜ Cuttable (shortfall .0) (now compensations) first (now out) × Room (length (now compensations)) (now weights) (now parts) ⌝ }
+    ensures { λ _. ⌜ now (out .exit) ≡ shares (shortfall .0) (now (compensations .entry)) first ⌝ }
 {
     widen(compensations, weights);
-    share::split(shortfall, weights, first, parts);
+    share::split(shortfall.0, weights, first, parts);
     narrow(parts, out);
 }
 
 // The shortfall shared as cuts over the compensations.
-pub fn cuts(shortfall: u64, compensations: &[u32], first: usize, out: &mut [u32])
-    requires { ⌜ Cuttable shortfall (now compensations) first (now out) ⌝ }
-    ensures { λ _. ⌜ now (out .exit) ≡ shares shortfall (now (compensations .entry)) first ⌝ }
+pub fn cuts(shortfall: Fen, compensations: &[u32], first: usize, out: &mut [u32])
+    requires { ⌜ Cuttable (shortfall .0) (now compensations) first (now out) ⌝ }
+    ensures { λ _. ⌜ now (out .exit) ≡ shares (shortfall .0) (now (compensations .entry)) first ⌝ }
 {
     let n = compensations.len();
     let mut weights = [0u64; 256];

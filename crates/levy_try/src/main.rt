@@ -1,14 +1,9 @@
-// Worked figures of weights, caps and rounds (01, Checked figures, P2 to P6 and P10), run from code, proved and printed.
-use files::Row;
-use units::Hao;
-use units::Kwh;
-use units::Li;
+// The rounds of P1 to P5 (01, Checked figures: interval X at five tariffs) and a case of four rounds, run on columns. Weights and caps are
+// written as numbers; rounds, shortfall and payments are proved and printed. P6 to P11 are no matter of rounds and stand elsewhere.
+use units::Fen;
 ghost use mathlib.Core.Path.{_≡_};
-ghost use Prim.Native.Nat.{_^_, _≤_};
-ghost use lib.ListN.{take};
-ghost use Rattle.units.specs.Measure.{thermalCap};
-ghost use Rattle.levy.specs.Weight.{thermalWeight};
-ghost use Rattle.levy_try.specs.Shown.{Case, outcome, paidIn};
+ghost use lib.ListN.{take, replicate};
+ghost use Rattle.levy_try.specs.Shown.{Case, Worked, outcome, paidIn};
 
 fn show(x: u64) {
     io::print_decimal(1, x);
@@ -23,36 +18,6 @@ fn end_line() {
     io::write_all(1, b"\n");
 }
 
-// What a thermal unit of 100 MW counts for.
-fn shown_weight(energy: u32) -> u32
-    requires { ⌜ energy ≤ 2 ^ 30 ⌝ }
-    ensures { λ r. ⌜ r ≡ thermalWeight 12500 100 energy ⌝ }
-{
-    let w = levy::thermal_weight(Kwh(12500), 100, Kwh(energy));
-    show(w.0 as u64);
-    w.0
-}
-
-// The cap of a thermal row that has metered 1 kWh; its baseline is 0, so that it pays.
-fn shown_cap(tariff: u32) -> u64
-    ensures { λ r. ⌜ r ≡ thermalCap 1 tariff ⌝ }
-{
-    let r = Row {
-        id: 1,
-        kind: 1,
-        capacity: 1,
-        metered: Kwh(1),
-        status: 0,
-        offered: 0,
-        minimum: Kwh(0),
-        bid1: Li(0),
-        bid2: Li(0),
-    };
-    let c = levy::cap(Kwh(0), Hao(tariff), r);
-    show(c.0);
-    c.0
-}
-
 // A column on a line of its own.
 fn show_line(column: &[u32]) {
     let mut i = 0;
@@ -63,54 +28,46 @@ fn show_line(column: &[u32]) {
     end_line();
 }
 
-// All the rounds of a case, then what everybody pays.
-fn shown(total: u64, n: usize, weights: &[u32; 256], caps: &[u32; 256], out: &mut [u32]) -> [u64; 2]
-    requires { ⌜ Case total n (now weights) (now caps) (now out) ⌝ }
-    ensures { λ r. ⌜ (r ≡ outcome total (take n (now (weights .entry))) (take n (now (caps .entry))))
-        × (now (out .exit) ≡ paidIn total (take n (now (weights .entry))) (take n (now (caps .entry)))) ⌝ }
+// Marks before the first round.
+fn blank() -> [u32; 256]
+    ensures { λ r. ⌜ r ≡ replicate 256 0 ⌝ }
 {
-    let mut marks = [0u16; 256];
+    [0; 256]
+}
+
+// All the rounds of a case, then what everybody pays.
+fn shown(total: Fen, n: usize, weights: &[u32; 256], caps: &[u32; 256], out: &mut [u32]) -> [u64; 2]
+    requires { ⌜ Case (total .0) n (now weights) (now caps) (now out) ⌝ }
+    ensures { λ r. ⌜ (r ≡ outcome (total .0) (take n (now (weights .entry))) (take n (now (caps .entry))))
+        × (now (out .exit) ≡ paidIn (total .0) (take n (now (weights .entry))) (take n (now (caps .entry)))) ⌝ }
+{
+    let mut marks = blank();
     let rest = levy::rounds(total, n, weights, caps, &mut marks);
     let short = levy::shortfall(rest);
     levy::payments(n, rest, weights, caps, &marks, 0, out);
     show(rest.rounds as u64);
-    show(short);
+    show(short.0);
     end_line();
     show_line(out);
-    [rest.rounds as u64, short]
+    [rest.rounds as u64, short.0]
 }
 
-// P6 and P10.
-fn rows() {
-    check::expect(shown_weight(12500) == 0);
-    check::expect(shown_weight(15000) == 2500);
-    check::expect(shown_weight(15001) == 2502);
-    check::expect(shown_weight(17500) == 7500);
-    check::expect(shown_weight(17501) == 7503);
-    check::expect(shown_weight(27500) == 37500);
-    end_line();
-    check::expect(shown_cap(399) == 0);
-    check::expect(shown_cap(400) == 1);
-    end_line();
-}
-
-// Interval X at tariffs 1200 and 1000: two rounds, without and with a shortfall.
-fn interval() {
+// Interval X under the caps that a tariff gives rows 2 and 3, and what 01 says of it.
+fn interval(cap2: u32, cap3: u32, rounds: u64, shortfall: u64, paid2: u32, paid3: u32)
+    requires { ⌜ Worked cap2 cap3 rounds shortfall paid2 paid3 ⌝ }
+{
     let mut weights = [0u32; 256];
     weights[1] = 15000;
     weights[2] = 5000;
     let mut caps = [0u32; 256];
-    caps[1] = 60000;
-    caps[2] = 30000;
+    caps[1] = cap2;
+    caps[2] = cap3;
     let mut out = [0u32; 3];
-    let p4 = shown(90000, 3, &weights, &caps, &mut out);
-    check::expect(p4[0] == 2);
-    check::expect(out[2] == 30000);
-    caps[1] = 50000;
-    caps[2] = 25000;
-    let p5 = shown(90000, 3, &weights, &caps, &mut out);
-    check::expect(p5[1] == 15000);
-    check::expect(out[1] == 50000);
+    let told = shown(Fen(90000), 3, &weights, &caps, &mut out);
+    check::expect(told[0] == rounds);
+    check::expect(told[1] == shortfall);
+    check::expect(out[1] == paid2);
+    check::expect(out[2] == paid3);
 }
 
 // Five payers of one weight: one closes in each of four rounds, and the fifth pays what is left.
@@ -128,13 +85,17 @@ fn many() {
     caps[3] = 2290;
     caps[4] = 2100;
     let mut out = [0u32; 5];
-    let told = shown(10000, 5, &weights, &caps, &mut out);
+    let told = shown(Fen(10000), 5, &weights, &caps, &mut out);
     check::expect(told[0] == 4);
     check::expect(out[2] == 2308);
 }
 
+// P1 to P5, at tariffs 3545, 1350, 1300, 1200 and 1000, then the four rounds.
 fn main() {
-    rows();
-    interval();
+    interval(177250, 88625, 0, 0, 67500, 22500);
+    interval(67500, 33750, 1, 0, 67500, 22500);
+    interval(65000, 32500, 1, 0, 65000, 25000);
+    interval(60000, 30000, 2, 0, 60000, 30000);
+    interval(50000, 25000, 2, 15000, 50000, 25000);
     many();
 }

@@ -1,7 +1,6 @@
--- `levy_try::interval` meets its contract.
-use mathlib.Core.Path.{refl}
+-- `levy_try::interval` meets its contract: its figures are those that were asked for.
 use borrow.Author.Needs.{needs}
-use Rattle.levy_try.proofs.Cases.{got-at, ready, p4, p4-paid, p5, p5-paid}
+use Rattle.levy_try.proofs.Cases.{got-at, fit-x}
 use Rattle.levy_try.proofs.interval.Statement.{statement}
 use Rattle.levy_try.proofs.interval.Tie as tie
 
@@ -21,43 +20,31 @@ slice-aggregate-shown : tie.Need-slice-aggregate-shown
 slice-aggregate-shown c = search needs
 
 shown-requires : tie.Need-shown-requires
-shown-requires c κs = ready 90000 3 _ _ _ tt refl refl tt tt tt tt refl
+shown-requires c κs = fit-x _ _ _ _ _ _ (c .before .before .before .pre)
 
 array-read-expect : tie.Need-array-read-expect
 array-read-expect c = search needs
 
 expect-requires : tie.Need-expect-requires
-expect-requires c κs = got-at 0 2 _ _ _ (c .before .shown .ensures .0) p4 tt
+expect-requires c κs = let s = c .before in got-at 0 _ _ _ (s .shown .ensures .0) (s .before .before .before .before .pre .told)
 
 array-read-expect-2 : tie.Need-array-read-expect-2
 array-read-expect-2 c = search needs
 
 expect-requires-2 : tie.Need-expect-requires-2
-expect-requires-2 c κs = got-at 2 30000 _ _ _ (c .before .before .shown .ensures .1) p4-paid tt
-
-array-write-caps-3 : tie.Need-array-write-caps-3
-array-write-caps-3 c = search needs
-
-array-write-caps-4 : tie.Need-array-write-caps-4
-array-write-caps-4 c = search needs
-
-slice-aggregate-shown-2 : tie.Need-slice-aggregate-shown-2
-slice-aggregate-shown-2 c = search needs
-
-shown-requires-2 : tie.Need-shown-requires-2
-shown-requires-2 c κs = ready 90000 3 _ _ _ tt refl refl tt tt tt tt (search needs)
+expect-requires-2 c κs = let s = c .before .before in got-at 1 _ _ _ (s .shown .ensures .0) (s .before .before .before .before .pre .told)
 
 array-read-expect-3 : tie.Need-array-read-expect-3
 array-read-expect-3 c = search needs
 
 expect-requires-3 : tie.Need-expect-requires-3
-expect-requires-3 c κs = got-at 1 15000 _ _ _ (c .before .shown2 .ensures .0) p5 tt
+expect-requires-3 c κs = let s = c .before .before .before in got-at 1 _ _ _ (s .shown .ensures .1) (s .before .before .before .before .pre .made)
 
 array-read-expect-4 : tie.Need-array-read-expect-4
 array-read-expect-4 c = search needs
 
 expect-requires-4 : tie.Need-expect-requires-4
-expect-requires-4 c κs = got-at 1 50000 _ _ _ (c .before .before .shown2 .ensures .1) p5-paid tt
+expect-requires-4 c κs = let s = c .before .before .before .before in got-at 2 _ _ _ (s .shown .ensures .1) (s .before .before .before .before .pre .made)
 
 returns : tie.Need-returns
 returns c = search needs
@@ -76,10 +63,6 @@ interval-spec =
     expect-requires
     array-read-expect-2
     expect-requires-2
-    array-write-caps-3
-    array-write-caps-4
-    slice-aggregate-shown-2
-    shown-requires-2
     array-read-expect-3
     expect-requires-3
     array-read-expect-4

@@ -1,11 +1,14 @@
 -- `levy_try::shown` meets its contract.
 use borrow.Author.Needs.{needs}
-use Rattle.levy_try.proofs.Cases.{pay-asked, told, made}
+use Rattle.levy_try.proofs.Cases.{fit, pay-asked, told, made}
 use Rattle.levy_try.proofs.shown.Statement.{statement}
 use Rattle.levy_try.proofs.shown.Tie as tie
 
+blank-requires : tie.Need-blank-requires
+blank-requires c κs = search needs
+
 rounds-requires : tie.Need-rounds-requires
-rounds-requires c κs = search needs
+rounds-requires c κs = search fit
 
 shortfall-requires : tie.Need-shortfall-requires
 shortfall-requires c κs = search needs
@@ -28,8 +31,8 @@ end-line-requires c κs = search needs
 show-line-requires : tie.Need-show-line-requires
 show-line-requires c κs = search needs
 
-cast-t14 : tie.Need-cast-t14
-cast-t14 c = search needs
+cast-t15 : tie.Need-cast-t15
+cast-t15 c = search needs
 
 same-length : tie.Need-same-length
 same-length c = search needs
@@ -41,6 +44,7 @@ pub shown-spec : {M : Type 1} → statement M
 shown-spec =
     tie.close
     (tie.spec
+    blank-requires
     rounds-requires
     shortfall-requires
     payments-requires
@@ -49,6 +53,6 @@ shown-spec =
     show-requires-2
     end-line-requires
     show-line-requires
-    cast-t14
+    cast-t15
     same-length
     returns)

@@ -45,21 +45,21 @@ redistribute-returns : (t : ℕ) → redistribute-lts.Need-returns (
 ) (redistribute-at t) redistribute.Post
 redistribute-returns t c = search stopped
 
+redistribute-sub-t14 : (t : ℕ) → redistribute-lts.Need-sub-t14 (
+  close-round-reads.Asked,
+  close-round-reads.Learnt,
+  redistribute-below t,
+  redistribute.Post,
+) (redistribute-at t) redistribute.Post
+redistribute-sub-t14 t c = search (caps-in, needs)
+
 redistribute-sub-redistribute : (t : ℕ) → redistribute-lts.Need-sub-redistribute (
   close-round-reads.Asked,
   close-round-reads.Learnt,
   redistribute-below t,
   redistribute.Post,
 ) (redistribute-at t) redistribute.Post
-redistribute-sub-redistribute t c = search (caps-in, needs)
-
-redistribute-sub-redistribute-2 : (t : ℕ) → redistribute-lts.Need-sub-redistribute-2 (
-  close-round-reads.Asked,
-  close-round-reads.Learnt,
-  redistribute-below t,
-  redistribute.Post,
-) (redistribute-at t) redistribute.Post
-redistribute-sub-redistribute-2 t c = search (weights-in, needs)
+redistribute-sub-redistribute t c = search (weights-in, needs)
 
 redistribute-add-redistribute : (t : ℕ) → redistribute-lts.Need-add-redistribute (
   close-round-reads.Asked,
@@ -96,8 +96,8 @@ pub +redistribute-spec : {M : Type 1} → statement M
     redistribute.Post
     (redistribute-close-round-requires t)
     (redistribute-returns t)
+    (redistribute-sub-t14 t)
     (redistribute-sub-redistribute t)
-    (redistribute-sub-redistribute-2 t)
     (redistribute-add-redistribute t)
     (redistribute-redistribute-requires t)
     (redistribute-returns-2 t)

@@ -7,7 +7,7 @@ use Rattle.levy.proofs.closing.close_round.Tie as tie
 
 abbrev Inv-loop : tie.InvT-loop
 Inv-loop money weight rounds n weights caps marks₀ closed-caps₀ closed-weights₀ i₀ marks closed-caps closed-weights i =
-    Turn n weights caps marks₀ money weight rounds marks closed-caps closed-weights i
+    Turn n weights caps marks₀ (money .0) weight rounds marks closed-caps closed-weights i
 
 abbrev μ-loop : tie.MeasureT-loop
 μ-loop money weight rounds n weights caps marks₀ closed-caps₀ closed-weights₀ i₀ marks closed-caps closed-weights i =

@@ -6,7 +6,7 @@ use Rattle.levy.proofs.closing.shortfall.Tie as tie
 
 returns : tie.Need-returns
 unfolding shortfall
-returns c = λ n marks. rw (eq-eqb _ 0 (c .if1 .taken))
+returns c = λ n marks. rw (eq-eqb _ 0 (c .before .if1 .taken))
 
 returns-2 : tie.Need-returns-2
 unfolding shortfall

@@ -8,7 +8,7 @@ widen-requires : tie.Need-widen-requires
 widen-requires c κs = search needs
 
 split-requires : tie.Need-split-requires
-split-requires c κs = search cut-split
+split-requires c κs = search (cut-split, needs)
 
 narrow-requires : tie.Need-narrow-requires
 narrow-requires c κs = search (cut-long, cut-small)

@@ -1,7 +1,7 @@
 -- `levy::open_weights` meets its contract: the positions passed have their weight, or 0 if they closed.
 use Prim.Native.Nat.{_-_}
 use borrow.Author.Needs.{needs}
-use Rattle.levy.proofs.Fill.{Fill, openAt, fill-none, fill-on, fill-small, open-at, open-end}
+use Rattle.levy.proofs.Fill.{Fill, openAt, fill-none, open-on, open-end}
 use Rattle.levy.proofs.paying.open_weights.Statement.{statement}
 use Rattle.levy.proofs.paying.open_weights.Tie as tie
 
@@ -32,8 +32,8 @@ counted-requires c κs = search needs
 mul-still : tie.Need-mul-still Inv-loop μ-loop
 mul-still c = search needs
 
-slice-write-still : tie.Need-slice-write-still Inv-loop μ-loop
-slice-write-still c = search needs
+element-write-still : tie.Need-element-write-still Inv-loop μ-loop
+element-write-still c = search needs
 
 add-i : tie.Need-add-i Inv-loop μ-loop
 add-i c = search needs
@@ -42,13 +42,10 @@ loop-less : tie.Need-loop-less Inv-loop μ-loop
 loop-less c = search needs
 
 loop-again : tie.Need-loop-again Inv-loop μ-loop
-loop-again c = search (fill-on, open-at)
-
-same-length : tie.Need-same-length Inv-loop μ-loop
-same-length c = search needs
+loop-again c = search open-on
 
 returns : tie.Need-returns Inv-loop μ-loop
-returns c = search (open-end, fill-small)
+returns c = search open-end
 
 pub open-weights-spec : {M : Type 1} → statement M
 open-weights-spec =
@@ -63,9 +60,8 @@ open-weights-spec =
     element-copy-out-counted-2
     counted-requires
     mul-still
-    slice-write-still
+    element-write-still
     add-i
     loop-less
     loop-again
-    same-length
     returns)

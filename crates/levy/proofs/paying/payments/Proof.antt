@@ -1,12 +1,15 @@
 -- `levy::payments` meets its contract: it only lends columns.
 use borrow.Author.Needs.{needs}
 use Rattle.columns.proofs.Table.{front-long}
-use Rattle.levy.proofs.Making.{front-room}
+use Rattle.levy.proofs.Making.{pay-spread, payments-made}
 use Rattle.levy.proofs.paying.payments.Statement.{statement}
 use Rattle.levy.proofs.paying.payments.Tie as tie
 
-array-borrow-prefix-still : tie.Need-array-borrow-prefix-still
-array-borrow-prefix-still c = search needs
+open-weights-requires : tie.Need-open-weights-requires
+open-weights-requires c κs = search needs
+
+array-share-prefix-still : tie.Need-array-share-prefix-still
+array-share-prefix-still c = search needs
 
 slice-aggregate-pay-open : tie.Need-slice-aggregate-pay-open
 slice-aggregate-pay-open c = search front-long
@@ -18,19 +21,20 @@ slice-aggregate-pay-open-2 : tie.Need-slice-aggregate-pay-open-2
 slice-aggregate-pay-open-2 c = search front-long
 
 pay-open-requires : tie.Need-pay-open-requires
-pay-open-requires c κs = (search needs, search front-room)
+pay-open-requires c κs = search pay-spread
 
 same-length : tie.Need-same-length
 same-length c = search needs
 
 returns : tie.Need-returns
-returns c = search needs
+returns c = search payments-made
 
 pub payments-spec : {M : Type 1} → statement M
 payments-spec =
     tie.close
     (tie.spec
-    array-borrow-prefix-still
+    open-weights-requires
+    array-share-prefix-still
     slice-aggregate-pay-open
     array-borrow-prefix-parts
     slice-aggregate-pay-open-2
