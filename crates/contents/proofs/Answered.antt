@@ -147,18 +147,18 @@ head-then-rows c out l m p q =
 
 pub read-refused : (s : List ℕ) (v : Verdict) (number place : ℕ) (z : Contents) → v ≡ verdict (rowCount s) (intervalFault s)
     → v ≡ Refused number place → z ≡ zeroContents
-    → _≡_ {A = Reading} (record { number = number; place = place; contents = z }) (readingOf s)
+    → _≡_ {A = Reading} (record { verdict = v; contents = z }) (readingOf s)
 unfolding readingOf
 read-refused s v number place z p q e =
     let r = refused-of (rowCount s) number place (intervalFault s) (sym p ∙ q) in
-    rw (r .0, ne-eqb number 0 (r .1), e)
+    rw (q, r .0, ne-eqb number 0 (r .1), e)
 
 pub read-done : (s : List ℕ) (v : Verdict) (n : ℕ) (c : Contents) → v ≡ verdict (rowCount s) (intervalFault s)
-    → v ≡ Accepted n → c ≡ contentsOf s → _≡_ {A = Reading} (record { number = 0; place = 0; contents = c }) (readingOf s)
+    → v ≡ Accepted n → c ≡ contentsOf s → _≡_ {A = Reading} (record { verdict = v; contents = c }) (readingOf s)
 unfolding readingOf
 read-done s v n c p q e =
     let r = accepted-of (rowCount s) n (intervalFault s) (sym p ∙ q) in
-    rw (eq-eqb (intervalFault s .number) 0 (r .0), e)
+    rw (q, eq-eqb (intervalFault s .number) 0 (r .0), r .1, e)
 
 pub read-few : (s : List ℕ) (v : Verdict) (n : ℕ) → v ≡ verdict (rowCount s) (intervalFault s) → v ≡ Accepted n → rowCount s ≤ 256
 read-few s v n p q = few s (accepted-of (rowCount s) n (intervalFault s) (sym p ∙ q) .0)

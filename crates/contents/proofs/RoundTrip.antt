@@ -25,6 +25,7 @@ use Rattle.files.specs.Layout.{marked, letterR, rowStart, headAt, rowAt, rowCou
 use Rattle.files.specs.Range.{headOk}
 use Rattle.files.specs.Fault.{fault, none, headFault, rowsFault, intervalFault}
 use Rattle.files.specs.declared.Head.{Head}
+use Rattle.files.specs.declared.Verdict.the-variants.{Accepted}
 use Rattle.files.proofs.Answer.{or-none, or-next}
 use Rattle.files.proofs.Sound.{rows-each}
 use Rattle.contents.specs.Content.{zeroRow, contentsOf, readingOf, contentsBytes, listFault, contentsFault, writerFault, writtenOf, writtenBuffer}
@@ -161,9 +162,9 @@ module _ (c : Contents) (c-in : InRange c) where
       (lt-or-le k (c .head .rows))) in
       rw (made-head, ← rows)
 
-  pub contents-reread : readingOf (contentsBytes c) ≡ record { number = 0; place = 0; contents = c }
+  pub contents-reread : readingOf (contentsBytes c) ≡ record { verdict = Accepted (c .head .rows); contents = c }
   unfolding readingOf
-  contents-reread = rw (eq-eqb (intervalFault (contentsBytes c) .number) 0 contents-accepted, contents-again)
+  contents-reread = rw (eq-eqb (intervalFault (contentsBytes c) .number) 0 contents-accepted, made-count, contents-again)
 
 pub write-unique : (c : Contents) (out : List ℕ) (r r′ : Written) (o o′ : List ℕ)
     → (r ≡ writtenOf c (length out)) × (o ≡ writtenBuffer c out)

@@ -9,7 +9,7 @@ use Rattle.columns.specs.Test.{firstOf}
 use Rattle.records.specs.Buffer.{put}
 use Rattle.files.specs.Layout.{rowStart, headAt, headBytes, rowAt, rowBytes, rowCount}
 use Rattle.files.specs.Range.{headOk}
-use Rattle.files.specs.Fault.{Fault, fault, none, orElse, rowChecks, intervalFault}
+use Rattle.files.specs.Fault.{Fault, fault, none, orElse, rowChecks, intervalFault, verdict}
 use Rattle.files.specs.declared.Head.{Head}
 use Rattle.files.specs.declared.Row.{Row}
 use Rattle.contents.specs.declared.Contents.{Contents}
@@ -50,8 +50,7 @@ contentsOf s =
 unfoldable pub readingOf : List ℕ → Reading
 readingOf s =
     let f = intervalFault s in
-    cond (eqb (f .number) 0) (record { number = 0; place = 0; contents = contentsOf s })
-    (record { number = f .number; place = f .place; contents = zeroContents })
+    record { verdict = verdict (rowCount s) f; contents = cond (eqb (f .number) 0) (contentsOf s) zeroContents }
 
 -- the bytes of rows, one after the other
 unfoldable pub rowsBytes : List Row → List ℕ
