@@ -1,6 +1,6 @@
 -- Every answer fits its word: a refusal's number is at most 11 and its place at most 256, and counts of bytes are small.
 --   interval-small, file-small, writer-small     the faults of an interval file, of a pair of files, of contents and their buffer
---   answer-fits, reading-fits, written-fits      number and value of the engine's answer, of the reader's, of the writer's
+--   answer-packs, reading-packs, written-packs   number and value of the engine's answer, of the reader's, of the writer's
 --   part-short                                   the bytes that count for a row are at most 21
 use Prim.Native.Nat.{ℕ, zero, suc, _+_, _≤_, _<_, zero-le}
 use mathlib.Core.Path.{_≡_, refl}
@@ -15,18 +15,20 @@ use Rattle.columns.proofs.First.{left-true, right-true, each}
 use Rattle.files.specs.Layout.{marked, letterK, headAt, rowAt, rowStart, correctionStart, correctionHeadAt, rowCount, correctionCount}
 use Rattle.files.specs.Range.{dayOk, quarterOk, headOk, correctionHeadOk}
 use Rattle.files.specs.Fault.{Fault, fault, none, orElse, headChecks, headFault, rowChecks, rowChecksAt, rowFault, rowsFault, intervalFault, correctionStarts, asEight, correctionFault, sameTime, timeFault, corrects, namesFault, presentFault, pairFault, fileFault}
+use Rattle.files.specs.Fault as read
+use Rattle.files.specs.declared.Verdict.the-variants as Verdict
 use Rattle.files.specs.Counting.{part, inCorrection, inInterval, named, countingBytes}
 use Rattle.files.proofs.Answer.{or-none}
 use Rattle.files.proofs.Ranges.{head-ranges}
 use Rattle.files.specs.declared.Row.{Row}
-use Rattle.contents.specs.Content.{zeroRow, zeroContents, contentsOf, readingOf, listFault, contentsFault, writerFault, writtenOf}
+use Rattle.contents.specs.Content.{zeroRow, readingOf, listFault, contentsFault, writerFault, writtenOf}
 use Rattle.contents.specs.declared.Contents.{Contents}
-use Rattle.contents.specs.declared.Reading.{Reading}
-use Rattle.contents.specs.declared.Written.the-variants as written
+use Rattle.contents.specs.Content as write
+use Rattle.contents.specs.declared.Written.the-variants as Written
 use Rattle.contents.proofs.Refusal.{head-none}
 use Rattle.contents.proofs.Record.{rows-few}
 use Rattle.contents.proofs.RoundTrip.{contents-none}
-use Rattle.abi.specs.Packed.{writtenNumber, writtenValue}
+use Rattle.abi.specs.Packed.{Packs}
 use Rattle.statement.specs.Statement.{lineStart}
 use Rattle.settle.specs.Answer.{settleFault, answerOf, numberOf, valueOf}
 use Rattle.settle.specs.declared.Answer.the-variants.{Settled, Refused}
@@ -175,57 +177,46 @@ unfolding settleFault fileFault
 settled-few s k room z =
     own-few s (or-none (intervalFault s) (pairFault s k) (or-none (fileFault s k) (cond (ltb room (lineStart (rowCount s))) (fault 11 0) none) z .0) .0)
 
-pub record Fits (number value : ℕ) : Type 0 where
-  pub number-fits : number ≤ 11
-  pub value-fits : value < 4294967296
+-- an answer by a test: each case of it fits its word
+if-packs : {A : Type 0} (number value : A → ℕ) (t : Bool) (a b : A) → (t ≡ true → Packs (number a) (value a))
+    → (t ≡ false → Packs (number b) (value b)) → Packs (number (cond t a b)) (value (cond t a b))
+if-packs number value true a b f g = f refl
+if-packs number value false a b f g = g refl
 
-pub answer-fits : (s k : List ℕ) (room : ℕ) → Fits (numberOf (answerOf s k room)) (valueOf (answerOf s k room))
+-- a refusal, and a count of rows or of the bytes of so many rows
+refusal-packs : (f : Fault) → Small f → Packs (f .number) (f .place)
+refusal-packs f a = record { number-fits = a .number; value-fits = omega (arith, a .place) }
+
+pub answer-packs : (s k : List ℕ) (room : ℕ) → Packs (numberOf (answerOf s k room)) (valueOf (answerOf s k room))
 unfolding answerOf
-answer-fits s k room = go (eqb (settleFault s k room .number) 0) refl
-  where
-    go : (t : Bool) → eqb (settleFault s k room .number) 0 ≡ t
-        → Fits (numberOf (cond t (Settled (lineStart (rowCount s))) (Refused (settleFault s k room .number) (settleFault s k room .place))))
-        (valueOf (cond t (Settled (lineStart (rowCount s))) (Refused (settleFault s k room .number) (settleFault s k room .place))))
-    go true e =
-        record {
-          number-fits = zero-le;
-          value-fits = omega (arith, settled-few s k room (eqb-true (settleFault s k room .number) 0 e));
-        }
-    go false e =
-        record {
-          number-fits = fault-small s k room .number;
-          value-fits = omega (arith, fault-small s k room .place);
-        }
+answer-packs s k room =
+    let f = settleFault s k room in
+    if-packs numberOf valueOf (eqb (f .number) 0) (Settled (lineStart (rowCount s))) (Refused (f .number) (f .place))
+    (λ e. record { number-fits = zero-le; value-fits = omega (arith, settled-few s k room (eqb-true (f .number) 0 e)) })
+    (λ e. refusal-packs f (fault-small s k room))
 
 -- ---- reader and writer of contents
 
-if-fits : (t : Bool) (q r : Reading) → Fits (q .number) (q .place) → Fits (r .number) (r .place) → Fits (cond t q r .number) (cond t q r .place)
-if-fits true q r a b = a
-if-fits false q r a b = b
-
-pub reading-fits : (s : List ℕ) → Fits (readingOf s .number) (readingOf s .place)
+pub reading-packs : (s : List ℕ) → Packs (read.numberOf (readingOf s .verdict)) (read.valueOf (readingOf s .verdict))
 unfolding readingOf
-reading-fits s =
-    if-fits (eqb (intervalFault s .number) 0) (record { number = 0; place = 0; contents = contentsOf s })
-    (record { number = intervalFault s .number; place = intervalFault s .place; contents = zeroContents })
-    (record { number-fits = zero-le; value-fits = lit< tt })
-    (record { number-fits = interval-small s .number; value-fits = omega (arith, interval-small s .place) })
+reading-packs s =
+    let f = intervalFault s in
+    if-packs read.numberOf read.valueOf (eqb (f .number) 0) (Verdict.Accepted (rowCount s)) (Verdict.Refused (f .number) (f .place))
+    (λ e. record { number-fits = zero-le; value-fits = omega (arith, own-few s (eqb-true (f .number) 0 e)) })
+    (λ e. refusal-packs f (interval-small s))
 
 written-few : (c : Contents) (room : ℕ) → writerFault c room .number ≡ 0 → c .head .rows ≤ 256
 unfolding writerFault
 written-few c room z =
     rows-few (c .head) (contents-none c (or-none (contentsFault c) (cond (ltb room (rowStart (c .head .rows))) (fault 11 0) none) z .0) .0)
 
-pub written-fits : (c : Contents) (room : ℕ) → Fits (writtenNumber (writtenOf c room)) (writtenValue (writtenOf c room))
+pub written-packs : (c : Contents) (room : ℕ) → Packs (write.numberOf (writtenOf c room)) (write.valueOf (writtenOf c room))
 unfolding writtenOf
-written-fits c room = go (eqb (writerFault c room .number) 0) refl
-  where
-    go : (t : Bool) → eqb (writerFault c room .number) 0 ≡ t
-        → Fits (writtenNumber (cond t (written.Bytes (rowStart (c .head .rows))) (written.Refused (writerFault c room .number) (writerFault c room .place))))
-        (writtenValue (cond t (written.Bytes (rowStart (c .head .rows))) (written.Refused (writerFault c room .number) (writerFault c room .place))))
-    go true e =
-        record { number-fits = zero-le; value-fits = omega (arith, written-few c room (eqb-true (writerFault c room .number) 0 e)) }
-    go false e = record { number-fits = writer-small c room .number; value-fits = omega (arith, writer-small c room .place) }
+written-packs c room =
+    let f = writerFault c room in
+    if-packs write.numberOf write.valueOf (eqb (f .number) 0) (Written.Bytes (rowStart (c .head .rows))) (Written.Refused (f .number) (f .place))
+    (λ e. record { number-fits = zero-le; value-fits = omega (arith, written-few c room (eqb-true (f .number) 0 e)) })
+    (λ e. refusal-packs f (writer-small c room))
 
 -- ---- the row that counts
 

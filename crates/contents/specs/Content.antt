@@ -80,12 +80,22 @@ unfoldable pub writerFault : Contents → ℕ → Fault
 writerFault c room =
     orElse (contentsFault c) (cond (ltb room (rowStart (c .head .rows))) (fault 11 0) none)
 
--- the writer's answer, and its buffer afterwards: unchanged by a refusal, and past the bytes written
+-- the writer's answer: how many bytes it wrote, or the refusal's number and place
 unfoldable pub writtenOf : Contents → ℕ → Written
 writtenOf c room =
     let f = writerFault c room in
     cond (eqb (f .number) 0) (Bytes (rowStart (c .head .rows))) (Refused (f .number) (f .place))
 
+-- the paper's number and value of that answer: 0 and the count of bytes, or the refusal's number and its place
+abbrev pub numberOf : Written → ℕ
+numberOf (Bytes count) = 0
+numberOf (Refused number place) = number
+
+abbrev pub valueOf : Written → ℕ
+valueOf (Bytes count) = count
+valueOf (Refused number place) = place
+
+-- the writer's buffer afterwards: the file at its front, every byte past it as before; a refusal changes nothing
 unfoldable pub writtenBuffer : Contents → List ℕ → List ℕ
 writtenBuffer c out =
     cond (eqb (writerFault c (length out) .number) 0) (put out 0 (contentsBytes c)) out
