@@ -9,14 +9,12 @@ use mathlib.Core.Path.{_≡_}
 use mathlib.Core.List.{List}
 use native.Mathlib.Omega.{arith}
 use lib.ListN.{length, getD}
-use borrow.Author.Tests.{lt-ltb, le-ltb, eq-eqb}
+use borrow.Author.Tests.{lt-ltb, le-ltb}
 use Rattle.records.specs.Buffer.{put}
-use Rattle.files.specs.Fault.{intervalFault}
-use Rattle.files.specs.Layout.{rowCount}
-use Rattle.files.specs.declared.Verdict.the-variants.{Accepted}
+use Rattle.files.specs.Fault as read
 use Rattle.files.specs.Counting.{countingBytes}
-use Rattle.contents.specs.Content.{contentsOf, readingOf}
-use Rattle.contents.proofs.RoundTrip.{file-rewritten}
+use Rattle.contents.specs.Content.{readingOf}
+use Rattle.contents.proofs.RoundTrip.{file-rewritten, file-buffer}
 use Rattle.settle.specs.Answer.{answerOf, numberOf, valueOf}
 use Rattle.abi.specs.Packed.{packed, settled, copied, written, rewritten, rewrittenBuffer}
 use Rattle.abi.proofs.Small.{answer-packs}
@@ -45,16 +43,12 @@ module _ (s k : List ℕ) (id room : ℕ) where
   unfolding copied
   copied-whole l = rw (le-ltb room (length (countingBytes s k id)) l)
 
-module _ (s : List ℕ) (sound : intervalFault s .number ≡ 0) where
-  reading : readingOf s ≡ record { verdict = Accepted (rowCount s); contents = contentsOf s }
-  unfolding readingOf
-  reading = rw (eq-eqb (intervalFault s .number) 0 sound)
+module _ (s : List ℕ) (accepted : read.numberOf (readingOf s .verdict) ≡ 0) (bytes : (i : ℕ) → getD s i 0 < 256)
+    (out : List ℕ) (room : length s ≤ length out) where
+  pub accepted-rewritten : rewritten s (length out) ≡ packed 0 (length s)
+  unfolding rewritten written
+  accepted-rewritten = rw (accepted, file-rewritten s accepted bytes out room)
 
-  module _ (bytes : (i : ℕ) → getD s i 0 < 256) (out : List ℕ) (room : length s ≤ length out) where
-    pub accepted-rewritten : rewritten s (length out) ≡ packed 0 (length s)
-    unfolding rewritten written
-    accepted-rewritten = rw (reading, file-rewritten s sound bytes out room .0)
-
-    pub accepted-buffer : rewrittenBuffer s out ≡ put out 0 s
-    unfolding rewrittenBuffer
-    accepted-buffer = rw reading (file-rewritten s sound bytes out room .1)
+  pub accepted-buffer : rewrittenBuffer s out ≡ put out 0 s
+  unfolding rewrittenBuffer
+  accepted-buffer = rw accepted (file-buffer s accepted bytes out room)

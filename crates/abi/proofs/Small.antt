@@ -25,9 +25,8 @@ use Rattle.contents.specs.Content.{zeroRow, readingOf, listFault, contentsFault
 use Rattle.contents.specs.declared.Contents.{Contents}
 use Rattle.contents.specs.Content as write
 use Rattle.contents.specs.declared.Written.the-variants as Written
-use Rattle.contents.proofs.Refusal.{head-none}
+use Rattle.contents.proofs.Refusal.{head-none, contents-none}
 use Rattle.contents.proofs.Record.{rows-few}
-use Rattle.contents.proofs.RoundTrip.{contents-none}
 use Rattle.abi.specs.Packed.{Packs}
 use Rattle.statement.specs.Statement.{lineStart}
 use Rattle.settle.specs.Answer.{settleFault, answerOf, numberOf, valueOf}

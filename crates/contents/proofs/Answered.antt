@@ -29,7 +29,8 @@ use Rattle.contents.specs.declared.Contents.{Contents}
 use Rattle.contents.specs.declared.Reading.{Reading}
 use Rattle.contents.specs.declared.Written.the-variants as written
 use Rattle.contents.proofs.Record.{head-length, rows-few}
-use Rattle.contents.proofs.RoundTrip.{contents-none, head-of, few}
+use Rattle.contents.proofs.Refusal.{contents-none}
+use Rattle.contents.proofs.RoundTrip.{head-of, few}
 
 -- the fault of the rows of contents, and of a buffer for so many rows
 abbrev rowsOf : Contents → Fault

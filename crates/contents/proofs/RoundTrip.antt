@@ -1,10 +1,11 @@
--- The two round trips, and that a contract of this crate leaves one answer.
---   file-again        an accepted file, read and written again, is the same bytes
---   file-writable     the contents of an accepted file are refused by no check, given a buffer as long as the file
---   file-rewritten    so the writer puts exactly that file into such a buffer, and answers its length
---   contents-accepted the file that contents within the ranges make is accepted
---   contents-again    and says these contents again
---   contents-reread   so the reader of contents, on that file, answers 0 and these contents
+-- The two round trips (demand 2), and that a contract of this crate leaves one answer.
+--   file-rewritten      an accepted file, read and written into a buffer with room: as many bytes as the file has,
+--   file-buffer         they are the file's, nothing past them changes,
+--   file-front          so the front of the buffer is the file
+--   contents-written    contents in range, written into a buffer with room: as many bytes as their file has,
+--   contents-front      they are the file that the contents make,
+--   contents-reread     and reading the front of the buffer gives the contents again
+--   file-again, contents-accepted, contents-again, contents-read     the same of bytes and contents, with no buffer
 --   write-unique, read-unique   two results that one contract allows are equal
 use mathlib.Core.Path.{_≡_, refl, sym, ap, _∙_}
 use mathlib.Core.Bool.{Bool, true, false, cond}
@@ -13,22 +14,25 @@ use mathlib.Core.List.{List}
 use Prim.Native.Nat.{ℕ, _*_, _^_, _≤_, _<_}
 use native.Mathlib.Nat.{zero-add}
 use native.Mathlib.Omega.{arith}
-use borrow.Author.Tests.{lt-ltb, le-ltb, eq-eqb}
-use lib.Dec.{ltb}
+use borrow.Author.Tests.{lt-ltb, le-ltb, eq-eqb, eqb-true}
+use lib.Dec.{ltb, eqb}
 use lib.ListN.{length, getD, take}
 use lib.Seq.{length-take-le, getD-take, take-add, take-all}
 use Rattle.columns.specs.Table.{table, Below}
 use Rattle.records.specs.Buffer.{put}
+use Rattle.records.proofs.Buffer.{put-taken}
 use Rattle.columns.proofs.Sum.{lt-or-le}
 use Rattle.columns.proofs.Table.{table-length, table-at, table-is}
 use Rattle.files.specs.Layout.{marked, letterR, rowStart, headAt, rowAt, rowCount}
 use Rattle.files.specs.Range.{headOk}
-use Rattle.files.specs.Fault.{fault, none, headFault, rowsFault, intervalFault}
+use Rattle.files.specs.Fault as read
+use Rattle.files.specs.Fault.{Fault, fault, orElse, verdict, none, headFault, rowsFault, intervalFault}
 use Rattle.files.specs.declared.Head.{Head}
 use Rattle.files.specs.declared.Verdict.the-variants.{Accepted}
 use Rattle.files.proofs.Answer.{or-none, or-next}
 use Rattle.files.proofs.Sound.{rows-each}
 use Rattle.contents.specs.Content.{zeroRow, contentsOf, readingOf, contentsBytes, listFault, contentsFault, writerFault, writtenOf, writtenBuffer}
+use Rattle.contents.specs.InRange.{InRange}
 use Rattle.contents.specs.declared.Contents.{Contents}
 use Rattle.contents.specs.declared.Reading.{Reading}
 use Rattle.contents.specs.declared.Written.{Written}
@@ -36,7 +40,15 @@ use Rattle.contents.specs.declared.Written.the-variants.{Bytes}
 use Rattle.contents.proofs.Walk.{fileRow}
 use Rattle.contents.proofs.Record.{head-write, head-fits, row-fits, rows-few}
 use Rattle.contents.proofs.Rows.{contents-length, contents-head, contents-mark, contents-row, contents-row-mark, rows-write}
-use Rattle.contents.proofs.Refusal.{HeadNone, head-none, list-valid, rows-agree}
+use Rattle.contents.proofs.Refusal.{HeadNone, head-none, rows-pass, rows-agree}
+
+-- an answer's number is 0: there is no fault
+number-none : (n : ℕ) (f : Fault) → read.numberOf (verdict n f) ≡ 0 → f .number ≡ 0
+number-none n f e = go (eqb (f .number) 0) refl
+  where
+    go : (t : Bool) → eqb (f .number) 0 ≡ t → f .number ≡ 0
+    go true q = eqb-true (f .number) 0 q
+    go false q = rw q at e
 
 -- What acceptance of a file gives.
 module _ (s : List ℕ) (accepted : intervalFault s .number ≡ 0) where
@@ -87,67 +99,66 @@ module _ (s : List ℕ) (accepted : intervalFault s .number ≡ 0) where
         le-ltb room (rowStart (rowCount s)) (omega (arith, head-of .fits)),
       )
 
-  pub file-rewritten : ((i : ℕ) → getD s i 0 < 256) → (out : List ℕ) → length s ≤ length out
-      → (writtenOf (contentsOf s) (length out) ≡ Bytes (length s)) × (writtenBuffer (contentsOf s) out ≡ put out 0 s)
-  unfolding writtenOf writtenBuffer contentsOf
-  file-rewritten small out h =
-      let ok : writerFault (contentsOf s) (length out) ≡ none = file-writable (length out) h in
-      (rw (ok, head-of .fits), rw (ok, file-again small))
+  pub file-reading : readingOf s ≡ record { verdict = Accepted (rowCount s); contents = contentsOf s }
+  unfolding readingOf
+  file-reading = rw (eq-eqb (intervalFault s .number) 0 accepted)
 
--- Contents within the ranges, as an array of 256 rows holds them: zero rows past the count, and ids of two bytes.
-pub record InRange (c : Contents) : Type 0 where
-  pub faultless : contentsFault c .number ≡ 0
-  pub held : length (c .rows) ≡ 256
-  pub past : (i : ℕ) → c .head .rows ≤ i → getD (c .rows) i zeroRow ≡ zeroRow
-  pub ids : (i : ℕ) → getD (c .rows) i zeroRow .id < 256 ^ 2
+-- A file that is accepted, read, and its contents written into a buffer with room.
+module _ (s : List ℕ) (accepted : read.numberOf (readingOf s .verdict) ≡ 0) (bytes : (i : ℕ) → getD s i 0 < 256) where
+  no-fault : intervalFault s .number ≡ 0
+  unfolding readingOf
+  no-fault = number-none (rowCount s) (intervalFault s) accepted
 
-pub contents-none : (c : Contents) → contentsFault c .number ≡ 0
-    → (headOk (c .head) ≡ true) × (listFault (c .rows) 0 (c .head .rows) 0 .number ≡ 0)
-unfolding contentsFault
-contents-none c e = go (headOk (c .head)) refl e
-  where
-    go : (b : Bool) → headOk (c .head) ≡ b → cond b (listFault (c .rows) 0 (c .head .rows) 0) (fault 3 0) .number ≡ 0
-        → (headOk (c .head) ≡ true) × (listFault (c .rows) 0 (c .head .rows) 0 .number ≡ 0)
-    go true t z = (t, z)
-    go false t z = absurd (omega arith)
+  module _ (out : List ℕ) (room : length s ≤ length out) where
+    no-refusal : writerFault (readingOf s .contents) (length out) ≡ none
+    no-refusal = rw (file-reading s no-fault) (file-writable s no-fault (length out) room)
 
+    pub file-rewritten : writtenOf (readingOf s .contents) (length out) ≡ Bytes (length s)
+    unfolding writtenOf contentsOf
+    file-rewritten = rw (no-refusal, file-reading s no-fault, head-of s no-fault .fits)
+
+    pub file-buffer : writtenBuffer (readingOf s .contents) out ≡ put out 0 s
+    unfolding writtenBuffer
+    file-buffer = rw (no-refusal, file-reading s no-fault, file-again s no-fault bytes)
+
+    pub file-front : take (length s) (writtenBuffer (readingOf s .contents) out) ≡ s
+    file-front = rw file-buffer (put-taken out 0 s (omega arith))
+
+-- What contents within the ranges make.
 module _ (c : Contents) (c-in : InRange c) where
-  sound : (headOk (c .head) ≡ true) × (listFault (c .rows) 0 (c .head .rows) 0 .number ≡ 0)
-  sound = contents-none c (c-in .faultless)
-
   enough : c .head .rows ≤ length (c .rows)
-  enough = omega (arith, rows-few (c .head) (sound .0), c-in .held)
+  enough = omega (arith, rows-few (c .head) (c-in .head), c-in .held)
 
   made-head : headAt (contentsBytes c) ≡ c .head
-  made-head = contents-head c (head-fits (c .head) (sound .0))
+  made-head = contents-head c (head-fits (c .head) (c-in .head))
 
   made-count : rowCount (contentsBytes c) ≡ c .head .rows
   made-count = ap (λ (h : Head). h .rows) made-head
 
   made-row : (k : ℕ) → k < c .head .rows → rowAt (contentsBytes c) (rowStart k) ≡ getD (c .rows) k zeroRow
-  made-row =
-      contents-row c enough
-      (λ i l. row-fits (getD (c .rows) i zeroRow)
-      (rw (zero-add i) at (list-valid (c .rows) 0 (c .head .rows) 0 (sound .1) i l)) (c-in .ids i))
+  made-row = contents-row c enough (λ i l. row-fits (getD (c .rows) i zeroRow) (c-in .rows i l) (c-in .ids i))
 
-  made-rows : rowsFault (contentsBytes c) 15 (c .head .rows) 1 0 ≡ listFault (c .rows) 0 (c .head .rows) 0
+  sound-rows : listFault (c .rows) 0 (c .head .rows) 0 ≡ none
+  sound-rows = rows-pass c c-in
+
+  made-rows : rowsFault (contentsBytes c) 15 (c .head .rows) 1 0 ≡ none
   made-rows =
       rows-agree (contentsBytes c) (c .rows) 0 (c .head .rows) 0
       (λ j l m. record { mark = contents-row-mark c enough j (omega arith); row = made-row j (omega arith) })
+      ∙ sound-rows
 
   made-start : headFault (contentsBytes c) ≡ 0
   unfolding headFault
   made-start =
       let s = contentsBytes c in
       let long : length s ≡ rowStart (rowCount s) = contents-length c enough ∙ ap rowStart (sym made-count) in
-      let ok : headOk (headAt s) ≡ true = rw made-head (sound .0) in
+      let ok : headOk (headAt s) ≡ true = rw made-head (c-in .head) in
       rw
       (le-ltb (length s) 15 (omega arith), contents-mark c, ok, eq-eqb (length s) (rowStart (rowCount s)) long)
 
-  pub contents-accepted : intervalFault (contentsBytes c) .number ≡ 0
+  pub contents-accepted : intervalFault (contentsBytes c) ≡ none
   unfolding intervalFault
-  contents-accepted =
-      rw (made-count, made-rows, or-next (fault (headFault (contentsBytes c)) 0) (listFault (c .rows) 0 (c .head .rows) 0) made-start) (sound .1)
+  contents-accepted = rw (made-count, made-rows, or-next (fault (headFault (contentsBytes c)) 0) none made-start)
 
   pub contents-again : contentsOf (contentsBytes c) ≡ c
   unfolding contentsOf
@@ -162,9 +173,26 @@ module _ (c : Contents) (c-in : InRange c) where
       (lt-or-le k (c .head .rows))) in
       rw (made-head, ← rows)
 
-  pub contents-reread : readingOf (contentsBytes c) ≡ record { verdict = Accepted (c .head .rows); contents = c }
+  pub contents-read : readingOf (contentsBytes c) ≡ record { verdict = Accepted (c .head .rows); contents = c }
   unfolding readingOf
-  contents-reread = rw (eq-eqb (intervalFault (contentsBytes c) .number) 0 contents-accepted, made-count, contents-again)
+  contents-read = rw (contents-accepted, made-count, contents-again)
+
+  module _ (out : List ℕ) (room : rowStart (c .head .rows) ≤ length out) where
+    contents-writable : writerFault c (length out) ≡ none
+    unfolding writerFault contentsFault orElse
+    contents-writable = rw (c-in .head, sound-rows, le-ltb (length out) (rowStart (c .head .rows)) room)
+
+    pub contents-written : writtenOf c (length out) ≡ Bytes (rowStart (c .head .rows))
+    unfolding writtenOf
+    contents-written = rw contents-writable
+
+    pub contents-front : take (rowStart (c .head .rows)) (writtenBuffer c out) ≡ contentsBytes c
+    unfolding writtenBuffer
+    contents-front = rw (contents-writable, ← contents-length c enough) (put-taken out 0 (contentsBytes c) (omega arith))
+
+    pub contents-reread : readingOf (take (rowStart (c .head .rows)) (writtenBuffer c out))
+        ≡ record { verdict = Accepted (c .head .rows); contents = c }
+    contents-reread = rw contents-front contents-read
 
 pub write-unique : (c : Contents) (out : List ℕ) (r r′ : Written) (o o′ : List ℕ)
     → (r ≡ writtenOf c (length out)) × (o ≡ writtenBuffer c out)
