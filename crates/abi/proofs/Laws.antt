@@ -3,7 +3,7 @@
 --   settled-number, settled-value       the engine's number and value, from its word
 --   copied-short, copied-whole          the row that counts, by the room there is
 --   accepted-rewritten, accepted-buffer     an accepted file with room for it: 0 and its length, and its own bytes in front
---   settled-unique, copied-unique, rewritten-unique (Unique.antt)    two words and two buffers that one contract allows are equal
+--   settle-unique, row-unique, rewrite-unique (Unique.antt)      the contracts leave one word and one buffer
 use Prim.Native.Nat.{ℕ, _/_, _%_, _≤_, _<_}
 use mathlib.Core.Path.{_≡_}
 use mathlib.Core.List.{List}

@@ -5,3 +5,4 @@ pub mod RoundTrip
 pub mod Walk
 pub mod Answered
 pub mod Figures
+pub mod Unique

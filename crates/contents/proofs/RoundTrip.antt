@@ -1,4 +1,4 @@
--- The two round trips (demand 2), and that a contract of this crate leaves one answer.
+-- The two round trips (demand 2).
 --   file-rewritten      an accepted file, read and written into a buffer with room: as many bytes as the file has,
 --   file-buffer         they are the file's, nothing past them changes,
 --   file-front          so the front of the buffer is the file
@@ -6,7 +6,6 @@
 --   contents-front      they are the file that the contents make,
 --   contents-reread     and reading the front of the buffer gives the contents again
 --   file-again, contents-accepted, contents-again, contents-read     the same of bytes and contents, with no buffer
---   write-unique, read-unique   two results that one contract allows are equal
 use mathlib.Core.Path.{_≡_, refl, sym, ap, _∙_}
 use mathlib.Core.Bool.{Bool, true, false, cond}
 use mathlib.Core.Logic.{⊎-elim}
@@ -34,8 +33,6 @@ use Rattle.files.proofs.Sound.{rows-each}
 use Rattle.contents.specs.Content.{zeroRow, contentsOf, readingOf, contentsBytes, listFault, contentsFault, writerFault, writtenOf, writtenBuffer}
 use Rattle.contents.specs.InRange.{InRange}
 use Rattle.contents.specs.declared.Contents.{Contents}
-use Rattle.contents.specs.declared.Reading.{Reading}
-use Rattle.contents.specs.declared.Written.{Written}
 use Rattle.contents.specs.declared.Written.the-variants.{Bytes}
 use Rattle.contents.proofs.Walk.{fileRow}
 use Rattle.contents.proofs.Record.{head-write, head-fits, row-fits, rows-few}
@@ -193,11 +190,3 @@ module _ (c : Contents) (c-in : InRange c) where
     pub contents-reread : readingOf (take (rowStart (c .head .rows)) (writtenBuffer c out))
         ≡ record { verdict = Accepted (c .head .rows); contents = c }
     contents-reread = rw contents-front contents-read
-
-pub write-unique : (c : Contents) (out : List ℕ) (r r′ : Written) (o o′ : List ℕ)
-    → (r ≡ writtenOf c (length out)) × (o ≡ writtenBuffer c out)
-    → (r′ ≡ writtenOf c (length out)) × (o′ ≡ writtenBuffer c out) → (r ≡ r′) × (o ≡ o′)
-write-unique c out r r′ o o′ p q = (p .0 ∙ sym (q .0), p .1 ∙ sym (q .1))
-
-pub read-unique : (s : List ℕ) (r r′ : Reading) → r ≡ readingOf s → r′ ≡ readingOf s → r ≡ r′
-read-unique s r r′ p q = p ∙ sym q
