@@ -8,3 +8,4 @@ pub mod Mask
 pub mod Choice
 pub mod First
 pub mod Unique
+pub mod Checks

@@ -1,3 +1,4 @@
 pub mod Sum
 pub mod Table
 pub mod Test
+pub mod Checks

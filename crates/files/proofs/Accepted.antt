@@ -1,110 +1,103 @@
 -- What an accepted pair of files is known to be.
---   accepted-none       no check applies
---   accepted-own        nor does one of the interval by itself
---   accepted-count      the answer's count is the head's
---   accepted-rows       the interval's rows: there, in their ranges, ids rising
---   accepted-theirs     the correction's, if there is one; if there is none, it has no rows
---   accepted-few, theirs-few      at most 256 of either
---   accepted-names      each of the correction's rows corrects one of the interval's
+--   accepted-count, accepted-length, accepted-few      its count of rows is the head's, its length is by that count, there are at most 256
+--   accepted-head-ok, accepted-row-ok      the head and each row of the interval are in their ranges
+--   accepted-rows       the interval's rows are there, with ids that rise
+--   Corrected           what is known of the correction's rows; there are none if there is no correction
 use mathlib.Core.Path.{_≡_, refl, sym, subst}
 use mathlib.Core.Logic.{⊎-elim}
-use Prim.Native.Nat.{ℕ, zero, suc, _+_, _-_, _*_, _≤_, _<_}
-use mathlib.Core.Bool.{Bool, true, false, cond, _&&_}
+use Prim.Native.Nat.{ℕ, _+_, _*_, _≤_, _<_}
+use mathlib.Core.Bool.{Bool, true, false, not, cond, _&&_}
 use mathlib.Core.List.{List, [], _∷_}
-use native.Mathlib.Nat.{le-of-suc-le-suc}
 use native.Mathlib.Omega.{arith}
 use lib.Dec.{T, eqb, leb, lit<}
 use lib.ListN.{length}
-use borrow.Author.Tests.{not-false, ne-eqb, leb-true, eqb-true}
+use borrow.Author.Tests.{not-false, ne-eqb, leb-true}
 use Rattle.records.specs.Number.{numberAt}
-use Rattle.columns.specs.Test.{within}
+use Rattle.columns.specs.Test.{Check, firstOf, within}
+use Rattle.columns.specs.Checks.{check, refusal, rowByRow, renumbered}
+use Rattle.columns.proofs.Checks.{Passes, cons-passes, append-passes, passes-renumbered, rows-each}
 use Rattle.columns.proofs.First.{none-applies, right-true, each}
 use Rattle.columns.proofs.Sum.{lt-or-le}
-use Rattle.files.specs.Layout.{marked, letterK, rowAt, rowStart, correctionStart, headAt, correctionHeadAt, rowCount, correctionCount}
-use Rattle.files.specs.Range.{dayOk, quarterOk, headOk, correctionHeadOk}
-use Rattle.files.specs.Fault.{Fault, fault, orElse, none, headChecks, headFault, rowsFault, intervalFault, correctionStarts, asEight, correctionFault, timeFault, corrects, namesFault, presentFault, pairFault, fileFault, verdictOf}
-use Rattle.files.specs.Walk.{Rows}
+use Rattle.files.specs.Layout.{headSize, correctionHeadSize, marked, letterK, rowAt, rowStart, correctionStart, headAt, correctionHeadAt, rowCount, correctionCount}
+use Rattle.files.specs.Terms.{termsOf}
+use Rattle.files.specs.Range.{dayOk, quarterOk, headOk, correctionHeadOk, rowOk}
+use Rattle.files.specs.Walk.{Rows, Own}
+use Rattle.files.specs.Order.{rowsOrder, intervalOrder, correctionStarts, correctionOrder, sameTime, corrects, nameChecks, besideOrder, presentOrder, fileOrder, fileFault, verdictOf}
 use Rattle.files.specs.declared.Verdict.the-variants.{Accepted}
-use Rattle.files.proofs.Answer.{or-none, accepted-of}
-use Rattle.files.proofs.Walked.{noCheck}
-use Rattle.files.proofs.Sound.{rows-sound}
-use Rattle.files.proofs.Named.{own-long, own-sound, starts-long}
-
-starts-ok : (k : List ℕ) → correctionStarts k ≡ true → correctionHeadOk (correctionHeadAt k) ≡ true
-unfolding correctionStarts
-starts-ok k e = third (leb 9 (length k) && marked k 0 letterK) _ _ e where
-  third : (a b c : Bool) → a && b && c ≡ true → b ≡ true
-  third true true c e = refl
-  third true false c e = e
-  third false b c e = absurd (subst T (sym e) tt)
-
--- a correction by itself has no fault: its start is right, and none of its rows has one
-theirs : (k : List ℕ) → correctionFault k .number ≡ 0
-    → (correctionStarts k ≡ true) × (rowsFault k 9 (correctionCount k) 1 0 .number ≡ 0)
-unfolding correctionFault asEight
-theirs k e = go (correctionStarts k) refl where
-  rows : (f : Fault) (t : Bool) → eqb (f .number) 0 ≡ t → cond (eqb (f .number) 0) none (fault 8 (f .place)) .number ≡ 0 → f .number ≡ 0
-  rows f true q h = eqb-true (f .number) 0 q
-  rows f false q h = let z : _≡_ {A = ℕ} 8 0 = rw q at h in absurd (omega arith)
-
-  go : (t : Bool) → correctionStarts k ≡ t → (correctionStarts k ≡ true) × (rowsFault k 9 (correctionCount k) 1 0 .number ≡ 0)
-  go true q = (q, rows (rowsFault k 9 (correctionCount k) 1 0) (eqb (rowsFault k 9 (correctionCount k) 1 0 .number) 0) refl (rw q at e))
-  go false q = let z : _≡_ {A = ℕ} 8 0 = rw q at e in absurd (omega arith)
-
--- the first of so many rows corrects one of the interval's, and so do those after it
-names-parts : (left : ℕ) (s k : List ℕ) (c place : ℕ) → namesFault s k c (suc left) place .number ≡ 0
-    → (corrects s (rowAt k c) ≡ true) × (namesFault s k (c + 21) left (place + 1) .number ≡ 0)
-unfolding namesFault
-names-parts left s k c place h = go (corrects s (rowAt k c)) refl where
-  go : (t : Bool) → corrects s (rowAt k c) ≡ t → (corrects s (rowAt k c) ≡ true) × (namesFault s k (c + 21) left (place + 1) .number ≡ 0)
-  go false q = let z : _≡_ {A = ℕ} 10 0 = rw q at h in absurd (omega arith)
-  go true q = (q, rw q at h)
-
-names-each : (left : ℕ) (s k : List ℕ) (c place : ℕ) → namesFault s k c left place .number ≡ 0
-    → (j : ℕ) → j < left → corrects s (rowAt k (c + j * 21)) ≡ true
-names-each zero s k c place h j l = absurd (omega arith)
-names-each (suc left) s k c place h zero l =
-    let here : c + 0 * 21 ≡ c = omega arith in rw here (names-parts left s k c place h .0)
-names-each (suc left) s k c place h (suc j) l =
-    let there : c + suc j * 21 ≡ c + 21 + j * 21 = omega arith in
-    rw there (names-each left s k (c + 21) (place + 1) (names-parts left s k c place h .1) j (le-of-suc-le-suc l))
+use Rattle.files.proofs.Answer.{accepted-of}
+use Rattle.files.proofs.Passed.{rows-passed, rows-sound}
+use Rattle.files.proofs.Named.{own-head, own-rows, own-stands, starts-long}
+use Rattle.files.proofs.Ranges.{head-ranges}
 
 module _ (s k : List ℕ) (n : ℕ) (h : verdictOf s k ≡ Accepted n) where
-  pub accepted-none : fileFault s k .number ≡ 0
+  pub accepted-passes : fileFault s k .applies ≡ false
   unfolding verdictOf
-  accepted-none = accepted-of (rowCount s) n (fileFault s k) h .0
+  accepted-passes = accepted-of (rowCount s) n (fileFault s k) h .0
 
   pub accepted-count : n ≡ rowCount s
   unfolding verdictOf
   accepted-count = sym (accepted-of (rowCount s) n (fileFault s k) h .1)
 
-  pub accepted-own : intervalFault s .number ≡ 0
-  unfolding fileFault
-  accepted-own = or-none (intervalFault s) (pairFault s k) accepted-none .0
+  parts : Passes (intervalOrder s) × Passes (cond (eqb (length k) 0) [] (presentOrder s k))
+  unfolding fileOrder
+  parts = append-passes (intervalOrder s) (cond (eqb (length k) 0) [] (presentOrder s k)) accepted-passes
+
+  pub accepted-own : Own s n
+  accepted-own = rw accepted-count (own-stands s (parts .0))
+
+  pub accepted-rows : Rows s headSize n
+  accepted-rows = accepted-own .rows
 
   pub accepted-length : length s ≡ rowStart n
-  accepted-length = rw accepted-count (own-long s accepted-own)
-
-  pub accepted-rows : Rows s 15 n
-  accepted-rows = rw accepted-count (own-sound s accepted-own)
+  accepted-length = rw accepted-count (own-head s (parts .0) .fits)
 
   pub accepted-head-ok : headOk (headAt s) ≡ true
-  unfolding intervalFault headFault
-  accepted-head-ok =
-      not-false _ (none-applies noCheck (headChecks s) tt (or-none (fault (headFault s) 0) (rowsFault s 15 (rowCount s) 1 0) accepted-own .0) 2 (lit< tt))
+  accepted-head-ok = own-head s (parts .0) .ok
 
-  accepted-pair : pairFault s k .number ≡ 0
-  unfolding fileFault
-  accepted-pair = or-none (intervalFault s) (pairFault s k) accepted-none .1
+  pub accepted-few : n ≤ 256
+  accepted-few = omega (arith, accepted-count, head-ranges (headAt s) accepted-head-ok .rows)
 
-  -- a correction is present, and 8, 9, 10 do not apply
-  present : (length k ≡ 0 → ⊥) → presentFault s k .number ≡ 0
-  unfolding pairFault
-  present z = rw (ne-eqb (length k) 0 z) at accepted-pair
+  pub accepted-row-ok : (i : ℕ) → i < n → rowOk (termsOf s) (rowAt s (rowStart i)) ≡ true
+  accepted-row-ok i l =
+      rows-passed (termsOf s) s headSize (rowCount s) (own-rows s (parts .0)) i (rw (← accepted-count) l) .ok
 
-  parts : (length k ≡ 0 → ⊥) → (correctionFault k .number ≡ 0) × (orElse (timeFault s k) (namesFault s k 9 (correctionCount k) 1) .number ≡ 0)
-  unfolding presentFault
-  parts z = or-none (correctionFault k) (orElse (timeFault s k) (namesFault s k 9 (correctionCount k) 1)) (present z)
+  -- 8, 9, 10 do not apply to a correction that is present
+  present : (length k ≡ 0 → ⊥) → Passes (correctionOrder (termsOf s) k) × Passes (besideOrder s k)
+  unfolding presentOrder
+  present z = append-passes (correctionOrder (termsOf s) k) (besideOrder s k) (rw (ne-eqb (length k) 0 z) at (parts .1))
+
+-- a correction by itself passes 8: its start is right, and so are its rows
+module _ (s k : List ℕ) (e : Passes (correctionOrder (termsOf s) k)) where
+  eight : (not (correctionStarts k) ≡ false) × Passes (renumbered 8 (rowsOrder (termsOf s) k correctionHeadSize (correctionCount k)))
+  unfolding correctionOrder
+  eight = cons-passes (refusal (not (correctionStarts k)) 8 0) (renumbered 8 (rowsOrder (termsOf s) k correctionHeadSize (correctionCount k))) e
+
+  starts : correctionStarts k ≡ true
+  starts = not-false (correctionStarts k) (eight .0)
+
+  rows : Passes (rowsOrder (termsOf s) k correctionHeadSize (correctionCount k))
+  rows = passes-renumbered 8 (rowsOrder (termsOf s) k correctionHeadSize (correctionCount k)) (eight .1)
+
+  their-few : correctionCount k ≤ 256
+  unfolding correctionStarts correctionHeadOk
+  their-few =
+      let c = correctionHeadAt k in
+      let ok = third (leb correctionHeadSize (length k) && marked k 0 letterK) _ _ starts in
+      leb-true (c .rows) 256
+      (right-true (leb 1 (c .rows)) _ (each (dayOk (c .day) ∷ quarterOk (c .quarter) ∷ within 1 256 (c .rows) ∷ []) ok 2 (lit< tt)))
+    where
+      third : (a b c : Bool) → a && b && c ≡ true → b ≡ true
+      third true true c q = refl
+      third true false c q = q
+      third false b c q = absurd (subst T (sym q) tt)
+
+-- each of a correction's rows that pass 10 corrects one of the interval's
+names-each : (s k : List ℕ) → Passes (besideOrder s k) → (j : ℕ) → j < correctionCount k → corrects s (rowAt k (correctionStart j)) ≡ true
+unfolding besideOrder nameChecks
+names-each s k h j l =
+    let ten = cons-passes (refusal (not (sameTime s k)) 9 0) (rowByRow (correctionCount k) (nameChecks s k)) h .1 in
+    not-false (corrects s (rowAt k (correctionStart j)))
+    (none-applies (check false 0) (nameChecks s k j) tt (rows-each (nameChecks s k) (correctionCount k) j ten l) 0 (lit< tt))
 
 -- without a correction there are no rows of one
 none-named : (k : List ℕ) → length k ≡ 0 → correctionCount k ≡ 0
@@ -112,46 +105,35 @@ unfolding correctionHeadAt numberAt
 none-named [] e = refl
 none-named (x ∷ k) e = absurd (omega arith)
 
-module _ (s k : List ℕ) (n : ℕ) (h : verdictOf s k ≡ Accepted n) where
-  pub accepted-theirs : Rows k 9 (correctionCount k)
-  accepted-theirs = ⊎-elim there absent (lt-or-le 0 (length k)) where
-    there : 0 < length k → Rows k 9 (correctionCount k)
-    there p =
-        let z : length k ≡ 0 → ⊥ = λ e. omega arith in
-        let both = theirs k (parts s k n h z .0) in
-        rows-sound k 9 (correctionCount k) (omega (arith, starts-long k (both .0))) (both .1)
+pub record Corrected (s k : List ℕ) (m : ℕ) : Type 0 where
+  pub rows : Rows k correctionHeadSize m
+  pub few : m ≤ 256
+  pub ok : (j : ℕ) → j < m → rowOk (termsOf s) (rowAt k (correctionStart j)) ≡ true
+  pub names : (j : ℕ) → j < m → corrects s (rowAt k (correctionStart j)) ≡ true
 
-    absent : length k ≤ 0 → Rows k 9 (correctionCount k)
-    absent p =
-        let z : length k ≡ 0 = omega arith in
-        rw (none-named k z)
-        (record { inside = λ i l. absurd (omega arith); ok = λ i l. absurd (omega arith); rising = λ i j l m. absurd (omega arith) })
+pub accepted-corrected : (s k : List ℕ) (n : ℕ) → verdictOf s k ≡ Accepted n → Corrected s k (correctionCount k)
+accepted-corrected s k n h = ⊎-elim there absent (lt-or-le 0 (length k)) where
+  there : 0 < length k → Corrected s k (correctionCount k)
+  there p =
+      let both = present s k n h (λ (z : length k ≡ 0). omega arith) in
+      let passes = rows s k (both .0) in
+      record {
+        rows = rows-sound (termsOf s) k correctionHeadSize (correctionCount k) passes (omega (arith, starts-long k (starts s k (both .0))));
+        few = their-few s k (both .0);
+        ok = λ j l. rows-passed (termsOf s) k correctionHeadSize (correctionCount k) passes j l .ok;
+        names = names-each s k (both .1);
+      }
 
-  pub accepted-few : n ≤ 256
-  unfolding headOk
-  accepted-few =
-      let e = headAt s in
-      omega (
-        arith,
-        accepted-count s k n h,
-        leb-true (e .rows) 256 (each (dayOk (e .day) ∷ quarterOk (e .quarter) ∷ within 1 10000 (e .tariff .0) ∷ leb (e .need .0) 64000000 ∷ leb (e .rows) 256 ∷ []) (accepted-head-ok s k n h) 4 (lit< tt)),
-      )
+  absent : length k ≤ 0 → Corrected s k (correctionCount k)
+  absent p =
+      let z : length k ≡ 0 = omega arith in
+      rw (none-named k z)
+      (record {
+        rows = record { inside = λ i l. absurd (omega arith); rising = λ i j l m. absurd (omega arith) };
+        few = omega arith;
+        ok = λ j l. absurd (omega arith);
+        names = λ j l. absurd (omega arith);
+      })
 
-  pub theirs-few : correctionCount k ≤ 256
-  unfolding correctionHeadOk
-  theirs-few = ⊎-elim there absent (lt-or-le 0 (length k)) where
-    there : 0 < length k → correctionCount k ≤ 256
-    there p =
-        let z : length k ≡ 0 → ⊥ = λ e. omega arith in
-        let e = correctionHeadAt k in
-        let ok = starts-ok k (theirs k (parts s k n h z .0) .0) in
-        leb-true (e .rows) 256 (right-true (leb 1 (e .rows)) _ (each (dayOk (e .day) ∷ quarterOk (e .quarter) ∷ within 1 256 (e .rows) ∷ []) ok 2 (lit< tt)))
-
-    absent : length k ≤ 0 → correctionCount k ≤ 256
-    absent p = let z : length k ≡ 0 = omega arith in omega (arith, none-named k z)
-
-  pub accepted-names : (j : ℕ) → j < correctionCount k → corrects s (rowAt k (correctionStart j)) ≡ true
-  accepted-names j l =
-      let z : length k ≡ 0 → ⊥ = λ e. omega (arith, none-named k e) in
-      names-each (correctionCount k) s k 9 1
-      (or-none (timeFault s k) (namesFault s k 9 (correctionCount k) 1) (parts s k n h z .1) .1) j l
+pub accepted-theirs : (s k : List ℕ) (n : ℕ) → verdictOf s k ≡ Accepted n → Rows k correctionHeadSize (correctionCount k)
+accepted-theirs s k n h = accepted-corrected s k n h .rows

@@ -1,53 +1,77 @@
--- Faults and answers: when the first of two faults is given, and what an answer says of its fault.
---   or-first, or-next     the first of two faults where it is one, else the second
---   or-none               no fault of two: none of either
---   verdict-yes, -no      the answer of no fault, and of a fault
---   accepted-of           an acceptance: there is no fault, and the count is the one stated
---   refused-of            a refusal: its fault has this number and this place, and the number is not 0
-use mathlib.Core.Path.{_≡_, refl, _∙_}
+-- An answer, and what refuses.
+--   accepted-of      an acceptance: nothing refuses, and the count is the one stated
+--   refused-of       a refusal: what refuses has this number and this place
+--   zero-none, none-zero          01, Numbers of refusal: a pair of files gets number 0 exactly if no check applies
+--   number-earliest, earliest-number  and number a ≠ 0 with place p exactly if the first check that applies has them
+--   file-numbers, interval-numbers    the numbers of a pair of files are 1 to 10, those of an interval by itself 1 to 7
+use mathlib.Core.Path.{_≡_, refl, ap}
 use Prim.Native.Nat.{ℕ}
-use mathlib.Core.Bool.{Bool, true, false}
+use mathlib.Core.Bool.{Bool, true, false, cond}
+use mathlib.Core.List.{List, []}
 use native.Mathlib.Omega.{arith}
-use lib.Dec.{eqb}
-use borrow.Author.Tests.{eq-eqb, ne-eqb, eqb-true, eqb-false}
-use Rattle.files.specs.Fault.{Fault, fault, orElse, verdict}
+use lib.Dec.{eqb, lit≤}
+use lib.ListN.{length}
+use Rattle.columns.specs.Checks.{Refusal, refusal, firstRefusal, placed, rowByRow, renumbered, numbersIn, Earliest, NoneApplies, Tells}
+use Rattle.columns.proofs.Checks as checks
+use Rattle.files.specs.Layout.{headSize, correctionHeadSize, rowCount, correctionCount}
+use Rattle.files.specs.Terms.{termsOf}
+use Rattle.files.specs.Order.{headChecks, rowChecks, rowChecksAt, rowChecksOf, rowsOrder, intervalOrder, correctionOrder, nameChecks, besideOrder, presentOrder, fileOrder, verdict, verdictOf, numberOf, valueOf}
+use Rattle.files.specs.declared.Terms.{Terms}
 use Rattle.files.specs.declared.Verdict.the-variants.{Accepted, Refused}
 
-pub or-first : (f g : Fault) → (f .number ≡ 0 → ⊥) → orElse f g ≡ f
-unfolding orElse
-or-first f g h = rw (ne-eqb (f .number) 0 h)
+apart : (n a p : ℕ) → Refused a p ≡ Accepted n → ⊥
+apart n a p e = let z : _≡_ {A = ℕ} 0 1 = cc in omega arith
 
-pub or-next : (f g : Fault) → f .number ≡ 0 → orElse f g ≡ g
-unfolding orElse
-or-next f g h = rw (eq-eqb (f .number) 0 h)
+tells : (n : ℕ) → Tells Refused (Accepted n) numberOf valueOf
+tells n = record { given = refl; numbers = λ a p. refl; places = λ a p. refl; differs = apart n }
 
-pub or-none : (f g : Fault) → orElse f g .number ≡ 0 → (f .number ≡ 0) × (g .number ≡ 0)
-unfolding orElse
-or-none f g h = go (eqb (f .number) 0) refl where
-  go : (t : Bool) → eqb (f .number) 0 ≡ t → (f .number ≡ 0) × (g .number ≡ 0)
-  go true e = (eqb-true (f .number) 0 e, rw e at h)
-  go false e = absurd (eqb-false (f .number) 0 e (rw e at h))
+pub accepted-of : (n m : ℕ) (f : Refusal) → verdict n f ≡ Accepted m → (f .applies ≡ false) × (n ≡ m)
+accepted-of n m f h =
+    let both = checks.accepted-of Refused (Accepted n) f (Accepted m) (apart m) h in
+    (both .0, ap valueOf (both .1))
 
-pub verdict-yes : (n : ℕ) (f : Fault) → f .number ≡ 0 → verdict n f ≡ Accepted n
-verdict-yes n f h = rw (eq-eqb (f .number) 0 h)
+pub refused-of : (n a p : ℕ) (f : Refusal) → verdict n f ≡ Refused a p → f ≡ refusal true a p
+refused-of n a p f h = checks.refused-of Refused (Accepted n) numberOf valueOf (tells n) f a p h
 
-pub verdict-no : (n : ℕ) (f : Fault) → (f .number ≡ 0 → ⊥) → verdict n f ≡ Refused (f .number) (f .place)
-verdict-no n f h = rw (ne-eqb (f .number) 0 h)
+rows-numbers : (t : Terms) (s : List ℕ) (start n : ℕ) → numbersIn 1 7 (rowsOrder t s start n) ≡ true
+unfolding rowChecksOf rowChecksAt rowChecks
+rows-numbers t s start n = checks.numbers-rows 1 7 n (rowChecksOf t s start) (λ i. refl)
 
-pub accepted-of : (n m : ℕ) (f : Fault) → verdict n f ≡ Accepted m → (f .number ≡ 0) × (n ≡ m)
-accepted-of n m f h = go (eqb (f .number) 0) refl where
-  go : (t : Bool) → eqb (f .number) 0 ≡ t → (f .number ≡ 0) × (n ≡ m)
-  go true e = (eqb-true (f .number) 0 e, (let p : Accepted n ≡ Accepted m = rw e at h in cc))
-  go false e = let p : Refused (f .number) (f .place) ≡ Accepted m = rw e at h in
-      let z : _≡_ {A = ℕ} 0 1 = cc in absurd (omega arith)
+pub interval-numbers : (s : List ℕ) → numbersIn 1 7 (intervalOrder s) ≡ true
+unfolding intervalOrder headChecks
+interval-numbers s =
+    checks.numbers-append 1 7 (placed 0 (headChecks s)) (rowsOrder (termsOf s) s headSize (rowCount s)) refl
+    (rows-numbers (termsOf s) s headSize (rowCount s))
 
-pub refused-of : (n a b : ℕ) (f : Fault) → verdict n f ≡ Refused a b → (f ≡ fault a b) × (a ≡ 0 → ⊥)
-refused-of n a b f h = go (eqb (f .number) 0) refl where
-  go : (t : Bool) → eqb (f .number) 0 ≡ t → (f ≡ fault a b) × (a ≡ 0 → ⊥)
-  go true e = let p : Accepted n ≡ Refused a b = rw e at h in
-      let z : _≡_ {A = ℕ} 0 1 = cc in absurd (omega arith)
-  go false e =
-      let p : Refused (f .number) (f .place) ≡ Refused a b = rw e at h in
-      let q : f .number ≡ a = cc in
-      let r : f .place ≡ b = cc in
-      (rw (← q, ← r), λ z. eqb-false (f .number) 0 e (q ∙ z))
+present-numbers : (s k : List ℕ) → numbersIn 1 10 (presentOrder s k) ≡ true
+unfolding presentOrder correctionOrder besideOrder nameChecks
+present-numbers s k =
+    checks.numbers-append 1 10 (correctionOrder (termsOf s) k) (besideOrder s k)
+    (checks.numbers-renumbered 1 10 8 (rowsOrder (termsOf s) k correctionHeadSize (correctionCount k)) refl)
+    (checks.numbers-rows 1 10 (correctionCount k) (nameChecks s k) (λ j. refl))
+
+module _ (s k : List ℕ) where
+  pub file-numbers : numbersIn 1 10 (fileOrder s k) ≡ true
+  unfolding fileOrder
+  file-numbers =
+      checks.numbers-append 1 10 (intervalOrder s) (cond (eqb (length k) 0) [] (presentOrder s k))
+      (checks.numbers-wider 1 7 10 (intervalOrder s) (lit≤ tt) (interval-numbers s)) (pair (eqb (length k) 0)) where
+        pair : (b : Bool) → numbersIn 1 10 (cond b [] (presentOrder s k)) ≡ true
+        pair true = refl
+        pair false = present-numbers s k
+
+  pub zero-none : numberOf (verdictOf s k) ≡ 0 → NoneApplies (fileOrder s k)
+  unfolding verdictOf
+  zero-none = checks.zero-none Refused (Accepted (rowCount s)) numberOf valueOf (tells (rowCount s)) (fileOrder s k) 10 file-numbers
+
+  pub none-zero : NoneApplies (fileOrder s k) → numberOf (verdictOf s k) ≡ 0
+  unfolding verdictOf
+  none-zero = checks.none-zero Refused (Accepted (rowCount s)) numberOf valueOf (tells (rowCount s)) (fileOrder s k) 10 file-numbers
+
+  pub number-earliest : (a p : ℕ) → (a ≡ 0 → ⊥) → numberOf (verdictOf s k) ≡ a → valueOf (verdictOf s k) ≡ p → Earliest (fileOrder s k) a p
+  unfolding verdictOf
+  number-earliest = checks.number-earliest Refused (Accepted (rowCount s)) numberOf valueOf (tells (rowCount s)) (fileOrder s k) 10 file-numbers
+
+  pub earliest-number : (a p : ℕ) → Earliest (fileOrder s k) a p → (numberOf (verdictOf s k) ≡ a) × (valueOf (verdictOf s k) ≡ p)
+  unfolding verdictOf
+  earliest-number = checks.earliest-number Refused (Accepted (rowCount s)) numberOf valueOf (tells (rowCount s)) (fileOrder s k) 10 file-numbers

@@ -11,64 +11,52 @@
 --   counting-rise       and so do those of the rows that count
 --   source-at           what a column of sources has at row i
 --   row-ranges, head-ranges (Ranges.antt)      a row, a head in its ranges as a record of facts
---   refused-first, first-refused, accepted-first, first-accepted, file-first (First.antt)
---                       number k at place p is given exactly when a check gives it and none before it applies; 0 exactly when none does
+--   zero-none, none-zero, number-earliest, earliest-number (Answer.antt)
+--                       number 0 is given exactly if no check applies, number a ≠ 0 and place p exactly if the first that applies has them
 --   head-unique, row-unique, correction-head-unique, test-unique, number-unique, check-unique, interval-unique, counting-unique,
 --   sources-unique, counting-row-unique, seek-unique      two results that a contract allows are equal; test-unique serves the
 --                       tests, number-unique `row_checks`, `row_count`, `correction_count` and `id_at`
 use mathlib.Core.Path.{_≡_, refl, _∙_}
-use Prim.Native.Nat.{ℕ, zero, suc, _+_, _*_, _≤_, _<_}
+use Prim.Native.Nat.{ℕ, _+_, _≤_, _<_}
 use mathlib.Core.Logic.{⊎-elim}
 use mathlib.Core.Bool.{Bool, true, false, cond}
 use mathlib.Core.List.{List}
-use native.Mathlib.Nat.{le-of-suc-le-suc}
 use native.Mathlib.Omega.{arith}
-use lib.Dec.{eqb, ltb}
+use lib.Dec.{ltb}
 use lib.ListN.{getD}
-use borrow.Author.Tests.{ltb-true, eqb-true, eq-eqb}
+use borrow.Author.Tests.{ltb-true, eq-eqb, ne-eqb}
 use Rattle.columns.specs.Table.{table}
 use Rattle.records.specs.Buffer.{put}
 use Rattle.columns.proofs.Table.{table-length, table-at}
 use Rattle.records.proofs.Buffer.{put-inside}
 use Rattle.columns.proofs.First.{right-true}
+use Rattle.columns.proofs.Rank.{find-is}
 use Rattle.columns.proofs.Unique.{unique}
 use Rattle.columns.proofs.Sum.{lt-or-le}
-use Rattle.files.specs.Layout.{rowAt, rowStart, correctionStart, headAt, correctionHeadAt, rowCount, correctionCount}
+use Rattle.files.specs.Layout.{headSize, correctionHeadSize, rowAt, rowStart, correctionStart, headAt, correctionHeadAt, rowCount, correctionCount}
+use Rattle.files.specs.Terms.{termsOf}
 use Rattle.files.specs.Range.{rowOk}
-use Rattle.files.specs.Fault.{findId, sameTerms, corrects, intervalFault, verdict, verdictOf}
-use Rattle.files.specs.Counting.{inCorrection, countingBytes, sourceOf, countingRow}
-use Rattle.files.specs.Walk.{idOf, Rows, Sought}
+use Rattle.files.specs.Walk.{idOf, hasId, findId, inCorrection, Own, Sought}
+use Rattle.files.specs.Order.{sameTerms, corrects, intervalFault, verdict, verdictOf}
+use Rattle.files.specs.Counting.{countingBytes, sourceOf, countingRow}
 use Rattle.files.specs.declared.Head.{Head}
 use Rattle.files.specs.declared.CorrectionHead.{CorrectionHead}
 use Rattle.files.specs.declared.Row.{Row}
 use Rattle.files.specs.declared.Verdict.{Verdict}
 use Rattle.files.specs.declared.Verdict.the-variants.{Accepted}
-use Rattle.files.proofs.Accepted.{accepted-head-ok, accepted-rows, accepted-theirs, accepted-names}
-use Rattle.files.proofs.Found.{find-at}
+use Rattle.files.proofs.Accepted.{accepted-own, accepted-head-ok, accepted-row-ok, accepted-rows, accepted-corrected}
+use Rattle.files.proofs.Found.{find-has}
 use Rattle.files.proofs.Ranges.{HeadRanges, head-ranges, RowRanges, row-ranges}
 pub use Rattle.files.proofs.Accepted.{accepted-count, accepted-length, accepted-few}
 
--- a search that ends at a row found its id there
-find-has : (n : ℕ) (s : List ℕ) (k id : ℕ) → findId s k n id < n → idOf s k (findId s k n id) ≡ id
-unfolding findId rowAt
-find-has zero s k id l = absurd (omega arith)
-find-has (suc n) s k id l = go (eqb (rowAt s k .id) id) refl (find-has n s (k + 21) id) where
-  go : (t : Bool) → eqb (rowAt s k .id) id ≡ t
-      → (findId s (k + 21) n id < n → idOf s (k + 21) (findId s (k + 21) n id) ≡ id)
-      → idOf s k (cond t 0 (suc (findId s (k + 21) n id))) ≡ id
-  go true q f = let here : k + 0 * 21 ≡ k = omega arith in rw here (eqb-true (rowAt s k .id) id q)
-  go false q f =
-      let there : k + suc (findId s (k + 21) n id) * 21 ≡ k + 21 + findId s (k + 21) n id * 21 = omega arith in
-      rw there (f (le-of-suc-le-suc (rw q at l)))
-
 -- what holds of the interval's own row, and of the correction's row where it names that one, holds of the row that counts
 counted : (s k : List ℕ) (i : ℕ) (P : Row → Type 0)
-    → (inCorrection k (rowAt s (rowStart i) .id) < correctionCount k → P (rowAt k (correctionStart (inCorrection k (rowAt s (rowStart i) .id)))))
+    → (inCorrection k (idOf s headSize i) < correctionCount k → P (rowAt k (correctionStart (inCorrection k (idOf s headSize i)))))
     → P (rowAt s (rowStart i)) → P (countingRow s k i)
 unfolding countingRow
 counted s k i P theirs own = go (ltb j (correctionCount k)) refl where
   j : ℕ
-  j = inCorrection k (rowAt s (rowStart i) .id)
+  j = inCorrection k (idOf s headSize i)
 
   go : (t : Bool) → ltb j (correctionCount k) ≡ t → P (cond (ltb j (correctionCount k)) (rowAt k (correctionStart j)) (rowAt s (rowStart i)))
   go true q = rw q (theirs (ltb-true j (correctionCount k) q))
@@ -77,7 +65,7 @@ counted s k i P theirs own = go (ltb j (correctionCount k)) refl where
 pub counting-id : (s k : List ℕ) (i : ℕ) → countingRow s k i .id ≡ rowAt s (rowStart i) .id
 counting-id s k i =
     counted s k i (λ (r : Row). r .id ≡ rowAt s (rowStart i) .id)
-    (λ l. find-has (correctionCount k) k 9 (rowAt s (rowStart i) .id) l) refl
+    (λ l. find-has k correctionHeadSize (correctionCount k) (idOf s headSize i) l) refl
 
 same-self : (r : Row) → sameTerms r r ≡ true
 unfolding sameTerms
@@ -93,12 +81,14 @@ same-self r =
     )
 
 -- a row that corrects, of row i's id: it has row i's terms
-corrects-own : (s : List ℕ) (n i : ℕ) (r : Row) → n ≡ rowCount s → Rows s 15 n → i < n → r .id ≡ rowAt s (rowStart i) .id → corrects s r ≡ true
+corrects-own : (s : List ℕ) (n i : ℕ) (r : Row) → Own s n → i < n → r .id ≡ idOf s headSize i → corrects s r ≡ true
     → sameTerms (rowAt s (rowStart i)) r ≡ true
-unfolding corrects
-corrects-own s n i r count rows l e h =
-    let found : findId s 15 (rowCount s) (r .id) ≡ i =
-    rw (← count, e) (find-at n s 15 (rowAt s (rowStart i) .id) i l refl (λ x m q. absurd (omega (arith, rows .rising x i m l)))) in
+unfolding corrects findId hasId
+corrects-own s n i r own l e h =
+    let found : findId s headSize (rowCount s) (r .id) ≡ i =
+    rw (← own .told, e)
+    (find-is n (hasId s headSize (idOf s headSize i)) i l (eq-eqb (idOf s headSize i) (idOf s headSize i) refl)
+    (λ x m. ne-eqb (idOf s headSize x) (idOf s headSize i) (λ (q : idOf s headSize x ≡ idOf s headSize i). omega (arith, own .rows .rising x i m l)))) in
     right-true (ltb i (rowCount s)) (sameTerms (rowAt s (rowStart i)) r) (rw found at h)
 
 module _ (s k : List ℕ) (n : ℕ) (h : verdictOf s k ≡ Accepted n) where
@@ -109,18 +99,18 @@ module _ (s k : List ℕ) (n : ℕ) (h : verdictOf s k ≡ Accepted n) where
   ids-rise i j l m = accepted-rows s k n h .rising i j l m
 
   module _ (i : ℕ) (l : i < n) where
-    pub accepted-row : rowOk (countingRow s k i) ≡ true
+    pub accepted-row : rowOk (termsOf s) (countingRow s k i) ≡ true
     accepted-row =
-        counted s k i (λ (r : Row). rowOk r ≡ true) (λ m. accepted-theirs s k n h .ok _ m) (accepted-rows s k n h .ok i l)
+        counted s k i (λ (r : Row). rowOk (termsOf s) r ≡ true) (λ m. accepted-corrected s k n h .ok _ m) (accepted-row-ok s k n h i l)
 
-    pub accepted-ranges : RowRanges (countingRow s k i)
-    accepted-ranges = row-ranges (countingRow s k i) accepted-row
+    pub accepted-ranges : RowRanges (termsOf s) (countingRow s k i)
+    accepted-ranges = row-ranges (termsOf s) (countingRow s k i) accepted-row
 
     pub counting-terms : sameTerms (rowAt s (rowStart i)) (countingRow s k i) ≡ true
     counting-terms =
         counted s k i (λ (r : Row). sameTerms (rowAt s (rowStart i)) r ≡ true)
-        (λ m. corrects-own s n i (rowAt k (correctionStart (inCorrection k (rowAt s (rowStart i) .id)))) (accepted-count s k n h) (accepted-rows s k n h) l
-        (find-has (correctionCount k) k 9 (rowAt s (rowStart i) .id) m) (accepted-names s k n h _ m))
+        (λ m. corrects-own s n i (rowAt k (correctionStart (inCorrection k (idOf s headSize i)))) (accepted-own s k n h) l
+        (find-has k correctionHeadSize (correctionCount k) (idOf s headSize i) m) (accepted-corrected s k n h .names _ m))
         (same-self (rowAt s (rowStart i)))
 
   pub counting-rise : (i j : ℕ) → i < j → j < n → countingRow s k i .id < countingRow s k j .id

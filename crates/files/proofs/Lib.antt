@@ -1,10 +1,9 @@
 pub mod Answer
+pub mod Passed
 pub mod Walked
-pub mod Sound
 pub mod Found
 pub mod Named
+pub mod Ranges
 pub mod Accepted
 pub mod Sourced
-pub mod First
-pub mod Ranges
 pub mod Laws

@@ -1,7 +1,6 @@
 -- The row that counts, found by a walk: for one id, and for all rows side by side.
 --   none-there, not-there, is-there, part-is      a count, a row's id and a row's bytes, as the code reads them
 --   theirs-of, own-of, under-none                 what a walk over an accepted pair asks for at its start
---   found-yes, found-no                           the search's answer where the walk stopped at the id, and where not
 --   named-theirs, named-own, named-none           the bytes of an id's row
 --   Sourced                                       how far the column of sources has come; sourced-none, -next, -ends: its steps
 --   own-source, their-source, source-in           the row that counts, by its source
@@ -13,25 +12,25 @@ use mathlib.Core.List.{List, [], _∷_}
 use native.Mathlib.Omega.{arith}
 use lib.Dec.{eqb, ltb}
 use lib.ListN.{length, take, drop, set}
-use borrow.Author.Tests.{lt-ltb, le-ltb, ltb-true, eq-eqb, ne-eqb, not-false}
+use borrow.Author.Tests.{lt-ltb, le-ltb, ltb-true, not-false}
 use Rattle.columns.specs.Table.{table}
 use Rattle.records.specs.Buffer.{put}
 use Rattle.columns.proofs.Table.{table-length, table-next}
 use Rattle.records.proofs.Buffer.{put-length, put-none, put-put, set-put}
 use Rattle.columns.proofs.First.{left-true}
 use Rattle.columns.proofs.Sum.{lt-or-le}
-use Rattle.files.specs.Layout.{rowAt, rowStart, correctionStart, rowCount, correctionCount}
-use Rattle.files.specs.Fault.{findId, fileFault, verdictOf}
-use Rattle.files.specs.Counting.{part, named, countingBytes, inCorrection, sourceOf, countingRow}
-use Rattle.files.specs.Walk.{idOf, Rows, Under, Sought}
+use Rattle.files.specs.Layout.{headSize, rowSize, correctionHeadSize, rowAt, rowStart, correctionStart, rowCount, correctionCount}
+use Rattle.files.specs.Walk.{idOf, findId, inCorrection, Rows, Under, Sought}
+use Rattle.files.specs.Order.{fileFault, verdictOf}
+use Rattle.files.specs.Counting.{part, named, countingBytes, sourceOf, countingRow}
 use Rattle.files.specs.declared.Row.{Row}
 use Rattle.files.specs.declared.Verdict.{Verdict}
 use Rattle.files.specs.declared.Verdict.the-variants.{Accepted, Refused}
 use Rattle.files.proofs.Answer.{refused-of}
-use Rattle.files.proofs.Found.{find-sought}
-use Rattle.files.proofs.Accepted.{accepted-none, accepted-count, accepted-rows, accepted-theirs, accepted-few, theirs-few}
+use Rattle.files.proofs.Found.{has, found-yes, found-no}
+use Rattle.files.proofs.Accepted.{accepted-passes, accepted-count, accepted-few, accepted-rows, accepted-corrected, accepted-theirs}
 
-pub none-there : (k : List ℕ) (m : ℕ) → Rows k 9 m → length k < 9 → 0 ≡ m
+pub none-there : (k : List ℕ) (m : ℕ) → Rows k correctionHeadSize m → length k < correctionHeadSize → 0 ≡ m
 none-there k m r l = ⊎-elim (λ (p : 0 < m). absurd (omega (arith, r .inside 0 p))) (λ (p : m ≤ 0). omega arith) (lt-or-le 0 m)
 
 pub not-there : (n i : ℕ) (t : Bool) → n ≤ i → false ≡ (ltb i n && t)
@@ -40,84 +39,74 @@ not-there n i t l = rw (le-ltb i n l)
 pub is-there : (n i id f x : ℕ) → i < n → f ≡ x → eqb f id ≡ (ltb i n && eqb x id)
 is-there n i id f x l e = rw (lt-ltb i n l, e)
 
-pub part-is : (s : List ℕ) (at : ℕ) → take (at + 21 - at) (drop at s) ≡ part s at
-part-is s at = let e : at + 21 - at ≡ 21 = omega arith in rw e
+pub part-is : (s : List ℕ) (at : ℕ) → take (at + rowSize - at) (drop at s) ≡ part s at
+part-is s at = let e : at + rowSize - at ≡ rowSize = omega arith in rw e
 
-pub theirs-of : (s k : List ℕ) (n m : ℕ) → verdictOf s k ≡ Accepted n → m ≡ correctionCount k → Rows k 9 m
+pub theirs-of : (s k : List ℕ) (n m : ℕ) → verdictOf s k ≡ Accepted n → m ≡ correctionCount k → Rows k correctionHeadSize m
 theirs-of s k n m h e = rw e (accepted-theirs s k n h)
 
 pub few-of : (s k : List ℕ) (n m : ℕ) → verdictOf s k ≡ Accepted n → m ≡ correctionCount k → m ≤ 256
-few-of s k n m h e = rw e (theirs-few s k n h)
+few-of s k n m h e = rw e (accepted-corrected s k n h .few)
 
 pub under-none : (s : List ℕ) (start id : ℕ) → Under s start 0 id
 under-none s start id x l = absurd (omega arith)
 
--- row r is there and has this id
-abbrev pub has : List ℕ → ℕ → ℕ → ℕ → ℕ → Bool
-has s start n r id = ltb r n && eqb (idOf s start r) id
-
 pub has-below : (s : List ℕ) (start n r id : ℕ) (b : Bool) → b ≡ has s start n r id → b ≡ true → r < n
 has-below s start n r id b e h = ltb-true r n (left-true (ltb r n) (eqb (idOf s start r) id) (sym e ∙ h))
 
-pub has-in : (s : List ℕ) (start n r id : ℕ) (b : Bool) → Rows s start n → b ≡ has s start n r id → b ≡ true → start + r * 21 + 21 ≤ length s
+pub has-in : (s : List ℕ) (start n r id : ℕ) (b : Bool) → Rows s start n → b ≡ has s start n r id → b ≡ true → start + r * rowSize + rowSize ≤ length s
 has-in s start n r id b rows e h = rows .inside r (has-below s start n r id b e h)
 
-pub found-yes : (s : List ℕ) (start n id r : ℕ) (b : Bool) → Rows s start n → Sought s start n id r
-    → b ≡ has s start n r id → b ≡ true → findId s start n id ≡ r
-found-yes s start n id r b rows w e h = find-sought s start n id r rows w ∙ (let t : has s start n r id ≡ true = sym e ∙ h in rw t)
+-- the search's answer, by a test of the row where the walk stopped
+module _ (s : List ℕ) (start n id r : ℕ) (b : Bool) (rows : Rows s start n) (w : Sought s start n id r) (told : b ≡ has s start n r id) where
+  at-row : b ≡ true → (findId s start n id ≡ r) × (ltb r n ≡ true)
+  at-row e = (found-yes s start n id r rows w (sym told ∙ e), lt-ltb r n (has-below s start n r id b told e))
 
-pub found-no : (s : List ℕ) (start n id r : ℕ) (b : Bool) → Rows s start n → Sought s start n id r
-    → b ≡ has s start n r id → b ≡ false → findId s start n id ≡ n
-found-no s start n id r b rows w e h = find-sought s start n id r rows w ∙ (let t : has s start n r id ≡ false = sym e ∙ h in rw t)
+  at-none : b ≡ false → ltb (findId s start n id) n ≡ false
+  at-none e = found-no s start n id r rows w (sym told ∙ e)
 
 module _ (s k : List ℕ) (n m id j : ℕ) (b : Bool) (r : List ℕ) (h : verdictOf s k ≡ Accepted n) (count : m ≡ correctionCount k)
-    (w : Sought k 9 m id j) (told : b ≡ has k 9 m j id) where
-  pub named-theirs : b ≡ true → r ≡ part k (9 + j * 21) → r ≡ named s k id
+    (w : Sought k correctionHeadSize m id j) (told : b ≡ has k correctionHeadSize m j id) where
+  pub named-theirs : b ≡ true → r ≡ part k (correctionStart j) → r ≡ named s k id
   unfolding named
   named-theirs e p =
-      rw (← count, found-yes k 9 m id j b (theirs-of s k n m h count) w told e, lt-ltb j m (has-below k 9 m j id b told e)) p
+      let is = at-row k correctionHeadSize m id j b (theirs-of s k n m h count) w told e in rw (← count, is .0, is .1) p
 
   not-theirs : b ≡ false → ltb (inCorrection k id) (correctionCount k) ≡ false
-  not-theirs e = rw (← count, found-no k 9 m id j b (theirs-of s k n m h count) w told e) (le-ltb m m (omega arith))
+  not-theirs e = rw (← count) (at-none k correctionHeadSize m id j b (theirs-of s k n m h count) w told e)
 
-  module _ (i : ℕ) (d : Bool) (v : Sought s 15 n id i) (said : d ≡ has s 15 n i id) where
-    pub named-own : b ≡ false → d ≡ true → r ≡ part s (15 + i * 21) → r ≡ named s k id
+  module _ (i : ℕ) (d : Bool) (v : Sought s headSize n id i) (said : d ≡ has s headSize n i id) where
+    pub named-own : b ≡ false → d ≡ true → r ≡ part s (rowStart i) → r ≡ named s k id
     unfolding named
     named-own e f p =
-        rw (
-          not-theirs e,
-          ← accepted-count s k n h,
-          found-yes s 15 n id i d (accepted-rows s k n h) v said f,
-          lt-ltb i n (has-below s 15 n i id d said f),
-        ) p
+        let is = at-row s headSize n id i d (accepted-rows s k n h) v said f in
+        rw (not-theirs e, ← accepted-count s k n h, is .0, is .1) p
 
     pub named-none : b ≡ false → d ≡ false → r ≡ [] → r ≡ named s k id
     unfolding named
     named-none e f p =
-        rw (not-theirs e, ← accepted-count s k n h, found-no s 15 n id i d (accepted-rows s k n h) v said f, le-ltb n n (omega arith)) p
+        rw (not-theirs e, ← accepted-count s k n h, at-none s headSize n id i d (accepted-rows s k n h) v said f) p
 
 pub counting-named : (s k : List ℕ) (id n : ℕ) (v : Verdict) (r : List ℕ) → v ≡ verdictOf s k → v ≡ Accepted n → r ≡ named s k id → r ≡ countingBytes s k id
 unfolding countingBytes
-counting-named s k id n v r e h p = rw (eq-eqb (fileFault s k .number) 0 (accepted-none s k n (sym e ∙ h))) p
+counting-named s k id n v r e h p = rw (accepted-passes s k n (sym e ∙ h)) p
 
 pub counting-none : (s k : List ℕ) (id a p : ℕ) (v : Verdict) → v ≡ verdictOf s k → v ≡ Refused a p → [] ≡ countingBytes s k id
 unfolding countingBytes verdictOf
-counting-none s k id a p v e h =
-    let g = refused-of (rowCount s) a p (fileFault s k) (sym e ∙ h) in
-    rw (g .0, ne-eqb a 0 (g .1))
+counting-none s k id a p v e h = rw (refused-of (rowCount s) a p (fileFault s k) (sym e ∙ h))
 
-pub source-is : (s k : List ℕ) (m i j id v : ℕ) → Rows k 9 m → m ≡ correctionCount k → Sought k 9 m id j → id ≡ idOf s 15 i
-    → v ≡ cond (has k 9 m j id) (j + 1) 0 → v ≡ sourceOf s k i
+pub source-is : (s k : List ℕ) (m i j id v : ℕ) → Rows k correctionHeadSize m → m ≡ correctionCount k → Sought k correctionHeadSize m id j
+    → id ≡ idOf s headSize i → v ≡ cond (has k correctionHeadSize m j id) (j + 1) 0 → v ≡ sourceOf s k i
 unfolding sourceOf
-source-is s k m i j id v rows count w e p = rw (← count, ← e) (go (has k 9 m j id) refl) where
-  go : (t : Bool) → has k 9 m j id ≡ t → v ≡ cond (ltb (findId k 9 m id) m) (findId k 9 m id + 1) 0
-  go true q = rw (found-yes k 9 m id j (has k 9 m j id) rows w refl q, lt-ltb j m (has-below k 9 m j id (has k 9 m j id) refl q)) (rw q at p)
-  go false q = rw (found-no k 9 m id j (has k 9 m j id) rows w refl q, le-ltb m m (omega arith)) (rw q at p)
+source-is s k m i j id v rows count w e p = rw (← count, ← e) (go (has k correctionHeadSize m j id) refl) where
+  go : (t : Bool) → t ≡ has k correctionHeadSize m j id → v ≡ cond (ltb (findId k correctionHeadSize m id) m) (findId k correctionHeadSize m id + 1) 0
+  go true q = let is = at-row k correctionHeadSize m id j true rows w q refl in rw (is .0, is .1) (rw (← q) at p)
+  go false q = rw (at-none k correctionHeadSize m id j false rows w q refl) (rw (← q) at p)
 
 pub record Sourced (s k : List ℕ) (n m : ℕ) (out₀ out : List ℕ) (i j : ℕ) : Type 0 where
   pub short : i ≤ n
   pub within : j ≤ m
-  pub next : i < n → Under k 9 j (idOf s 15 i)
+  pub next : i < n → Under k correctionHeadSize j (idOf s headSize i)
   pub is : out ≡ put out₀ 0 (table i (sourceOf s k))
 
 pub sourced-none : (s k : List ℕ) (n m : ℕ) (out : List ℕ) → Sourced s k n m out out 0 0
@@ -125,7 +114,7 @@ unfolding table
 sourced-none s k n m out =
     record { short = omega arith; within = omega arith; next = λ l x o. absurd (omega arith); is = sym (put-none out 0) }
 
-pub under-sourced : (s k : List ℕ) (n m : ℕ) (out₀ out : List ℕ) (i j id : ℕ) → Sourced s k n m out₀ out i j → i < n → id ≡ idOf s 15 i → Under k 9 j id
+pub under-sourced : (s k : List ℕ) (n m : ℕ) (out₀ out : List ℕ) (i j id : ℕ) → Sourced s k n m out₀ out i j → i < n → id ≡ idOf s headSize i → Under k correctionHeadSize j id
 under-sourced s k n m out₀ out i j id t l e = rw e (t .next l)
 
 -- one store more in front of what is still as it was
@@ -137,8 +126,8 @@ store-next out₀ out i v f e l p =
     (set-put (put out₀ 0 (table i f)) i (f i) (omega arith) ∙ put-put out₀ 0 i (table i f) (f i ∷ []) (omega arith) (omega arith))
 
 pub sourced-next : (s k : List ℕ) (n m : ℕ) (out₀ out : List ℕ) (i j r id v : ℕ) → verdictOf s k ≡ Accepted n → m ≡ correctionCount k
-    → length out₀ ≡ 256 → Sourced s k n m out₀ out i j → i < n → id ≡ idOf s 15 i → Sought k 9 m id r
-    → v ≡ cond (has k 9 m r id) (r + 1) 0 → Sourced s k n m out₀ (set out i v) (i + 1) r
+    → length out₀ ≡ 256 → Sourced s k n m out₀ out i j → i < n → id ≡ idOf s headSize i → Sought k correctionHeadSize m id r
+    → v ≡ cond (has k correctionHeadSize m r id) (r + 1) 0 → Sourced s k n m out₀ (set out i v) (i + 1) r
 sourced-next s k n m out₀ out i j r id v h count long t l e w p =
     record {
       short = omega arith;
@@ -153,7 +142,7 @@ sourced-ends s k n m out₀ out i j t l = let e : i ≡ n = omega (arith, t .sho
 -- where the correction names row i of the interval: a row of its own, or none
 module _ (s k : List ℕ) (i v : ℕ) (e : v ≡ sourceOf s k i) where
   j : ℕ
-  j = inCorrection k (rowAt s (rowStart i) .id)
+  j = inCorrection k (idOf s headSize i)
 
   unfoldable their : v ≡ cond (ltb j (correctionCount k)) (j + 1) 0
   unfolding sourceOf j
@@ -173,30 +162,30 @@ module _ (s k : List ℕ) (i v : ℕ) (e : v ≡ sourceOf s k i) where
     go true q = let f : v ≡ j + 1 = their ∙ rw q in omega (arith, ltb-true j (correctionCount k) q)
     go false q = absurd (z (their ∙ rw q))
 
-  pub their-source : (r : Row) → (v ≡ 0 → ⊥) → r ≡ rowAt k (9 + (v - 1) * 21) → r ≡ countingRow s k i
+  pub their-source : (r : Row) → (v ≡ 0 → ⊥) → r ≡ rowAt k (correctionStart (v - 1)) → r ≡ countingRow s k i
   unfolding countingRow j
   their-source r z p = go (ltb j (correctionCount k)) refl where
     go : (t : Bool) → ltb j (correctionCount k) ≡ t → r ≡ cond (ltb j (correctionCount k)) (rowAt k (correctionStart j)) (rowAt s (rowStart i))
     go true q = let f : v ≡ j + 1 = their ∙ rw q in let g : v - 1 ≡ j = omega arith in rw (q, ← g) p
     go false q = absurd (z (their ∙ rw q))
 
-pub own-in : (s k : List ℕ) (n i : ℕ) → verdictOf s k ≡ Accepted n → i < n → 15 + i * 21 + 21 ≤ length s
+pub own-in : (s k : List ℕ) (n i : ℕ) → verdictOf s k ≡ Accepted n → i < n → rowStart i + rowSize ≤ length s
 own-in s k n i h l = accepted-rows s k n h .inside i l
 
-pub their-in : (s k : List ℕ) (n i v : ℕ) → verdictOf s k ≡ Accepted n → v ≡ sourceOf s k i → (v ≡ 0 → ⊥) → 9 + (v - 1) * 21 + 21 ≤ length k
+pub their-in : (s k : List ℕ) (n i v : ℕ) → verdictOf s k ≡ Accepted n → v ≡ sourceOf s k i → (v ≡ 0 → ⊥) → correctionStart (v - 1) + rowSize ≤ length k
 their-in s k n i v h e z = accepted-theirs s k n h .inside (v - 1) (source-in s k i v e z)
 
 pub own-small : (s k : List ℕ) (n i : ℕ) → verdictOf s k ≡ Accepted n → i < n → i < 256
 own-small s k n i h l = omega (arith, accepted-few s k n h)
 
-pub has-own : (s k : List ℕ) (n i id : ℕ) (b : Bool) → verdictOf s k ≡ Accepted n → b ≡ has s 15 n i id → b ≡ true → i < 256
+pub has-own : (s k : List ℕ) (n i id : ℕ) (b : Bool) → verdictOf s k ≡ Accepted n → b ≡ has s headSize n i id → b ≡ true → i < 256
 has-own s k n i id b h e t = omega (arith, accepted-few s k n h, has-below s 15 n i id b e t)
 
-pub has-theirs : (s k : List ℕ) (n m j id : ℕ) (b : Bool) → verdictOf s k ≡ Accepted n → m ≡ correctionCount k → b ≡ has k 9 m j id → b ≡ true → j < 256
+pub has-theirs : (s k : List ℕ) (n m j id : ℕ) (b : Bool) → verdictOf s k ≡ Accepted n → m ≡ correctionCount k → b ≡ has k correctionHeadSize m j id → b ≡ true → j < 256
 has-theirs s k n m j id b h c e t = omega (arith, few-of s k n m h c, has-below k 9 m j id b e t)
 
-pub has-told : (k : List ℕ) (m j id : ℕ) (b : Bool) → b ≡ has k 9 m j id → not b ≡ false → j < m
+pub has-told : (k : List ℕ) (m j id : ℕ) (b : Bool) → b ≡ has k correctionHeadSize m j id → not b ≡ false → j < m
 has-told k m j id b e t = has-below k 9 m j id b e (not-false b t)
 
-pub has-in-own : (s k : List ℕ) (n i id : ℕ) (b : Bool) → verdictOf s k ≡ Accepted n → b ≡ has s 15 n i id → b ≡ true → 15 + i * 21 + 21 ≤ length s
+pub has-in-own : (s k : List ℕ) (n i id : ℕ) (b : Bool) → verdictOf s k ≡ Accepted n → b ≡ has s headSize n i id → b ≡ true → rowStart i + rowSize ≤ length s
 has-in-own s k n i id b h e t = has-in s 15 n i id b (accepted-rows s k n h) e t

@@ -4,25 +4,30 @@
 --   checks-told           6 and 7, made of a row that was read
 --   Walked                how far the walk over rows has come; walk-none, -next, -stops, -ends: its steps
 --   interval-refused, interval-rows      1 to 4 first, then the rows
-use mathlib.Core.Path.{_≡_, sym, ap, _∙_}
-use Prim.Native.Nat.{ℕ, suc, _+_, _-_, _*_, _≤_, _<_}
+use mathlib.Core.Path.{_≡_, refl, sym, ap, _∙_}
+use Prim.Native.Nat.{ℕ, _+_, _*_, _≤_, _<_}
 use mathlib.Core.Bool.{Bool, true, false, not}
 use mathlib.Core.List.{List}
+use native.Mathlib.Numerals.{add-one}
 use native.Mathlib.Omega.{arith}
-use lib.Dec.{eqb, lit<}
+use lib.Dec.{T, eqb}
 use lib.ListN.{length}
-use Rattle.columns.specs.Test.{Check, firstOf}
-use Rattle.columns.proofs.First.{none-applies}
+use Rattle.columns.specs.Test.{firstOf}
+use Rattle.columns.specs.Checks.{Refusal, firstRefusal, placed, previous}
+use Rattle.columns.proofs.First.{numbered}
+use Rattle.columns.proofs.Checks.{Passes, append-first, append-next, placed-told, placed-passes, rows-none, rows-next, rows-stop, answer-no, answer-yes}
 use Rattle.columns.proofs.Choice.{differ, agree}
-use borrow.Author.Tests.{eqb-true, not-false}
-use Rattle.files.specs.Layout.{rowStart, headAt, rowAt, rowCount}
+use Rattle.files.specs.Layout.{headSize, rowSize, rowStart, headAt, rowAt, rowCount}
+use Rattle.files.specs.Terms.{termsOf}
 use Rattle.files.specs.Range.{headOk}
-use Rattle.files.specs.Fault.{Fault, fault, check, orElse, headChecks, headFault, rowChecks, rowFault, rowsFault, intervalFault, verdict}
+use Rattle.files.specs.Walk.{idOf}
+use Rattle.files.specs.Order.{headChecks, rowChecks, rowChecksAt, rowChecksOf, rowsOrder, intervalOrder, intervalFault, verdict}
 use Rattle.files.specs.declared.Head.{Head}
 use Rattle.files.specs.declared.Row.{Row}
+use Rattle.files.specs.declared.Terms.{Terms}
 use Rattle.files.specs.declared.Verdict.{Verdict}
 use Rattle.files.specs.declared.Verdict.the-variants.{Accepted, Refused}
-use Rattle.files.proofs.Answer.{or-first, or-next, verdict-yes, verdict-no}
+use Rattle.files.proofs.Passed.{head-passed}
 
 pub unranged : (s : List ℕ) (h : Head) (b : Bool) → h ≡ headAt s → b ≡ headOk h → not b ≡ true → not (headOk (headAt s)) ≡ true
 unranged s h b e f g = rw (← e, ← f) g
@@ -30,80 +35,64 @@ unranged s h b e f g = rw (← e, ← f) g
 pub ranged : (s : List ℕ) (h : Head) (b : Bool) → h ≡ headAt s → b ≡ headOk h → not b ≡ false → not (headOk (headAt s)) ≡ false
 ranged s h b e f g = rw (← e, ← f) g
 
-pub not-long : (s : List ℕ) (n : ℕ) → n ≡ rowCount s → (length s ≡ 15 + n * 21 → ⊥) → not (eqb (length s) (rowStart (rowCount s))) ≡ true
-not-long s n e h = rw (← e) (differ (length s) (15 + n * 21) h)
+pub not-long : (s : List ℕ) (n : ℕ) → n ≡ rowCount s → (length s ≡ rowStart n → ⊥) → not (eqb (length s) (rowStart (rowCount s))) ≡ true
+not-long s n e h = rw (← e) (differ (length s) (rowStart n) h)
 
-pub long : (s : List ℕ) (n : ℕ) → n ≡ rowCount s → length s ≡ 15 + n * 21 → not (eqb (length s) (rowStart (rowCount s))) ≡ false
-long s n e h = rw (← e) (agree (length s) (15 + n * 21) h)
+pub long : (s : List ℕ) (n : ℕ) → n ≡ rowCount s → length s ≡ rowStart n → not (eqb (length s) (rowStart (rowCount s))) ≡ false
+long s n e h = rw (← e) (agree (length s) (rowStart n) h)
 
-pub checks-told : (f last : ℕ) (r q : Row) → r ≡ q → f ≡ firstOf (rowChecks r last) → f ≡ firstOf (rowChecks q last)
-checks-told f last r q e h = rw (← e) h
+pub checks-told : (t : Terms) (f last : ℕ) (r q : Row) → r ≡ q → f ≡ firstOf (rowChecks t r last) → f ≡ firstOf (rowChecks t q last)
+checks-told t f last r q e h = rw (← e) h
 
-pub record Walked (s : List ℕ) (start count last i : ℕ) : Type 0 where
+pub record Walked (t : Terms) (s : List ℕ) (start count last i : ℕ) : Type 0 where
   pub short : i ≤ count
-  pub is : rowsFault s start count 1 0 ≡ rowsFault s (start + i * 21) (count - i) (i + 1) last
+  pub before : last ≡ previous (idOf s start) i
+  pub passes : Passes (rowsOrder t s start i)
 
-pub walk-none : (s : List ℕ) (start count : ℕ) → Walked s start count 0 0
-walk-none s start count =
-    let here : start + 0 * 21 ≡ start = omega arith in
-    let all : count - 0 ≡ count = omega arith in
-    record { short = omega arith; is = rw (here, all) }
+pub walk-none : (t : Terms) (s : List ℕ) (start count : ℕ) → Walked t s start count 0 0
+unfolding previous
+walk-none t s start count = record { short = omega arith; before = refl; passes = rows-none (rowChecksOf t s start) }
 
-rows-step : (s : List ℕ) (start count last i : ℕ) → i < count
-    → rowsFault s (start + i * 21) (count - i) (i + 1) last
-    ≡ orElse (fault (rowFault s (start + i * 21) last) (i + 1))
-    (rowsFault s (start + (i + 1) * 21) (count - (i + 1)) (i + 1 + 1) (rowAt s (start + i * 21) .id))
-unfolding rowsFault
-rows-step s start count last i l =
-    let more : count - i ≡ suc (count - (i + 1)) = omega arith in
-    let next : start + (i + 1) * 21 ≡ start + i * 21 + 21 = omega arith in
-    rw (more, next)
+module _ (t : Terms) (s : List ℕ) (start count last i f : ℕ) (w : Walked t s start count last i) (l : i < count)
+    (told : f ≡ firstOf (rowChecksAt t s (start + i * rowSize) last)) where
+  -- the number that the code has for row i is that of its checks
+  row-told : f ≡ firstOf (rowChecksOf t s start i)
+  unfolding rowChecksOf
+  row-told = rw (← w .before) told
 
-pub walk-next : (s : List ℕ) (start count last i f id : ℕ) → Walked s start count last i → i < count
-    → f ≡ rowFault s (start + i * 21) last → f ≡ 0 → id ≡ rowAt s (start + i * 21) .id → Walked s start count id (i + 1)
-walk-next s start count last i f id w l e z h =
-    record {
-      short = omega arith;
-      is = rw h (w .is ∙ rows-step s start count last i l ∙ or-next _ _ (sym e ∙ z));
-    }
+  pub walk-next : (id : ℕ) → f ≡ 0 → id ≡ rowAt s (start + i * rowSize) .id → Walked t s start count id (i + 1)
+  unfolding previous rowChecksOf rowChecksAt rowChecks
+  walk-next id z e =
+      record {
+        short = omega arith;
+        before = rw (add-one i) e;
+        passes = rows-next (rowChecksOf t s start) i tt (w .passes) (sym row-told ∙ z);
+      }
 
-pub walk-stops : (s : List ℕ) (start count last i f : ℕ) → Walked s start count last i → i < count
-    → f ≡ rowFault s (start + i * 21) last → (f ≡ 0 → ⊥) → Refused f (i + 1) ≡ verdict count (rowsFault s start count 1 0)
-walk-stops s start count last i f w l e z =
-    let is : rowsFault s start count 1 0 ≡ fault f (i + 1) =
-    w .is ∙ rows-step s start count last i l ∙ or-first _ _ (λ o. z (e ∙ o)) ∙ ap (λ (x : ℕ). fault x (i + 1)) (sym e) in
-    rw is (sym (verdict-no count (fault f (i + 1)) z))
+  pub walk-stops : (f ≡ 0 → ⊥) → Refused f (i + 1) ≡ verdict count (firstRefusal (rowsOrder t s start count))
+  walk-stops z = sym (answer-no Refused (Accepted count) _ _ _ (rows-stop (rowChecksOf t s start) count i f l (w .passes) row-told z))
 
-pub walk-ends : (s : List ℕ) (start count last i : ℕ) → Walked s start count last i → count ≤ i
-    → Accepted count ≡ verdict count (rowsFault s start count 1 0)
-unfolding rowsFault
-walk-ends s start count last i w l =
-    let none : count - i ≡ 0 = omega arith in
-    let is : rowsFault s start count 1 0 .number ≡ 0 = ap (λ (f : Fault). f .number) (w .is) ∙ rw none in
-    sym (verdict-yes count (rowsFault s start count 1 0) is)
+pub walk-ends : (t : Terms) (s : List ℕ) (start count last i : ℕ) → Walked t s start count last i → count ≤ i
+    → Accepted count ≡ verdict count (firstRefusal (rowsOrder t s start count))
+walk-ends t s start count last i w l =
+    let e : i ≡ count = omega (arith, w .short) in
+    sym (answer-yes Refused (Accepted count) _ (rw e at (w .passes)))
 
--- a check that no list has: what stands past a list's end
-abbrev pub noCheck : Check
-noCheck = check false 0
+pub head-there : (s : List ℕ) (f : ℕ) → f ≡ firstOf (headChecks s) → f ≡ 0 → headSize ≤ length s
+head-there s f e z = head-passed s (sym e ∙ z) .long
 
-pub head-long : (s : List ℕ) → headFault s ≡ 0 → length s ≡ rowStart (rowCount s)
-unfolding headFault
-head-long s h =
-    eqb-true (length s) (rowStart (rowCount s)) (not-false _ (none-applies noCheck (headChecks s) tt h 3 (lit< tt)))
+pub rows-there : (s : List ℕ) (f n : ℕ) → f ≡ firstOf (headChecks s) → f ≡ 0 → n ≡ rowCount s → rowStart n ≤ length s
+rows-there s f n e z h = omega (arith, head-passed s (sym e ∙ z) .fits)
 
-pub head-there : (s : List ℕ) (f : ℕ) → f ≡ headFault s → f ≡ 0 → 15 ≤ length s
-head-there s f e z = omega (arith, head-long s (sym e ∙ z))
-
-pub rows-there : (s : List ℕ) (f n : ℕ) → f ≡ headFault s → f ≡ 0 → n ≡ rowCount s → 15 + n * 21 ≤ length s
-rows-there s f n e z h = omega (arith, head-long s (sym e ∙ z))
-
-pub interval-refused : (s : List ℕ) (f : ℕ) → f ≡ headFault s → (f ≡ 0 → ⊥) → Refused f 0 ≡ verdict (rowCount s) (intervalFault s)
-unfolding intervalFault
+pub interval-refused : (s : List ℕ) (f : ℕ) → f ≡ firstOf (headChecks s) → (f ≡ 0 → ⊥) → Refused f 0 ≡ verdict (rowCount s) (intervalFault s)
+unfolding intervalOrder
 interval-refused s f e z =
-    rw (or-first (fault (headFault s) 0) (rowsFault s 15 (rowCount s) 1 0) (λ o. z (e ∙ o)), ← e)
-    (sym (verdict-no (rowCount s) (fault f 0) z))
+    let is = placed-told 0 f (headChecks s) e z in
+    sym (answer-no Refused (Accepted (rowCount s)) _ _ _
+    (append-first (placed 0 (headChecks s)) (rowsOrder (termsOf s) s headSize (rowCount s)) (ap (λ (r : Refusal). r .applies) is) ∙ is))
 
-pub interval-rows : (s : List ℕ) (f n : ℕ) (v : Verdict) → f ≡ headFault s → f ≡ 0 → n ≡ rowCount s
-    → v ≡ verdict n (rowsFault s 15 n 1 0) → v ≡ verdict (rowCount s) (intervalFault s)
-unfolding intervalFault
-interval-rows s f n v e z h p = rw (or-next (fault (headFault s) 0) (rowsFault s 15 (rowCount s) 1 0) (sym e ∙ z), ← h) p
+pub interval-rows : (t : Terms) (s : List ℕ) (f n : ℕ) (v : Verdict) → f ≡ firstOf (headChecks s) → f ≡ 0 → t ≡ termsOf s → n ≡ rowCount s
+    → v ≡ verdict n (firstRefusal (rowsOrder t s headSize n)) → v ≡ verdict (rowCount s) (intervalFault s)
+unfolding intervalOrder headChecks
+interval-rows t s f n v e z o h p =
+    rw (append-next (placed 0 (headChecks s)) (rowsOrder (termsOf s) s headSize (rowCount s)) (placed-passes 0 (headChecks s) tt (sym e ∙ z)), ← h, ← o) p

@@ -2,23 +2,16 @@
 use Prim.Native.Nat.{ℕ, _+_}
 use mathlib.Core.Bool.{cond}
 use mathlib.Core.List.{List, []}
-use lib.Dec.{ltb, eqb}
+use lib.Dec.{ltb}
 use lib.ListN.{take, drop}
-use Rattle.columns.specs.Table.{table}
-use Rattle.files.specs.Layout.{rowStart, correctionStart, rowAt, rowCount, correctionCount}
-use Rattle.files.specs.Fault.{findId, fileFault}
+use Rattle.files.specs.Layout.{headSize, rowSize, rowStart, correctionStart, rowAt, rowCount, correctionCount}
+use Rattle.files.specs.Walk.{idOf, inInterval, inCorrection}
+use Rattle.files.specs.Order.{fileFault}
 use Rattle.files.specs.declared.Row.{Row}
 
--- the 21 bytes of a row from position k on
+-- the bytes of a row from position k on
 abbrev pub part : List ℕ → ℕ → List ℕ
-part s k = take 21 (drop k s)
-
--- where the correction names an id, counted from 0; its count of rows where it does not
-abbrev pub inCorrection : List ℕ → ℕ → ℕ
-inCorrection k id = findId k (correctionStart 0) (correctionCount k) id
-
-abbrev pub inInterval : List ℕ → ℕ → ℕ
-inInterval s id = findId s (rowStart 0) (rowCount s) id
+part s k = take rowSize (drop k s)
 
 -- the bytes of an id's row: out of the correction where it names the row, else out of the interval, else none
 unfoldable pub named : List ℕ → List ℕ → ℕ → List ℕ
@@ -28,21 +21,16 @@ named s k id =
 
 -- the bytes that count for an id; none where checks 1 to 10 refuse the pair of files
 unfoldable pub countingBytes : List ℕ → List ℕ → ℕ → List ℕ
-countingBytes s k id = cond (eqb (fileFault s k .number) 0) (named s k id) []
+countingBytes s k id = cond (fileFault s k .applies) [] (named s k id)
 
 -- where the row that counts for row i stands: 0 for the interval's own, else 1 more than the correction's row number
 unfoldable pub sourceOf : List ℕ → List ℕ → ℕ → ℕ
 sourceOf s k i =
-    let j = inCorrection k (rowAt s (rowStart i) .id) in
+    let j = inCorrection k (idOf s headSize i) in
     cond (ltb j (correctionCount k)) (j + 1) 0
 
 -- row i of an accepted pair, with the correction's row in its place where there is one
 unfoldable pub countingRow : List ℕ → List ℕ → ℕ → Row
 countingRow s k i =
-    let own = rowAt s (rowStart i) in
-    let j = inCorrection k (own .id) in
-    cond (ltb j (correctionCount k)) (rowAt k (correctionStart j)) own
-
--- all rows that count, in file order
-unfoldable pub rowsOf : List ℕ → List ℕ → List Row
-rowsOf s k = table (rowCount s) (countingRow s k)
+    let j = inCorrection k (idOf s headSize i) in
+    cond (ltb j (correctionCount k)) (rowAt k (correctionStart j)) (rowAt s (rowStart i))

@@ -9,13 +9,23 @@ use Rattle.files.specs.declared.Head.{Head}
 use Rattle.files.specs.declared.Row.{Row}
 use Rattle.files.specs.declared.CorrectionHead.{CorrectionHead}
 
+-- how many bytes an interval head, a row and a correction head take
+abbrev pub headSize : ℕ
+headSize = 15
+
+abbrev pub rowSize : ℕ
+rowSize = 21
+
+abbrev pub correctionHeadSize : ℕ
+correctionHeadSize = 9
+
 -- where row i of an interval file begins
 abbrev pub rowStart : ℕ → ℕ
-rowStart i = 15 + i * 21
+rowStart i = headSize + i * rowSize
 
 -- where row j of a correction begins
 abbrev pub correctionStart : ℕ → ℕ
-correctionStart j = 9 + j * 21
+correctionStart j = correctionHeadSize + j * rowSize
 
 -- the two bytes at position k are the letter P and the letter given
 abbrev pub marked : List ℕ → ℕ → ℕ → Bool

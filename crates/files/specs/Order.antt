@@ -1,74 +1,109 @@
--- All checks of a pair of files as one ordered list (01, Numbers of refusal): whether each applies, its number, its place.
-use Prim.Native.Nat.{ℕ, zero, suc, _+_, _<_}
-use mathlib.Core.Path.{_≡_}
-use mathlib.Core.Bool.{Bool, true, false, not, cond}
+-- The checks 1 to 10 of a pair of files, told once as one ordered list (01, Numbers of refusal); the answer is the first that applies.
+use Prim.Native.Nat.{ℕ, _+_, _*_}
+use mathlib.Core.Bool.{Bool, not, cond, _&&_}
 use mathlib.Core.List.{List, [], _∷_, _++_}
-use lib.Dec.{eqb}
-use lib.ListN.{length, getD}
+use lib.Dec.{leb, ltb, eqb}
+use lib.ListN.{length}
 use Rattle.columns.specs.Test.{Check}
-use Rattle.files.specs.Layout.{rowStart, correctionStart, rowAt, rowCount, correctionCount}
-use Rattle.files.specs.Fault.{Fault, fault, none, headChecks, rowChecksAt, correctionStarts, sameTime, corrects}
+use Rattle.columns.specs.Checks.{Refusal, check, refusal, firstRefusal, placed, rowByRow, previous, renumbered, answerBy}
+use Rattle.files.specs.Layout.{headSize, rowSize, correctionHeadSize, rowStart, correctionStart, marked, letterH, letterR, letterK, headAt, rowAt, correctionHeadAt, rowCount, correctionCount}
+use Rattle.files.specs.Terms.{termsOf}
+use Rattle.files.specs.Range.{headOk, correctionHeadOk, rowOk}
+use Rattle.files.specs.Walk.{idOf, inInterval}
+use Rattle.files.specs.declared.Row.{Row}
+use Rattle.files.specs.declared.Terms.{Terms}
+use Rattle.files.specs.declared.Verdict.{Verdict}
+use Rattle.files.specs.declared.Verdict.the-variants.{Accepted, Refused}
 
-pub record Refusal : Type 0 where
-  pub applies : Bool
-  pub number : ℕ
-  pub place : ℕ
+-- 1 to 4: length, mark, ranges of the head, length by the count of rows
+unfoldable pub headChecks : List ℕ → List Check
+headChecks s =
+    check (ltb (length s) headSize) 1 ∷ check (not (marked s 0 letterH)) 2 ∷ check (not (headOk (headAt s))) 3
+    ∷ check (not (eqb (length s) (rowStart (rowCount s)))) 4 ∷ []
 
-abbrev pub refusal : Bool → ℕ → ℕ → Refusal
-refusal b n p = record { applies = b; number = n; place = p }
+-- 6 and 7: a row's ranges, and its id against the id before it
+unfoldable pub rowChecks : Terms → Row → ℕ → List Check
+rowChecks t r last = check (not (rowOk t r)) 6 ∷ check (leb (r .id) last) 7 ∷ []
 
--- checks that are all made at one place
-abbrev pub placed : ℕ → List Check → List Refusal
-placed p [] = []
-placed p (c ∷ cs) = refusal (c .applies) (c .number) p ∷ placed p cs
+-- 5, 6, 7 of the row at position k, after a row of id `last`
+unfoldable pub rowChecksAt : Terms → List ℕ → ℕ → ℕ → List Check
+rowChecksAt t s k last = check (not (marked s k letterR)) 5 ∷ rowChecks t (rowAt s k) last
 
--- 5, 6, 7 of each row in turn
-unfoldable pub rowsOrder : List ℕ → ℕ → ℕ → ℕ → ℕ → List Refusal
-rowsOrder s k zero place last = []
-rowsOrder s k (suc left) place last =
-    placed place (rowChecksAt s k last) ++ rowsOrder s (k + 21) left (place + 1) (rowAt s k .id)
+-- 5, 6, 7 of row i of those that begin at byte `start`
+unfoldable pub rowChecksOf : Terms → List ℕ → ℕ → ℕ → List Check
+rowChecksOf t s start i = rowChecksAt t s (start + i * rowSize) (previous (idOf s start) i)
 
--- the same checks, each giving 8
-unfoldable pub eights : List Refusal → List Refusal
-eights [] = []
-eights (r ∷ rs) = refusal (r .applies) 8 (r .place) ∷ eights rs
+-- 5, 6, 7 of each of n rows in turn
+abbrev pub rowsOrder : Terms → List ℕ → ℕ → ℕ → List Refusal
+rowsOrder t s start n = rowByRow n (rowChecksOf t s start)
 
--- 10 of each of the correction's rows in turn
-unfoldable pub namesOrder : List ℕ → List ℕ → ℕ → ℕ → ℕ → List Refusal
-namesOrder s c k zero place = []
-namesOrder s c k (suc left) place =
-    refusal (not (corrects s (rowAt c k))) 10 place ∷ namesOrder s c (k + 21) left (place + 1)
+-- 1 to 7: an interval file by itself
+unfoldable pub intervalOrder : List ℕ → List Refusal
+intervalOrder s = placed 0 (headChecks s) ++ rowsOrder (termsOf s) s headSize (rowCount s)
 
--- 8 by head and length, 8 by rows, 9, 10 of a correction that is present
+-- a correction's length, mark and ranges are right
+unfoldable pub correctionStarts : List ℕ → Bool
+correctionStarts k =
+    leb correctionHeadSize (length k) && marked k 0 letterK && correctionHeadOk (correctionHeadAt k)
+    && eqb (length k) (correctionStart (correctionCount k))
+
+-- 8: a correction by itself, head and length before rows; whatever is wrong with a row by itself is 8
+unfoldable pub correctionOrder : Terms → List ℕ → List Refusal
+correctionOrder t k =
+    refusal (not (correctionStarts k)) 8 0 ∷ renumbered 8 (rowsOrder t k correctionHeadSize (correctionCount k))
+
+-- a correction's day and quarter are the interval's
+unfoldable pub sameTime : List ℕ → List ℕ → Bool
+sameTime s k =
+    eqb (correctionHeadAt k .day) (headAt s .day) && eqb (correctionHeadAt k .quarter) (headAt s .quarter)
+
+-- two rows differ at most in metered and status
+unfoldable pub sameTerms : Row → Row → Bool
+sameTerms a b =
+    eqb (a .id) (b .id) && eqb (a .kind) (b .kind) && eqb (a .capacity) (b .capacity) && eqb (a .offered) (b .offered)
+    && eqb (a .minimum .0) (b .minimum .0) && eqb (a .bid1 .0) (b .bid1 .0) && eqb (a .bid2 .0) (b .bid2 .0)
+
+-- the interval has a row of this id, with the same terms
+unfoldable pub corrects : List ℕ → Row → Bool
+corrects s r =
+    let i = inInterval s (r .id) in
+    ltb i (rowCount s) && sameTerms (rowAt s (rowStart i)) r
+
+-- 10 of row j of a correction: it corrects no row
+unfoldable pub nameChecks : List ℕ → List ℕ → ℕ → List Check
+nameChecks s k j = check (not (corrects s (rowAt k (correctionStart j)))) 10 ∷ []
+
+-- 9: the times differ; then 10 of each of the correction's rows
+unfoldable pub besideOrder : List ℕ → List ℕ → List Refusal
+besideOrder s k = refusal (not (sameTime s k)) 9 0 ∷ rowByRow (correctionCount k) (nameChecks s k)
+
+-- 8, 9, 10: a correction that is present, under the interval's terms
 unfoldable pub presentOrder : List ℕ → List ℕ → List Refusal
-presentOrder s k =
-    (refusal (not (correctionStarts k)) 8 0 ∷ eights (rowsOrder k (correctionStart 0) (correctionCount k) 1 0))
-    ++ (refusal (not (sameTime s k)) 9 0 ∷ namesOrder s k (correctionStart 0) (correctionCount k) 1)
+presentOrder s k = correctionOrder (termsOf s) k ++ besideOrder s k
 
--- 1 to 10 in their order
+-- 1 to 10: the pair of files; a correction of length 0 means that there is none
 unfoldable pub fileOrder : List ℕ → List ℕ → List Refusal
-fileOrder s k =
-    (placed 0 (headChecks s) ++ rowsOrder s (rowStart 0) (rowCount s) 1 0)
-    ++ cond (eqb (length k) 0) [] (presentOrder s k)
+fileOrder s k = intervalOrder s ++ cond (eqb (length k) 0) [] (presentOrder s k)
 
--- the first that applies
-unfoldable pub firstRefusal : List Refusal → Fault
-firstRefusal [] = none
-firstRefusal (r ∷ rs) = cond (r .applies) (fault (r .number) (r .place)) (firstRefusal rs)
+-- what refuses an interval by itself, and a pair of files
+abbrev pub intervalFault : List ℕ → Refusal
+intervalFault s = firstRefusal (intervalOrder s)
 
--- what stands past the end of a list of checks
-abbrev pub noRefusal : Refusal
-noRefusal = refusal false 0 0
+abbrev pub fileFault : List ℕ → List ℕ → Refusal
+fileFault s k = firstRefusal (fileOrder s k)
 
--- some check of the list applies, gives number n and place p, and none before it applies
-pub record Earliest (rs : List Refusal) (n p : ℕ) : Type 0 where
-  pub at : ℕ
-  pub inside : at < length rs
-  pub applies : getD rs at noRefusal .applies ≡ true
-  pub number : getD rs at noRefusal .number ≡ n
-  pub place : getD rs at noRefusal .place ≡ p
-  pub earlier : (i : ℕ) → i < at → getD rs i noRefusal .applies ≡ false
+-- a refusal as an answer; with none, so many rows are accepted
+abbrev pub verdict : ℕ → Refusal → Verdict
+verdict n f = answerBy Refused (Accepted n) f
 
--- no check of the list applies
-abbrev pub NoneApplies : List Refusal → Type 0
-NoneApplies rs = (i : ℕ) → i < length rs → getD rs i noRefusal .applies ≡ false
+unfoldable pub verdictOf : List ℕ → List ℕ → Verdict
+verdictOf s k = verdict (rowCount s) (fileFault s k)
+
+-- the paper's number and value for each answer: 0 and the count, or the refusal's number and its place
+abbrev pub numberOf : Verdict → ℕ
+numberOf (Accepted n) = 0
+numberOf (Refused number place) = number
+
+abbrev pub valueOf : Verdict → ℕ
+valueOf (Accepted n) = n
+valueOf (Refused number place) = place

@@ -15,8 +15,8 @@ terms01 =
       highest2 = record { 0 = 750 };
     }
 
--- the terms that an interval file is held to
-abbrev pub termsOf : List ℕ → Terms
+-- the terms that an interval file and its correction are checked against
+unfoldable pub termsOf : List ℕ → Terms
 termsOf s = terms01
 
 -- the baseline of a capacity of c MW, in kWh

@@ -1,21 +1,49 @@
--- What a walk over rows rests on, once the checks by themselves have passed: where rows stand, and that their ids rise.
+-- Rows one after the other: their ids, a row found by its id, and what a walk over them rests on once 1 to 7 have passed.
 use Prim.Native.Nat.{ℕ, _+_, _*_, _≤_, _<_}
 use mathlib.Core.Path.{_≡_}
-use mathlib.Core.Bool.{true}
+use mathlib.Core.Bool.{Bool}
 use mathlib.Core.List.{List}
+use lib.Dec.{eqb}
 use lib.ListN.{length}
-use Rattle.files.specs.Layout.{rowAt}
-use Rattle.files.specs.Range.{rowOk}
+use Rattle.columns.specs.Sum.{findTo}
+use Rattle.files.specs.Layout.{headSize, rowSize, correctionHeadSize, rowAt, rowCount, correctionCount}
 
 -- the id of row i of those that begin at byte `start`
 abbrev pub idOf : List ℕ → ℕ → ℕ → ℕ
-idOf s start i = rowAt s (start + i * 21) .id
+idOf s start i = rowAt s (start + i * rowSize) .id
 
--- n rows from byte `start` on: all there, each in its ranges, ids strictly rising
+-- row i has this id
+unfoldable pub hasId : List ℕ → ℕ → ℕ → ℕ → Bool
+hasId s start id i = eqb (idOf s start i) id
+
+-- the first of n rows from byte `start` on that has this id, and n if none has
+unfoldable pub findId : List ℕ → ℕ → ℕ → ℕ → ℕ
+findId s start n id = findTo n (hasId s start id)
+
+-- where an interval has an id, counted from 0, and where a correction has it; the count of rows where it has not
+abbrev pub inInterval : List ℕ → ℕ → ℕ
+inInterval s id = findId s headSize (rowCount s) id
+
+abbrev pub inCorrection : List ℕ → ℕ → ℕ
+inCorrection k id = findId k correctionHeadSize (correctionCount k) id
+
+-- n rows from byte `start` on: all there, ids strictly rising
 pub record Rows (s : List ℕ) (start n : ℕ) : Type 0 where
-  pub inside : (i : ℕ) → i < n → start + i * 21 + 21 ≤ length s
-  pub ok : (i : ℕ) → i < n → rowOk (rowAt s (start + i * 21)) ≡ true
+  pub inside : (i : ℕ) → i < n → start + i * rowSize + rowSize ≤ length s
   pub rising : (i j : ℕ) → i < j → j < n → idOf s start i < idOf s start j
+
+-- a file whose head announces n rows, and they are there
+pub record Standing (s : List ℕ) (start count n : ℕ) : Type 0 where
+  pub long : start ≤ length s
+  pub told : n ≡ count
+  pub rows : Rows s start n
+
+-- an interval of n rows that passed 1 to 7, a correction of m rows that passed 8
+abbrev pub Own : List ℕ → ℕ → Type 0
+Own s n = Standing s headSize (rowCount s) n
+
+abbrev pub Theirs : List ℕ → ℕ → Type 0
+Theirs k m = Standing k correctionHeadSize (correctionCount k) m
 
 -- the first i rows have ids below this one
 abbrev pub Under : List ℕ → ℕ → ℕ → ℕ → Type 0

@@ -13,8 +13,8 @@ ghost use lib.Dec.{ltb, eqb};
 ghost use lib.ListN.{length};
 ghost use Rattle.columns.specs.Table.{table};
 ghost use Rattle.records.specs.Buffer.{put};
-ghost use Rattle.files.specs.Layout.{rowCount, correctionCount};
-ghost use Rattle.files.specs.Fault.{verdictOf};
+ghost use Rattle.files.specs.Layout.{rowSize, correctionHeadSize, rowCount, correctionCount};
+ghost use Rattle.files.specs.Order.{verdictOf};
 ghost use Rattle.files.specs.Walk.{idOf, Rows};
 ghost use Rattle.files.specs.Counting.{part, named, countingBytes, sourceOf, countingRow};
 
@@ -26,7 +26,7 @@ const ROW: usize = 21;
 
 // How many rows a correction has that is sound or absent.
 fn named_rows(k: &[u8]) -> usize
-    requires { ⌜ Rows (now k) 9 (correctionCount (now k)) ⌝ }
+    requires { ⌜ Rows (now k) correctionHeadSize (correctionCount (now k)) ⌝ }
     ensures { λ r. ⌜ r ≡ correctionCount (now (k .entry)) ⌝ }
 {
     if k.len() < CORRECTION_HEAD {
@@ -46,9 +46,9 @@ fn is_row(s: &[u8], start: usize, n: usize, i: usize, id: u16) -> bool
     id_at(s, start + i * ROW) == id
 }
 
-// The 21 bytes of a row.
+// The bytes of a row.
 fn part_at(s: &[u8], at: usize) -> &[u8]
-    requires { ⌜ at + 21 ≤ length (now s) ⌝ }
+    requires { ⌜ at + rowSize ≤ length (now s) ⌝ }
     ensures { λ r. ⌜ now r ≡ part (now (s .entry)) at ⌝ }
 {
     &s[at..at + ROW]
@@ -84,9 +84,9 @@ pub fn counting<'a>(interval: &'a [u8], correction: &'a [u8], id: u16) -> &'a [u
 
 // 1 more than a row's number where it has this id, else 0.
 fn source_at(k: &[u8], m: usize, j: usize, id: u16) -> u16
-    requires { ⌜ Rows (now k) 9 m ⌝ }
+    requires { ⌜ Rows (now k) correctionHeadSize m ⌝ }
     requires { ⌜ m ≤ 256 ⌝ }
-    ensures { λ r. ⌜ r ≡ cond (ltb j m && eqb (idOf (now (k .entry)) 9 j) id) (j + 1) 0 ⌝ }
+    ensures { λ r. ⌜ r ≡ cond (ltb j m && eqb (idOf (now (k .entry)) correctionHeadSize j) id) (j + 1) 0 ⌝ }
 {
     if !is_row(k, CORRECTION_HEAD, m, j, id) {
         return 0;
@@ -114,8 +114,7 @@ pub fn sources(interval: &[u8], correction: &[u8], n: usize, out: &mut [u16; 256
 // The row that counts for row i of an accepted pair of n rows, by its source.
 pub fn counting_row(interval: &[u8], correction: &[u8], n: usize, i: usize, source: u16) -> Row
     requires { ⌜ verdictOf (now interval) (now correction) ≡ Verdict.Accepted n ⌝ }
-    requires { ⌜ i < n ⌝ }
-    requires { ⌜ source ≡ sourceOf (now interval) (now correction) i ⌝ }
+    requires { ⌜ (i < n) × (source ≡ sourceOf (now interval) (now correction) i) ⌝ }
     ensures { λ r. ⌜ r ≡ countingRow (now (interval .entry)) (now (correction .entry)) i ⌝ }
 {
     if source == 0 {

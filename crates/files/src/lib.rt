@@ -19,6 +19,7 @@ pub use read::correction_head_at;
 pub use read::head_at;
 pub use read::id_at;
 pub use read::row_at;
+pub use read::terms_of;
 pub use refusal::check;
 pub use refusal::interval_verdict;
 

@@ -2,12 +2,13 @@
 use crate::CorrectionHead;
 use crate::Head;
 use crate::Row;
-use units::half;
+use crate::Terms;
+use units::load;
 use units::most;
 ghost use mathlib.Core.Path.{_≡_};
 ghost use Rattle.columns.specs.Test.{within, firstOf};
 ghost use Rattle.files.specs.Range.{headOk, correctionHeadOk, statusOk, notOffering, offering, rowOk};
-ghost use Rattle.files.specs.Fault.{rowChecks};
+ghost use Rattle.files.specs.Order.{rowChecks};
 
 const LAST_DAY: u32 = 36524;
 
@@ -20,14 +21,6 @@ const HIGHEST_NEED: u32 = 64000000;
 const MOST_ROWS: u16 = 256;
 
 const LARGEST_CAPACITY: u64 = 2000;
-
-const LOWEST_1: u64 = 100;
-
-const HIGHEST_1: u64 = 320;
-
-const LOWEST_2: u64 = 320;
-
-const HIGHEST_2: u64 = 750;
 
 const THERMAL: u8 = 1;
 
@@ -69,32 +62,32 @@ fn not_offering(r: Row) -> bool
     (r.offered == 0) & (r.minimum.0 == 0) & (r.bid1.0 == 0) & (r.bid2.0 == 0)
 }
 
-fn offering(r: Row) -> bool
-    ensures { λ b. ⌜ b ≡ offering r ⌝ }
+fn offering(terms: Terms, r: Row) -> bool
+    ensures { λ b. ⌜ b ≡ offering terms r ⌝ }
 {
     (r.offered == 1)
         & (r.kind == THERMAL)
-        & (r.minimum.0 <= half(r.capacity).0)
-        & within(LOWEST_1, HIGHEST_1, r.bid1.0)
-        & within(LOWEST_2, HIGHEST_2, r.bid2.0)
+        & (r.minimum.0 <= load(r.capacity, terms.percent).0)
+        & within(terms.lowest1.0, terms.highest1.0, r.bid1.0)
+        & within(terms.lowest2.0, terms.highest2.0, r.bid2.0)
 }
 
-pub fn row_ok(r: Row) -> bool
-    ensures { λ b. ⌜ b ≡ rowOk r ⌝ }
+pub fn row_ok(terms: Terms, r: Row) -> bool
+    ensures { λ b. ⌜ b ≡ rowOk terms r ⌝ }
 {
     (1 <= r.id)
         & within(1, SOLAR, r.kind as u64)
         & within(1, LARGEST_CAPACITY, r.capacity as u64)
         & (r.metered.0 <= most(r.capacity).0)
         & status_ok(r)
-        & (not_offering(r) | offering(r))
+        & (not_offering(r) | offering(terms, r))
 }
 
 // 6 and 7 for a row whose mark is right: its ranges, and its id against the id before it.
-pub fn row_checks(r: Row, last: u16) -> usize
-    ensures { λ f. ⌜ f ≡ firstOf (rowChecks r last) ⌝ }
+pub fn row_checks(terms: Terms, r: Row, last: u16) -> usize
+    ensures { λ f. ⌜ f ≡ firstOf (rowChecks terms r last) ⌝ }
 {
-    let ok = row_ok(r);
+    let ok = row_ok(terms, r);
     if !ok {
         return 6;
     }

@@ -2,6 +2,8 @@
 use crate::CorrectionHead;
 use crate::Head;
 use crate::Row;
+use crate::TERMS_01;
+use crate::Terms;
 use records::number_at;
 use units::Hao;
 use units::Kwh;
@@ -9,7 +11,8 @@ use units::Li;
 ghost use mathlib.Core.Path.{_≡_};
 ghost use Prim.Native.Nat.{_+_, _≤_};
 ghost use lib.ListN.{length};
-ghost use Rattle.files.specs.Layout.{marked, headAt, rowAt, correctionHeadAt};
+ghost use Rattle.files.specs.Layout.{headSize, rowSize, correctionHeadSize, marked, headAt, rowAt, correctionHeadAt};
+ghost use Rattle.files.specs.Terms.{termsOf};
 
 // Whether a record's mark stands at a position: the letter P and the letter given.
 pub fn marked(s: &[u8], at: usize, letter: u8) -> bool
@@ -20,7 +23,7 @@ pub fn marked(s: &[u8], at: usize, letter: u8) -> bool
 }
 
 pub fn head_at(s: &[u8]) -> Head
-    requires { ⌜ 15 ≤ length (now s) ⌝ }
+    requires { ⌜ headSize ≤ length (now s) ⌝ }
     ensures { λ r. ⌜ r ≡ headAt (now (s .entry)) ⌝ }
 {
     Head {
@@ -33,7 +36,7 @@ pub fn head_at(s: &[u8]) -> Head
 }
 
 pub fn row_at(s: &[u8], at: usize) -> Row
-    requires { ⌜ at + 21 ≤ length (now s) ⌝ }
+    requires { ⌜ at + rowSize ≤ length (now s) ⌝ }
     ensures { λ r. ⌜ r ≡ rowAt (now (s .entry)) at ⌝ }
 {
     Row {
@@ -50,7 +53,7 @@ pub fn row_at(s: &[u8], at: usize) -> Row
 }
 
 pub fn correction_head_at(s: &[u8]) -> CorrectionHead
-    requires { ⌜ 9 ≤ length (now s) ⌝ }
+    requires { ⌜ correctionHeadSize ≤ length (now s) ⌝ }
     ensures { λ r. ⌜ r ≡ correctionHeadAt (now (s .entry)) ⌝ }
 {
     CorrectionHead {
@@ -60,9 +63,16 @@ pub fn correction_head_at(s: &[u8]) -> CorrectionHead
     }
 }
 
+// The terms that an interval file and its correction are checked against: those of document 01, whatever the file says.
+pub fn terms_of(s: &[u8]) -> Terms
+    ensures { λ r. ⌜ r ≡ termsOf (now (s .entry)) ⌝ }
+{
+    TERMS_01
+}
+
 // A row's id alone.
 pub fn id_at(s: &[u8], at: usize) -> u16
-    requires { ⌜ at + 21 ≤ length (now s) ⌝ }
+    requires { ⌜ at + rowSize ≤ length (now s) ⌝ }
     ensures { λ r. ⌜ r ≡ rowAt (now (s .entry)) at .id ⌝ }
 {
     number_at(s, at + 2, 2) as u16

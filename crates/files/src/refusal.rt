@@ -1,5 +1,6 @@
 // The refusals 1 to 10 in their order (01, Numbers of refusal).
 use crate::Row;
+use crate::Terms;
 use crate::Verdict;
 use crate::range::correction_head_ok;
 use crate::range::head_ok;
@@ -9,15 +10,18 @@ use crate::read::head_at;
 use crate::read::id_at;
 use crate::read::marked;
 use crate::read::row_at;
+use crate::read::terms_of;
 use records::number_at;
 ghost use mathlib.Core.Path.{_≡_};
 ghost use mathlib.Core.Bool.{_&&_};
 ghost use Prim.Native.Nat.{_+_, _*_, _≤_, _<_};
 ghost use lib.Dec.{ltb, eqb};
 ghost use lib.ListN.{length};
-ghost use Rattle.files.specs.Layout.{rowStart, correctionStart, rowAt, headAt, correctionHeadAt, rowCount, correctionCount};
-ghost use Rattle.files.specs.Fault.{headFault, rowFault, rowsFault, intervalFault, correctionStarts, sameTime, timeFault, sameTerms, namesFault, presentFault, orElse, verdict, verdictOf};
-ghost use Rattle.files.specs.Walk.{Rows, Under, Sought};
+ghost use Rattle.columns.specs.Test.{firstOf};
+ghost use Rattle.columns.specs.Checks.{firstRefusal, rowByRow};
+ghost use Rattle.files.specs.Layout.{headSize, rowSize, correctionHeadSize, rowStart, rowAt, rowCount, correctionCount};
+ghost use Rattle.files.specs.Walk.{Rows, Own, Theirs, Under, Sought};
+ghost use Rattle.files.specs.Order.{headChecks, rowChecksAt, rowsOrder, intervalFault, correctionStarts, sameTime, sameTerms, nameChecks, besideOrder, presentOrder, verdict, verdictOf};
 
 const HEAD: usize = 15;
 
@@ -27,7 +31,7 @@ const ROW: usize = 21;
 
 // How many rows an interval file announces.
 pub fn row_count(s: &[u8]) -> usize
-    requires { ⌜ 15 ≤ length (now s) ⌝ }
+    requires { ⌜ headSize ≤ length (now s) ⌝ }
     ensures { λ r. ⌜ (r ≡ rowCount (now (s .entry))) × (r < 65536) ⌝ }
 {
     number_at(s, 13, 2) as usize
@@ -35,7 +39,7 @@ pub fn row_count(s: &[u8]) -> usize
 
 // How many rows a correction announces.
 pub fn correction_count(k: &[u8]) -> usize
-    requires { ⌜ 9 ≤ length (now k) ⌝ }
+    requires { ⌜ correctionHeadSize ≤ length (now k) ⌝ }
     ensures { λ r. ⌜ (r ≡ correctionCount (now (k .entry))) × (r < 65536) ⌝ }
 {
     number_at(k, 7, 2) as usize
@@ -43,7 +47,7 @@ pub fn correction_count(k: &[u8]) -> usize
 
 // 1 to 4.
 fn head_fault(s: &[u8]) -> usize
-    ensures { λ f. ⌜ f ≡ headFault (now (s .entry)) ⌝ }
+    ensures { λ f. ⌜ f ≡ firstOf (headChecks (now (s .entry))) ⌝ }
 {
     if s.len() < HEAD {
         return 1;
@@ -61,26 +65,26 @@ fn head_fault(s: &[u8]) -> usize
 }
 
 // 5, 6, 7 of one row, after a row of id `last`.
-fn row_fault(s: &[u8], at: usize, last: u16) -> usize
-    requires { ⌜ at + 21 ≤ length (now s) ⌝ }
-    ensures { λ f. ⌜ f ≡ rowFault (now (s .entry)) at last ⌝ }
+fn row_fault(terms: Terms, s: &[u8], at: usize, last: u16) -> usize
+    requires { ⌜ at + rowSize ≤ length (now s) ⌝ }
+    ensures { λ f. ⌜ f ≡ firstOf (rowChecksAt terms (now (s .entry)) at last) ⌝ }
 {
     if !marked(s, at, b'R') {
         return 5;
     }
-    row_checks(row_at(s, at), last)
+    row_checks(terms, row_at(s, at), last)
 }
 
 // 5, 6, 7 row by row, of an interval's rows or of a correction's.
-fn rows_verdict(s: &[u8], start: usize, count: usize) -> Verdict
-    requires { ⌜ start + count * 21 ≤ length (now s) ⌝ }
-    ensures { λ v. ⌜ v ≡ verdict count (rowsFault (now (s .entry)) start count 1 0) ⌝ }
+fn rows_verdict(terms: Terms, s: &[u8], start: usize, count: usize) -> Verdict
+    requires { ⌜ start + count * rowSize ≤ length (now s) ⌝ }
+    ensures { λ v. ⌜ v ≡ verdict count (firstRefusal (rowsOrder terms (now (s .entry)) start count)) ⌝ }
 {
     let mut last: u16 = 0;
     let mut i = 0;
     while i < count {
         let at = start + i * ROW;
-        let f = row_fault(s, at, last);
+        let f = row_fault(terms, s, at, last);
         let next = i + 1;
         if f != 0 {
             return Verdict::Refused(f, next);
@@ -99,7 +103,7 @@ pub fn interval_verdict(s: &[u8]) -> Verdict
     if f != 0 {
         return Verdict::Refused(f, 0);
     }
-    rows_verdict(s, HEAD, row_count(s))
+    rows_verdict(terms_of(s), s, HEAD, row_count(s))
 }
 
 // A correction's length, mark and ranges.
@@ -115,8 +119,8 @@ fn correction_starts(k: &[u8]) -> bool
 }
 
 fn same_time(interval: &[u8], correction: &[u8]) -> bool
-    requires { ⌜ 15 ≤ length (now interval) ⌝ }
-    requires { ⌜ 9 ≤ length (now correction) ⌝ }
+    requires { ⌜ headSize ≤ length (now interval) ⌝ }
+    requires { ⌜ correctionHeadSize ≤ length (now correction) ⌝ }
     ensures { λ b. ⌜ b ≡ sameTime (now (interval .entry)) (now (correction .entry)) ⌝ }
 {
     let h = head_at(interval);
@@ -139,9 +143,7 @@ fn same_terms(a: Row, b: Row) -> bool
 
 // The first row from row `from` on whose id is not below this one; n if there is none.
 pub fn seek(s: &[u8], start: usize, from: usize, n: usize, id: u16) -> usize
-    requires { ⌜ Rows (now s) start n ⌝ }
-    requires { ⌜ from ≤ n ⌝ }
-    requires { ⌜ Under (now s) start from id ⌝ }
+    requires { ⌜ Rows (now s) start n × (from ≤ n) × Under (now s) start from id ⌝ }
     ensures { λ r. ⌜ Sought (now (s .entry)) start n id r ⌝ }
 {
     let mut i = from;
@@ -156,7 +158,7 @@ pub fn seek(s: &[u8], start: usize, from: usize, n: usize, id: u16) -> usize
 
 // Row i of the interval is there and has this row's terms.
 fn matches_row(s: &[u8], n: usize, i: usize, r: Row) -> bool
-    requires { ⌜ Rows (now s) 15 n ⌝ }
+    requires { ⌜ Rows (now s) headSize n ⌝ }
     ensures { λ t. ⌜ t ≡ (ltb i n && sameTerms (rowAt (now (s .entry)) (rowStart i)) r) ⌝ }
 {
     if n <= i {
@@ -167,10 +169,9 @@ fn matches_row(s: &[u8], n: usize, i: usize, r: Row) -> bool
 
 // 10: both files side by side, since ids rise in both.
 fn names_verdict(interval: &[u8], correction: &[u8], n: usize, m: usize) -> Verdict
-    requires { ⌜ n ≡ rowCount (now interval) ⌝ }
-    requires { ⌜ Rows (now interval) 15 n ⌝ }
-    requires { ⌜ Rows (now correction) 9 m ⌝ }
-    ensures { λ v. ⌜ v ≡ verdict n (namesFault (now (interval .entry)) (now (correction .entry)) 9 m 1) ⌝ }
+    requires { ⌜ Own (now interval) n ⌝ }
+    requires { ⌜ Theirs (now correction) m ⌝ }
+    ensures { λ v. ⌜ v ≡ verdict n (firstRefusal (rowByRow m (nameChecks (now (interval .entry)) (now (correction .entry))))) ⌝ }
 {
     let mut i = 0;
     let mut j = 0;
@@ -187,12 +188,9 @@ fn names_verdict(interval: &[u8], correction: &[u8], n: usize, m: usize) -> Verd
 
 // 9, then 10.
 fn beside_verdict(interval: &[u8], correction: &[u8], n: usize, m: usize) -> Verdict
-    requires { ⌜ 15 ≤ length (now interval) ⌝ }
-    requires { ⌜ 9 ≤ length (now correction) ⌝ }
-    requires { ⌜ n ≡ rowCount (now interval) ⌝ }
-    requires { ⌜ Rows (now interval) 15 n ⌝ }
-    requires { ⌜ Rows (now correction) 9 m ⌝ }
-    ensures { λ v. ⌜ v ≡ verdict n (orElse (timeFault (now (interval .entry)) (now (correction .entry))) (namesFault (now (interval .entry)) (now (correction .entry)) 9 m 1)) ⌝ }
+    requires { ⌜ Own (now interval) n ⌝ }
+    requires { ⌜ Theirs (now correction) m ⌝ }
+    ensures { λ v. ⌜ v ≡ verdict n (firstRefusal (besideOrder (now (interval .entry)) (now (correction .entry)))) ⌝ }
 {
     if !same_time(interval, correction) {
         return Verdict::Refused(9, 0);
@@ -202,16 +200,14 @@ fn beside_verdict(interval: &[u8], correction: &[u8], n: usize, m: usize) -> Ver
 
 // 8, then 9 and 10: a correction that is present.
 fn present_verdict(interval: &[u8], correction: &[u8], n: usize) -> Verdict
-    requires { ⌜ 15 ≤ length (now interval) ⌝ }
-    requires { ⌜ n ≡ rowCount (now interval) ⌝ }
-    requires { ⌜ Rows (now interval) 15 n ⌝ }
-    ensures { λ v. ⌜ v ≡ verdict n (presentFault (now (interval .entry)) (now (correction .entry))) ⌝ }
+    requires { ⌜ Own (now interval) n ⌝ }
+    ensures { λ v. ⌜ v ≡ verdict n (firstRefusal (presentOrder (now (interval .entry)) (now (correction .entry)))) ⌝ }
 {
     if !correction_starts(correction) {
         return Verdict::Refused(8, 0);
     }
     let m = correction_count(correction);
-    let rows = rows_verdict(correction, CORRECTION_HEAD, m);
+    let rows = rows_verdict(terms_of(interval), correction, CORRECTION_HEAD, m);
     match rows {
         Verdict::Refused(_, place) => Verdict::Refused(8, place),
         Verdict::Accepted(_) => beside_verdict(interval, correction, n, m),

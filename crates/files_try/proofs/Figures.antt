@@ -4,10 +4,12 @@ use Prim.Native.Nat.{ℕ}
 use mathlib.Core.Bool.{true}
 use lib.Dec.{eqb}
 use borrow.Author.Tests.{eq-eqb}
+use Rattle.columns.specs.Checks.{firstRefusal, rowByRow, previous}
 use Rattle.records.specs.Number.{numberAt}
-use Rattle.files.specs.Layout.{headAt, rowAt, correctionHeadAt}
+use Rattle.files.specs.Layout.{headAt, rowAt}
+use Rattle.files.specs.Terms.{termsOf}
 use Rattle.files.specs.Range.{headOk, statusOk, notOffering, offering, rowTests, rowOk}
-use Rattle.files.specs.Fault.{orElse, headFault, rowFault, rowsFault, intervalFault, presentFault, pairFault, fileFault, verdictOf}
+use Rattle.files.specs.Order.{headChecks, rowChecks, rowChecksAt, rowChecksOf, intervalOrder, fileOrder, verdictOf}
 use Rattle.files_try.specs.Tried.{answerOf}
 
 pub record Figures : Type 0 where
@@ -19,7 +21,7 @@ pub record Figures : Type 0 where
   pub bid-321 : answerOf 100 321 ≡ 6
 
 pub figures : Figures
-unfolding answerOf verdictOf fileFault pairFault presentFault intervalFault rowsFault rowFault headFault orElse rowOk rowTests offering notOffering statusOk headOk headAt rowAt correctionHeadAt numberAt
+unfolding answerOf verdictOf firstRefusal fileOrder intervalOrder rowByRow previous rowChecksOf rowChecksAt rowChecks headChecks rowOk rowTests offering notOffering statusOk headOk termsOf headAt rowAt numberAt
 figures =
     record {
       capacity-2000 = refl;

@@ -1,7 +1,7 @@
 -- An interval file of one thermal row that offers, with a capacity and a tier 1 bid to try (01, Checked figures).
 use Prim.Native.Nat.{ℕ, _/_, _%_}
 use mathlib.Core.List.{List, [], _∷_}
-use Rattle.files.specs.Fault.{verdictOf, numberOf}
+use Rattle.files.specs.Order.{verdictOf, numberOf}
 
 -- tariff 1300, need 3,000; id 1, thermal, metered 9,000, minimum 0, tier 2 bid 400
 abbrev pub tried : ℕ → ℕ → List ℕ

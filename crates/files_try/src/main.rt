@@ -1,7 +1,7 @@
 // Figures that are run (01, Checked figures): capacity 2,000 and 2,001; tier 1 bids 99, 100, 320, 321.
 use files::Verdict;
 ghost use mathlib.Core.Path.{_≡_};
-ghost use Rattle.files.specs.Fault.{numberOf};
+ghost use Rattle.files.specs.Order.{numberOf};
 ghost use Rattle.files_try.specs.Tried.{tried, answerOf};
 
 // The bytes of an interval file of one row.

@@ -10,6 +10,9 @@
 --   put-before, put-after on either side of it stands what stood there
 --   take-put, put-taken   the first elements up to the run's end, and the run alone, taken out again
 --   drop-put              what follows the run is as it was
+--   put-left, put-right   a run put within the first, or the second, of two joined lists
+--   put-within            a run put within a run that was put
+--   put-ahead             a run put right in front of one that was put
 use mathlib.Core.Path.{_≡_, refl, sym, ap, _∙_}
 use mathlib.Core.List.{List, [], _∷_, _++_, append-assoc, append-nil}
 use Prim.Native.Nat.{ℕ, _+_, _-_, _≤_, _<_}
@@ -18,6 +21,7 @@ use native.Mathlib.Numerals.{add-one}
 use native.Mathlib.Omega.{arith}
 use lib.ListN.{length, getD, take, drop, set, length-append, length-take, length-drop, take-append-drop, List·getD-append}
 use lib.Seq.{length-take-le, take-suc, take-at, drop-at, drop-drop, set-split, getD-take, getD-drop, getD-append-add, take-all, drop-length}
+use lib.Seq.{take-append-add, drop-append-add, take-append-le, drop-append-le, take-take}
 use Rattle.records.specs.Buffer.{put}
 
 module _ {A : Type 0} where
@@ -116,3 +120,38 @@ module _ {A : Type 0} where
       let n = k + length vs in
       let e : n + (j - n) ≡ j = omega arith in
       rw (← e, ← getD-drop n (put l k vs) (j - n) d, ← getD-drop n l (j - n) d, drop-put l k vs h)
+
+  pub put-left : (a b : List A) (k : ℕ) (vs : List A) → k + length vs ≤ length a → put (a ++ b) k vs ≡ put a k vs ++ b
+  unfolding put
+  put-left a b k vs h =
+      rw (take-append-le k a b (omega arith), drop-append-le (k + length vs) a b h) (simp append-assoc)
+
+  pub put-right : (a b : List A) (n k : ℕ) (vs : List A) → length a ≡ n → put (a ++ b) (n + k) vs ≡ a ++ put b k vs
+  unfolding put
+  put-right a b n k vs e =
+      rw (← e, take-append-add a b k, add-assoc (length a) k (length vs), drop-append-add a b (k + length vs)) (simp append-assoc)
+
+  pub put-within : (l : List A) (k : ℕ) (vs : List A) (m : ℕ) (ws : List A) → k ≤ length l → m + length ws ≤ length vs
+      → put (put l k vs) (k + m) ws ≡ put l k (put vs m ws)
+  put-within l k vs m ws h i =
+      ap (λ (x : List A). put x (k + m) ws) (parts vs)
+      ∙ put-right (take k l) (vs ++ drop (k + length vs) l) k m ws (length-take-le k l h)
+      ∙ ap (λ (x : List A). take k l ++ x) (put-left vs (drop (k + length vs) l) m ws i)
+      ∙ rw (← put-length vs m ws i) (sym (parts (put vs m ws))) where
+        parts : (xs : List A) → put l k xs ≡ take k l ++ (xs ++ drop (k + length xs) l)
+        parts xs = unfold put in refl
+
+  pub put-ahead : (l : List A) (k : ℕ) (vs ws : List A) → k + length vs ≤ length l
+      → put (put l (k + length vs) ws) k vs ≡ put l k (vs ++ ws)
+  unfolding put
+  put-ahead l k vs ws h =
+      let n = k + length vs in
+      let front : length (take n l) ≡ n = length-take-le n l h in
+      let end : n + length ws ≡ k + length (vs ++ ws) = omega (arith, length-append vs ws) in
+      rw (
+        take-append-le k (take n l) (ws ++ drop (n + length ws) l) (omega arith),
+        take-take k n l (omega arith),
+        drop-at (take n l) (ws ++ drop (n + length ws) l) n front,
+        end,
+      )
+      (simp append-assoc)

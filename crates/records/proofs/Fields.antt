@@ -1,5 +1,6 @@
 -- Numbers put into a buffer byte by byte, and a record's fields one after the other. A writing loop keeps what it still owes:
 -- put behind what it has written, that makes the whole.
+--   put-first                  a run put in two: its first element by a store, the others behind it
 --   number-none, -more, -all   the loop over a number's bytes: its start, a turn, its end
 --   owed-none, -next, -all     the same of the loop over fields (record Owed); owed-room: the next one has room
 use mathlib.Core.Path.{_≡_, refl, sym, _∙_}
@@ -17,7 +18,7 @@ use Rattle.records.proofs.Number.{number-length}
 use Rattle.records.proofs.Buffer.{put-length, put-none, put-put, set-put}
 
 -- a run put in two: its first element by a store, the others behind it
-put-first : (l : List ℕ) (k b : ℕ) (bs : List ℕ) → k < length l → put (set l k b) (k + 1) bs ≡ put l k (b ∷ bs)
+pub put-first : (l : List ℕ) (k b : ℕ) (bs : List ℕ) → k < length l → put (set l k b) (k + 1) bs ≡ put l k (b ∷ bs)
 put-first l k b bs h = rw (set-put l k b h) (put-put l k (k + 1) (b ∷ []) bs refl (omega arith))
 
 pub number-none : (l : List ℕ) (k width x : ℕ) → put l (k + 0) (numberBytes (width - 0) x) ≡ put l k (numberBytes width x)
@@ -41,7 +42,6 @@ number-all l k i width left whole owed h =
     sym (put-none l (k + i)) ∙ (rw none at owed)
 
 span-more : (ws : List ℕ) (i : ℕ) → i < length ws → span (drop i ws) ≡ at ws i + span (drop (i + 1) ws)
-unfolding span
 span-more ws i h = rw (add-one, drop-cons ws i 0)
 
 -- the loop over fields before field i: those from i on are still owed, from `end` on

@@ -2,4 +2,8 @@ pub mod Number
 pub mod Buffer
 pub mod Fields
 pub mod Reading
+pub mod Record
+pub mod Got
 pub mod Unique
+pub mod Sheet
+pub mod Column

@@ -4,7 +4,7 @@ use mathlib.Core.List.{List, [], _∷_, _++_}
 use Rattle.records.specs.Number.{numberBytes}
 
 -- how many bytes fields of these widths take
-unfoldable pub span : List ℕ → ℕ
+abbrev pub span : List ℕ → ℕ
 span [] = 0
 span (w ∷ ws) = w + span ws
 

@@ -1,10 +1,27 @@
 // Numbers and records in bytes (01, The files): little-endian numbers of any width, a record as a table of widths.
+mod cells;
+
+pub use cells::cell;
+pub use cells::get_column;
+pub use cells::put_cell;
+pub use cells::put_column;
 ghost use mathlib.Core.Path.{_≡_};
 ghost use Prim.Native.Nat.{_+_, _≤_, _<_, _^_};
 ghost use lib.ListN.{length};
+ghost use mathlib.Core.Bool.{true};
 ghost use Rattle.records.specs.Number.{numberAt, numberBytes};
 ghost use Rattle.records.specs.Fields.{span, fieldsBytes};
 ghost use Rattle.records.specs.Buffer.{put};
+ghost use Rattle.records.specs.Record.{marked, recordSize, recordAt, recordBytes, narrow, Fits};
+
+// A field of a table of widths, where records of that table stand one after the other: the first begins at `start`, each `stride` bytes
+// after the one before, and the field `offset` bytes into its record.
+pub struct Field {
+    pub start: usize,
+    pub stride: usize,
+    pub offset: usize,
+    pub width: usize,
+}
 
 // A byte as a number to reckon with.
 pub fn wide(x: u8) -> u64
@@ -66,4 +83,37 @@ pub fn put_fields(out: &mut [u8], at: usize, widths: &[u8], fields: &[u64])
         end += width;
         i += 1;
     }
+}
+
+// Whether a record's mark stands at a position: the letter P and the letter given.
+pub fn marked(s: &[u8], at: usize, letter: u8) -> bool
+    requires { ⌜ at + 2 ≤ length (now s) ⌝ }
+    ensures { λ r. ⌜ r ≡ marked (now (s .entry)) at letter ⌝ }
+{
+    (s[at] == b'P') & (s[at + 1] == letter)
+}
+
+// The fields of the record whose mark stands at a position, each read in its own width.
+pub fn get_record(s: &[u8], at: usize, widths: &[u8], fields: &mut [u64])
+    requires { ⌜ (at + recordSize (now widths) ≤ length (now s)) × (length (now fields) ≡ length (now widths)) × (narrow (now widths) ≡ true) ⌝ }
+    ensures { λ r. ⌜ (now (fields .exit) ≡ recordAt (now (widths .entry)) (now (s .entry)) at) × Fits (now (widths .entry)) (now (fields .exit)) ⌝ }
+{
+    let mut end = at + 2;
+    let mut i = 0;
+    while i < widths.len() {
+        let width = wide(widths[i]) as usize;
+        fields[i] = number_at(s, end, width);
+        end += width;
+        i += 1;
+    }
+}
+
+// Puts a record from a position on: its mark, then its fields, each in its own width.
+pub fn put_record(out: &mut [u8], at: usize, letter: u8, widths: &[u8], fields: &[u64])
+    requires { ⌜ (length (now fields) ≡ length (now widths)) × (at + recordSize (now widths) ≤ length (now out)) ⌝ }
+    ensures { λ r. ⌜ now (out .exit) ≡ put (now (out .entry)) at (recordBytes letter (now (widths .entry)) (now (fields .entry))) ⌝ }
+{
+    out[at] = b'P';
+    out[at + 1] = letter;
+    put_fields(out, at + 2, widths, fields);
 }

@@ -1,57 +1,56 @@
--- Statements in bytes: the head, a line, many lines, and the way back (01, The files).
+-- Statements in bytes (01, The files): a head, then a line for each row, each a record by its table of widths.
 use Prim.Native.Nat.{ℕ, _+_, _*_}
-use mathlib.Core.List.{List, [], _∷_, _++_}
-use Rattle.records.specs.Number.{numberAt, numberBytes}
+use mathlib.Core.List.{List, [], _∷_}
+use Rattle.columns.specs.Table.{at}
+use Rattle.records.specs.Record.{recordSize, recordAt, recordBytes}
 use Rattle.statement.specs.declared.StatementHead.{StatementHead}
-use Rattle.statement.specs.declared.Line.{Line}
+
+-- the letters of their marks
+abbrev pub letterS : ℕ
+letterS = 83
+
+abbrev pub letterL : ℕ
+letterL = 76
+
+-- day, quarter, price of tier 1, of tier 2, total, shortfall, rounds, uncovered, rows
+abbrev pub headWidths : List ℕ
+headWidths = 4 ∷ 1 ∷ 2 ∷ 2 ∷ 8 ∷ 8 ∷ 2 ∷ 4 ∷ 2 ∷ []
+
+-- id, called in tier 1, in tier 2, compensation, cut, weight, cap, paid, closing round
+abbrev pub lineWidths : List ℕ
+lineWidths = 2 ∷ 4 ∷ 4 ∷ 4 ∷ 4 ∷ 4 ∷ 4 ∷ 4 ∷ 2 ∷ []
+
+abbrev pub headSize : ℕ
+headSize = recordSize headWidths
+
+abbrev pub lineSize : ℕ
+lineSize = recordSize lineWidths
 
 -- where line i begins, and how long a statement of so many lines is
 abbrev pub lineStart : ℕ → ℕ
-lineStart i = 35 + i * 34
+lineStart i = headSize + i * lineSize
 
--- statement head, 35 bytes
+-- a head as its fields, and back
+abbrev pub headFields : StatementHead → List ℕ
+headFields h =
+    h .day ∷ h .quarter ∷ h .price1 .0 ∷ h .price2 .0 ∷ h .total .0 ∷ h .shortfall .0 ∷ h .rounds ∷ h .uncovered .0 ∷ h .rows ∷ []
+
+abbrev pub headOf : List ℕ → StatementHead
+headOf xs =
+    record {
+      day = at xs 0;
+      quarter = at xs 1;
+      price1 = record { 0 = at xs 2 };
+      price2 = record { 0 = at xs 3 };
+      total = record { 0 = at xs 4 };
+      shortfall = record { 0 = at xs 5 };
+      rounds = at xs 6;
+      uncovered = record { 0 = at xs 7 };
+      rows = at xs 8;
+    }
+
 unfoldable pub statementHeadBytes : StatementHead → List ℕ
-statementHeadBytes h =
-    80 ∷ 83 ∷ numberBytes 4 (h .day) ++ numberBytes 1 (h .quarter) ++ numberBytes 2 (h .price1 .0)
-    ++ numberBytes 2 (h .price2 .0) ++ numberBytes 8 (h .total .0) ++ numberBytes 8 (h .shortfall .0)
-    ++ numberBytes 2 (h .rounds) ++ numberBytes 4 (h .uncovered .0) ++ numberBytes 2 (h .rows)
+statementHeadBytes h = recordBytes letterS headWidths (headFields h)
 
 unfoldable pub statementHeadAt : List ℕ → StatementHead
-statementHeadAt s =
-    record {
-      day = numberAt 4 s 2;
-      quarter = numberAt 1 s 6;
-      price1 = record { 0 = numberAt 2 s 7 };
-      price2 = record { 0 = numberAt 2 s 9 };
-      total = record { 0 = numberAt 8 s 11 };
-      shortfall = record { 0 = numberAt 8 s 19 };
-      rounds = numberAt 2 s 27;
-      uncovered = record { 0 = numberAt 4 s 29 };
-      rows = numberAt 2 s 33;
-    }
-
--- statement line, 34 bytes
-unfoldable pub lineBytes : Line → List ℕ
-lineBytes l =
-    80 ∷ 76 ∷ numberBytes 2 (l .id) ++ numberBytes 4 (l .called1 .0) ++ numberBytes 4 (l .called2 .0)
-    ++ numberBytes 4 (l .compensation .0) ++ numberBytes 4 (l .cut .0) ++ numberBytes 4 (l .weight .0)
-    ++ numberBytes 4 (l .cap .0) ++ numberBytes 4 (l .paid .0) ++ numberBytes 2 (l .closing)
-
-unfoldable pub lineAt : List ℕ → ℕ → Line
-lineAt s k =
-    record {
-      id = numberAt 2 s (k + 2);
-      called1 = record { 0 = numberAt 4 s (k + 4) };
-      called2 = record { 0 = numberAt 4 s (k + 8) };
-      compensation = record { 0 = numberAt 4 s (k + 12) };
-      cut = record { 0 = numberAt 4 s (k + 16) };
-      weight = record { 0 = numberAt 4 s (k + 20) };
-      cap = record { 0 = numberAt 4 s (k + 24) };
-      paid = record { 0 = numberAt 4 s (k + 28) };
-      closing = numberAt 2 s (k + 32);
-    }
-
--- the bytes of lines, one after the other
-unfoldable pub linesBytes : List Line → List ℕ
-linesBytes [] = []
-linesBytes (l ∷ ls) = lineBytes l ++ linesBytes ls
+statementHeadAt s = headOf (recordAt headWidths s 0)

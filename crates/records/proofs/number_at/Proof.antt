@@ -1,4 +1,4 @@
--- `columns::number_at` meets its contract: the loop has read the bytes above i.
+-- `records::number_at` meets its contract: the loop has read the bytes above i.
 use Prim.Native.Nat.{_<_, _^_}
 use borrow.Author.Needs.{needs}
 use Rattle.records.proofs.Reading.{Read, read-none, read-room, read-next, read-all}

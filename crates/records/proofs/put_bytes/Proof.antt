@@ -1,4 +1,4 @@
--- `columns::put_bytes` meets its contract: so far the first i elements of the source are put.
+-- `records::put_bytes` meets its contract: so far the first i elements of the source are put.
 use Rattle.records.proofs.put_bytes.Statement.{statement}
 use mathlib.Core.Path.{_≡_}
 use Prim.Native.Nat.{_-_, _≤_}

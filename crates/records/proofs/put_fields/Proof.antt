@@ -1,4 +1,4 @@
--- `columns::put_fields` meets its contract: the fields from i on are still owed, from `end` on.
+-- `records::put_fields` meets its contract: the fields from i on are still owed, from `end` on.
 use Prim.Native.Nat.{_-_}
 use borrow.Author.Needs.{needs}
 use lib.ListN.{length}

@@ -1,4 +1,4 @@
--- `columns::put_number` meets its contract: the bytes from i on are still owed.
+-- `records::put_number` meets its contract: the bytes from i on are still owed.
 use mathlib.Core.Path.{_≡_}
 use Prim.Native.Nat.{_+_, _-_, _≤_}
 use native.Mathlib.Omega.{arith}

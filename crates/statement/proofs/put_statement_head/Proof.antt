@@ -1,9 +1,6 @@
--- `statement::put_statement_head` meets its contract: the fields by their widths are the head's bytes.
-use mathlib.Core.Path.{refl, ap, _∙_}
+-- `statement::put_statement_head` meets its contract: the head's fields by its table.
 use borrow.Author.Needs.{needs}
-use Rattle.records.specs.Fields.{span}
-use Rattle.records.specs.Buffer.{put}
-use Rattle.statement.proofs.Fields.{head-fields}
+use Rattle.statement.specs.Statement.{statementHeadBytes}
 use Rattle.statement.proofs.put_statement_head.Statement.{statement}
 use Rattle.statement.proofs.put_statement_head.Tie as tie
 
@@ -22,27 +19,21 @@ cast-t8 c = search needs
 cast-t9 : tie.Need-cast-t9
 cast-t9 c = search needs
 
-cast-t10 : tie.Need-cast-t10
-cast-t10 c = search needs
+slice-aggregate-put-record : tie.Need-slice-aggregate-put-record
+slice-aggregate-put-record c = search needs
 
-cast-t11 : tie.Need-cast-t11
-cast-t11 c = search needs
+slice-aggregate-put-record-2 : tie.Need-slice-aggregate-put-record-2
+slice-aggregate-put-record-2 c = search needs
 
-slice-aggregate-put-fields : tie.Need-slice-aggregate-put-fields
-slice-aggregate-put-fields c = search needs
-
-slice-aggregate-put-fields-2 : tie.Need-slice-aggregate-put-fields-2
-slice-aggregate-put-fields-2 c = search needs
-
-put-fields-requires : tie.Need-put-fields-requires
-unfolding span
-put-fields-requires c κs = (refl, search needs)
+put-record-requires : tie.Need-put-record-requires
+put-record-requires c κs = search needs
 
 same-length : tie.Need-same-length
 same-length c = search needs
 
 returns : tie.Need-returns
-returns c = c .before .before .put-fields .ensures ∙ ap (put _ _) (head-fields _)
+unfolding statementHeadBytes
+returns c = search needs
 
 pub put-statement-head-spec : {M : Type 1} → statement M
 put-statement-head-spec =
@@ -53,10 +44,8 @@ put-statement-head-spec =
     cast-t7
     cast-t8
     cast-t9
-    cast-t10
-    cast-t11
-    slice-aggregate-put-fields
-    slice-aggregate-put-fields-2
-    put-fields-requires
+    slice-aggregate-put-record
+    slice-aggregate-put-record-2
+    put-record-requires
     same-length
     returns)

@@ -1,7 +1,7 @@
 -- `files::counts::is_row` meets its contract.
 use Prim.Native.Nat.{_-_}
 use borrow.Author.Needs.{needs}
-use Rattle.files.proofs.Sound.{row-in}
+use Rattle.files.proofs.Passed.{row-in}
 use Rattle.files.proofs.Sourced.{not-there, is-there}
 use Rattle.files.proofs.counts.is_row.Statement.{statement}
 use Rattle.files.proofs.counts.is_row.Tie as tie

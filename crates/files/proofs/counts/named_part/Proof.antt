@@ -10,7 +10,7 @@ named-rows-requires : tie.Need-named-rows-requires
 named-rows-requires c κs = search accepted-theirs
 
 seek-requires : tie.Need-seek-requires
-seek-requires c κs = (search theirs-of, (search needs, under-none _ _ _))
+seek-requires c κs = (search theirs-of, search needs, under-none _ _ _)
 
 is-row-requires : tie.Need-is-row-requires
 is-row-requires c κs = search theirs-of
@@ -28,7 +28,7 @@ returns : tie.Need-returns
 returns c = search named-theirs
 
 seek-requires-2 : tie.Need-seek-requires-2
-seek-requires-2 c κs = (search accepted-rows, (search needs, under-none _ _ _))
+seek-requires-2 c κs = (search accepted-rows, search needs, under-none _ _ _)
 
 is-row-requires-2 : tie.Need-is-row-requires-2
 is-row-requires-2 c κs = search accepted-rows

@@ -28,7 +28,7 @@ id-at-requires : tie.Need-id-at-requires Inv-loop μ-loop
 id-at-requires c κs = search own-in
 
 seek-requires : tie.Need-seek-requires Inv-loop μ-loop
-seek-requires c κs = (search theirs-of, (search needs, search under-sourced))
+seek-requires c κs = (search theirs-of, search needs, search under-sourced)
 
 source-at-requires : tie.Need-source-at-requires Inv-loop μ-loop
 source-at-requires c κs = (search theirs-of, search few-of)

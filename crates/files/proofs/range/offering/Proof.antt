@@ -4,8 +4,8 @@ use Rattle.files.specs.Range.{offering}
 use Rattle.files.proofs.range.offering.Statement.{statement}
 use Rattle.files.proofs.range.offering.Tie as tie
 
-half-requires : tie.Need-half-requires
-half-requires c κs = search needs
+load-requires : tie.Need-load-requires
+load-requires c κs = search needs
 
 within-requires : tie.Need-within-requires
 within-requires c κs = search needs
@@ -18,4 +18,4 @@ unfolding offering
 returns c = cc
 
 pub offering-spec : {M : Type 1} → statement M
-offering-spec = tie.close (tie.spec half-requires within-requires within-requires-2 returns)
+offering-spec = tie.close (tie.spec load-requires within-requires within-requires-2 returns)

@@ -1,20 +1,20 @@
 -- `files::refusal::head_fault` meets its contract.
 use borrow.Author.Needs.{needs}
 use Rattle.columns.proofs.Choice.{checks}
-use Rattle.files.specs.Fault.{headFault}
+use Rattle.files.specs.Order.{headChecks}
 use Rattle.files.proofs.Walked.{ranged, unranged, long, not-long}
 use Rattle.files.proofs.refusal.head_fault.Statement.{statement}
 use Rattle.files.proofs.refusal.head_fault.Tie as tie
 
 returns : tie.Need-returns
-unfolding headFault
+unfolding headChecks
 returns c = search checks depth 12
 
 marked-requires : tie.Need-marked-requires
 marked-requires c κs = search needs
 
 returns-2 : tie.Need-returns-2
-unfolding headFault
+unfolding headChecks
 returns-2 c = search checks depth 12
 
 head-at-requires : tie.Need-head-at-requires
@@ -24,7 +24,7 @@ head-ok-requires : tie.Need-head-ok-requires
 head-ok-requires c κs = search needs
 
 returns-3 : tie.Need-returns-3
-unfolding headFault
+unfolding headChecks
 returns-3 c = search (checks, unranged) depth 12
 
 row-count-requires : tie.Need-row-count-requires
@@ -37,11 +37,11 @@ add-if4 : tie.Need-add-if4
 add-if4 c = search needs
 
 returns-4 : tie.Need-returns-4
-unfolding headFault
+unfolding headChecks
 returns-4 c = search (checks, ranged, not-long) depth 12
 
 returns-5 : tie.Need-returns-5
-unfolding headFault
+unfolding headChecks
 returns-5 c = search (checks, ranged, long) depth 12
 
 pub head-fault-spec : {M : Type 1} → statement M

@@ -10,6 +10,9 @@ head-fault-requires c κs = search needs
 returns : tie.Need-returns
 returns c = search interval-refused
 
+terms-of-requires : tie.Need-terms-of-requires
+terms-of-requires c κs = search needs
+
 row-count-requires : tie.Need-row-count-requires
 row-count-requires c κs = search head-there
 
@@ -22,4 +25,4 @@ returns-2 c = search interval-rows
 pub interval-verdict-spec : {M : Type 1} → statement M
 interval-verdict-spec =
     tie.close
-    (tie.spec head-fault-requires returns row-count-requires rows-verdict-requires returns-2)
+    (tie.spec head-fault-requires returns terms-of-requires row-count-requires rows-verdict-requires returns-2)

@@ -1,7 +1,7 @@
 -- `files::refusal::matches_row` meets its contract.
 use borrow.Author.Needs.{needs}
 use Rattle.files.proofs.Named.{no-match, match-told}
-use Rattle.files.proofs.Sound.{row-in}
+use Rattle.files.proofs.Passed.{row-in}
 use Rattle.files.proofs.refusal.matches_row.Statement.{statement}
 use Rattle.files.proofs.refusal.matches_row.Tie as tie
 

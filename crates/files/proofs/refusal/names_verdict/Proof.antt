@@ -2,8 +2,9 @@
 use Prim.Native.Nat.{_+_, _-_, _*_, _≤_}
 use lib.ListN.{length}
 use borrow.Author.Needs.{needs}
+use Rattle.files.specs.Layout.{correctionStart, rowSize}
 use Rattle.files.proofs.Named.{Beside, beside-none, beside-next, beside-stops, beside-ends, under-beside}
-use Rattle.files.proofs.Sound.{row-in}
+use Rattle.files.proofs.Passed.{row-in}
 use Rattle.files.proofs.refusal.names_verdict.Statement.{statement}
 use Rattle.files.proofs.refusal.names_verdict.Tie as tie
 
@@ -17,16 +18,16 @@ loop-holds : tie.Need-loop-holds Inv-loop μ-loop
 loop-holds c = search beside-none
 
 mul-row-at : tie.Need-mul-row-at Inv-loop μ-loop
-mul-row-at c = let l : 9 + c .before .loop .j * 21 + 21 ≤ length (c .before .before .before .before .args .correction .now) = search row-in in search needs
+mul-row-at c = let l : correctionStart (c .before .loop .j) + rowSize ≤ length (c .before .before .before .before .args .correction .now) = search row-in in search needs
 
 add-row-at : tie.Need-add-row-at Inv-loop μ-loop
-add-row-at c = let l : 9 + c .before .loop .j * 21 + 21 ≤ length (c .before .before .before .before .args .correction .now) = search row-in in search needs
+add-row-at c = let l : correctionStart (c .before .loop .j) + rowSize ≤ length (c .before .before .before .before .args .correction .now) = search row-in in search needs
 
 row-at-requires : tie.Need-row-at-requires Inv-loop μ-loop
 row-at-requires c κs = search row-in
 
 seek-requires : tie.Need-seek-requires Inv-loop μ-loop
-seek-requires c κs = (search needs, (search needs, search under-beside))
+seek-requires c κs = (search needs, search needs, search under-beside)
 
 add-j : tie.Need-add-j Inv-loop μ-loop
 add-j c = search needs

@@ -13,6 +13,9 @@ returns c = search bad-start
 correction-count-requires : tie.Need-correction-count-requires
 correction-count-requires c κs = search correction-there
 
+terms-of-requires : tie.Need-terms-of-requires
+terms-of-requires c κs = search needs
+
 rows-verdict-requires : tie.Need-rows-verdict-requires
 rows-verdict-requires c κs = search theirs-there
 
@@ -23,7 +26,7 @@ enum-told : tie.Need-enum-told
 enum-told c = search needs
 
 beside-verdict-requires : tie.Need-beside-verdict-requires
-beside-verdict-requires c κs = (search needs, (search correction-there, (search needs, (search needs, search theirs-sound))))
+beside-verdict-requires c κs = (search needs, search theirs-sound)
 
 returns-2 : tie.Need-returns-2
 returns-2 c = search bad-row
@@ -38,6 +41,7 @@ present-verdict-spec =
     correction-starts-requires
     returns
     correction-count-requires
+    terms-of-requires
     rows-verdict-requires
     enum-known-rows
     enum-told

@@ -6,10 +6,10 @@ use Rattle.files.proofs.refusal.rows_verdict.Statement.{statement}
 use Rattle.files.proofs.refusal.rows_verdict.Tie as tie
 
 abbrev Inv-loop : tie.InvT-loop
-Inv-loop s start count last₀ i₀ last i = Walked s start count last i
+Inv-loop terms s start count last₀ i₀ last i = Walked terms s start count last i
 
 abbrev μ-loop : tie.MeasureT-loop
-μ-loop s start count last₀ i₀ last i = count - i
+μ-loop terms s start count last₀ i₀ last i = count - i
 
 loop-holds : tie.Need-loop-holds Inv-loop μ-loop
 loop-holds c = search walk-none

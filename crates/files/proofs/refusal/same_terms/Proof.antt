@@ -1,6 +1,6 @@
 -- `files::refusal::same_terms` meets its contract.
 use mathlib.Core.Path.{refl}
-use Rattle.files.specs.Fault.{sameTerms}
+use Rattle.files.specs.Order.{sameTerms}
 use Rattle.files.proofs.refusal.same_terms.Statement.{statement}
 use Rattle.files.proofs.refusal.same_terms.Tie as tie
 

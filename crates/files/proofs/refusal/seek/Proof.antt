@@ -4,8 +4,9 @@ use native.Mathlib.Omega.{arith}
 use lib.ListN.{length}
 use borrow.Author.Needs.{needs}
 use Rattle.files.specs.Walk.{Under}
+use Rattle.files.specs.Layout.{rowSize}
 use Rattle.files.proofs.Found.{under-next, sought-here, sought-none}
-use Rattle.files.proofs.Sound.{row-in}
+use Rattle.files.proofs.Passed.{row-in}
 use Rattle.files.proofs.refusal.seek.Statement.{statement}
 use Rattle.files.proofs.refusal.seek.Tie as tie
 
@@ -19,10 +20,10 @@ loop-holds : tie.Need-loop-holds Inv-loop μ-loop
 loop-holds c = search needs
 
 mul-id-at : tie.Need-mul-id-at Inv-loop μ-loop
-mul-id-at c = let a = c .before .before .before .args in let l : a .start + c .before .loop .i * 21 + 21 ≤ length (a .s .now) = search row-in in search needs
+mul-id-at c = let a = c .before .before .before .args in let l : a .start + c .before .loop .i * rowSize + rowSize ≤ length (a .s .now) = search row-in in search needs
 
 add-id-at : tie.Need-add-id-at Inv-loop μ-loop
-add-id-at c = let a = c .before .before .before .args in let l : a .start + c .before .loop .i * 21 + 21 ≤ length (a .s .now) = search row-in in search needs
+add-id-at c = let a = c .before .before .before .args in let l : a .start + c .before .loop .i * rowSize + rowSize ≤ length (a .s .now) = search row-in in search needs
 
 id-at-requires : tie.Need-id-at-requires Inv-loop μ-loop
 id-at-requires c κs = search row-in
