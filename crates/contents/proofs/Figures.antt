@@ -9,10 +9,13 @@ use Prim.Native.Nat.{ℕ}
 use Rattle.records.specs.Number.{numberAt, numberBytes}
 use Rattle.columns.specs.Table.{table}
 use Rattle.files.specs.Layout.{headAt, headBytes, rowAt, rowBytes}
+use Rattle.columns.specs.Checks.{none, firstRefusal, rowByRow, previous}
+use Rattle.files.specs.Terms.{termsOf}
 use Rattle.files.specs.Range.{headOk, statusOk, notOffering, offering, rowTests, rowOk}
-use Rattle.files.specs.Fault.{fault, none, orElse, headFault, rowFault, rowsFault, intervalFault}
+use Rattle.files.specs.Order.{headChecks, rowChecks, rowChecksAt, rowChecksOf, intervalOrder, intervalFault}
 use Rattle.files.specs.declared.Row.{Row}
-use Rattle.contents.specs.Content.{zeroRow, contentsOf, rowsBytes, contentsBytes, listFault, contentsFault, writerFault}
+use Rattle.contents.specs.Content.{zeroRow, contentsOf, rowsBytes, contentsBytes, termsIn, rowChecksIn, writerOrder, writtenOf}
+use Rattle.contents.specs.declared.Written.the-variants.{Refused}
 use Rattle.contents.specs.declared.Contents.{Contents}
 
 abbrev file : List ℕ
@@ -59,7 +62,7 @@ said rows =
     }
 
 pub x-accepted : intervalFault file ≡ none
-unfolding intervalFault headFault rowsFault rowFault orElse headAt rowAt numberAt headOk rowOk rowTests statusOk notOffering offering
+unfolding intervalOrder headChecks rowByRow rowChecksOf rowChecksAt rowChecks previous firstRefusal termsOf headAt rowAt numberAt headOk rowOk rowTests statusOk notOffering offering
 x-accepted = refl
 
 pub x-said : contentsBytes (said (first ∷ plain 2 1 20000 ∷ plain 3 2 5000 ∷ [])) ≡ file
@@ -71,7 +74,7 @@ unfolding contentsOf headAt rowAt numberAt table
 x-read = refl
 
 pub x-refused :
-    (writerFault (said (first ∷ plain 3 2 5000 ∷ plain 2 1 20000 ∷ [])) 78 ≡ fault 7 3)
-    × (writerFault (said (first ∷ plain 2 1 20000 ∷ plain 3 2 5000 ∷ [])) 77 ≡ fault 11 0)
-unfolding writerFault contentsFault listFault orElse headOk rowOk rowTests statusOk notOffering offering table
+    (writtenOf (said (first ∷ plain 3 2 5000 ∷ plain 2 1 20000 ∷ [])) 78 ≡ Refused 7 3)
+    × (writtenOf (said (first ∷ plain 2 1 20000 ∷ plain 3 2 5000 ∷ [])) 77 ≡ Refused 11 0)
+unfolding writtenOf writerOrder rowByRow rowChecksIn rowChecks previous firstRefusal termsIn headOk rowOk rowTests statusOk notOffering offering table
 x-refused = (refl, refl)

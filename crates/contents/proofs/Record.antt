@@ -10,7 +10,7 @@ use mathlib.Core.Path.{_≡_, refl, sym, ap, _∙_}
 use mathlib.Core.Bool.{true}
 use mathlib.Core.List.{List, [], _∷_, _++_}
 use Prim.Native.Nat.{ℕ, suc, _+_, _^_, _≤_, _<_}
-use native.Mathlib.Nat.{add-assoc, add-zero}
+use native.Mathlib.Nat.{add-assoc, add-zero, mul-le-mul}
 use native.Mathlib.Omega.{arith}
 use borrow.Author.Tests.{eqb-true}
 use lib.Dec.{eqb}
@@ -24,7 +24,9 @@ use Rattle.files.specs.Range.{headOk, rowOk}
 use Rattle.files.specs.Layout.{marked, letterH, letterR, headAt, headBytes, rowAt, rowBytes}
 use Rattle.files.specs.declared.Head.{Head}
 use Rattle.files.specs.declared.Row.{Row}
-use Rattle.files.proofs.Ranges.{head-ranges, row-ranges}
+use Rattle.files.specs.Terms.{Sound}
+use Rattle.files.proofs.Ranges.{head-ranges, row-ranges, sound-01}
+use Rattle.contents.specs.Content.{termsIn}
 
 pub head-length : (h : Head) → length (headBytes h) ≡ 15
 unfolding headBytes numberBytes
@@ -169,9 +171,15 @@ head-fits h e =
 pub rows-few : (h : Head) → headOk h ≡ true → h .rows ≤ 256
 rows-few h e = head-ranges h e .rows
 
-pub row-fits : (r : Row) → rowOk r ≡ true → r .id < 256 ^ 2 → RowFits r
-row-fits r e i =
-    let q = row-ranges r e in
+-- the terms that contents are checked against are sound
+terms-in : (h : Head) → Sound (termsIn h)
+unfolding termsIn
+terms-in h = sound-01
+
+pub row-fits : (h : Head) (r : Row) → rowOk (termsIn h) r ≡ true → r .id < 256 ^ 2 → RowFits r
+row-fits h r e i =
+    let q = row-ranges (termsIn h) r e in
+    let t = terms-in h in
     record {
       id = i;
       kind = omega arith;
@@ -179,7 +187,7 @@ row-fits r e i =
       metered = omega arith;
       status = omega arith;
       offered = omega arith;
-      minimum = omega arith;
+      minimum = omega (arith, mul-le-mul {n₂ = 2000} {m₂ = 50} (q .capacity-high) (t .below));
       bid1 = omega arith;
       bid2 = omega arith;
     }

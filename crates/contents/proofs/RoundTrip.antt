@@ -7,60 +7,69 @@
 --   contents-reread     and reading the front of the buffer gives the contents again
 --   file-again, contents-accepted, contents-again, contents-read     the same of bytes and contents, with no buffer
 use mathlib.Core.Path.{_≡_, refl, sym, ap, _∙_}
-use mathlib.Core.Bool.{Bool, true, false, cond}
+use mathlib.Core.Bool.{Bool, true, false}
 use mathlib.Core.Logic.{⊎-elim}
 use mathlib.Core.List.{List}
-use Prim.Native.Nat.{ℕ, _*_, _^_, _≤_, _<_}
-use native.Mathlib.Nat.{zero-add}
+use Prim.Native.Nat.{ℕ, zero, suc, _*_, _≤_, _<_}
 use native.Mathlib.Omega.{arith}
-use borrow.Author.Tests.{lt-ltb, le-ltb, eq-eqb, eqb-true}
-use lib.Dec.{ltb, eqb}
+use borrow.Author.Tests.{lt-ltb, le-ltb, eq-eqb}
 use lib.ListN.{length, getD, take}
 use lib.Seq.{length-take-le, getD-take, take-add, take-all}
 use Rattle.columns.specs.Table.{table, Below}
-use Rattle.records.specs.Buffer.{put}
-use Rattle.records.proofs.Buffer.{put-taken}
+use Rattle.columns.specs.Test.{firstOf}
+use Rattle.columns.specs.Checks.{none, firstRefusal, placed, previous}
 use Rattle.columns.proofs.Sum.{lt-or-le}
 use Rattle.columns.proofs.Table.{table-length, table-at, table-is}
-use Rattle.files.specs.Layout.{marked, letterR, rowStart, headAt, rowAt, rowCount}
+use Rattle.columns.proofs.Checks.{Passes, append-passes, append-next, passes-placed, placed-passes, first-number}
+use Rattle.records.specs.Buffer.{put}
+use Rattle.records.proofs.Buffer.{put-taken}
+use Rattle.files.specs.Layout.{headSize, rowStart, headAt, rowAt, rowCount}
+use Rattle.files.specs.Terms.{termsOf}
 use Rattle.files.specs.Range.{headOk}
-use Rattle.files.specs.Fault as read
-use Rattle.files.specs.Fault.{Fault, fault, orElse, verdict, none, headFault, rowsFault, intervalFault}
+use Rattle.files.specs.Walk.{idOf}
+use Rattle.files.specs.Order.{headChecks, rowChecks, rowChecksAt, rowChecksOf, intervalOrder}
+use Rattle.files.specs.Order as file
 use Rattle.files.specs.declared.Head.{Head}
+use Rattle.files.specs.declared.Row.{Row}
 use Rattle.files.specs.declared.Verdict.the-variants.{Accepted}
-use Rattle.files.proofs.Answer.{or-none, or-next}
-use Rattle.files.proofs.Sound.{rows-each}
-use Rattle.contents.specs.Content.{zeroRow, contentsOf, readingOf, contentsBytes, listFault, contentsFault, writerFault, writtenOf, writtenBuffer}
+use Rattle.files.proofs.Answer.{interval-numbers}
+use Rattle.files.proofs.Passed.{HeadPassed, head-passed, Passed, rows-passed}
+use Rattle.contents.specs.Content.{zeroRow, contentsOf, readingOf, contentsBytes, termsIn, idIn, writerFault, writtenOf, writtenBuffer}
 use Rattle.contents.specs.InRange.{InRange}
 use Rattle.contents.specs.declared.Contents.{Contents}
 use Rattle.contents.specs.declared.Written.the-variants.{Bytes}
 use Rattle.contents.proofs.Walk.{fileRow}
 use Rattle.contents.proofs.Record.{head-write, head-fits, row-fits, rows-few}
 use Rattle.contents.proofs.Rows.{contents-length, contents-head, contents-mark, contents-row, contents-row-mark, rows-write}
-use Rattle.contents.proofs.Refusal.{HeadNone, head-none, rows-pass, rows-agree}
+use Rattle.contents.proofs.Refusal.{Writable, passed-writer, rows-all, row-passes, list-passes, rising-ids, in-range-writable}
 
--- an answer's number is 0: there is no fault
-number-none : (n : ℕ) (f : Fault) → read.numberOf (verdict n f) ≡ 0 → f .number ≡ 0
-number-none n f e = go (eqb (f .number) 0) refl
-  where
-    go : (t : Bool) → eqb (f .number) 0 ≡ t → f .number ≡ 0
-    go true q = eqb-true (f .number) 0 q
-    go false q = rw q at e
+-- contents are checked against the terms of the file that they were read from
+file-terms : (s : List ℕ) → termsIn (headAt s) ≡ termsOf s
+unfolding termsIn termsOf
+file-terms s = refl
+
+-- two lists that agree have the same number just before each position
+same-previous : (f g : ℕ → ℕ) (n : ℕ) → Below n (λ j. f j ≡ g j) → (i : ℕ) → i < n → previous f i ≡ previous g i
+unfolding previous
+same-previous f g n h zero l = refl
+same-previous f g n h (suc i) l = h i (omega arith)
+
+-- ---- from bytes
 
 -- What acceptance of a file gives.
-module _ (s : List ℕ) (accepted : intervalFault s .number ≡ 0) where
-  parts : (headFault s ≡ 0) × (rowsFault s 15 (rowCount s) 1 0 .number ≡ 0)
-  unfolding intervalFault
-  parts = or-none (fault (headFault s) 0) (rowsFault s 15 (rowCount s) 1 0) accepted
+module _ (s : List ℕ) (accepted : Passes (intervalOrder s)) where
+  parts : Passes (placed 0 (headChecks s)) × Passes (file.rowsOrder (termsOf s) s headSize (rowCount s))
+  unfolding intervalOrder
+  parts = append-passes (placed 0 (headChecks s)) (file.rowsOrder (termsOf s) s headSize (rowCount s)) accepted
 
-  pub head-of : HeadNone s
-  head-of = head-none s (parts .0)
+  pub head-of : HeadPassed s
+  head-of = head-passed s (passes-placed 0 (headChecks s) (parts .0))
 
   pub few : rowCount s ≤ 256
   few = rows-few (headAt s) (head-of .ok)
 
-  pub marks : Below (rowCount s) (λ j. marked s (rowStart j) letterR ≡ true)
-  marks j l = rows-each (rowCount s) s 15 1 0 (parts .1) j l .mark
+  passed : (j : ℕ) → j < rowCount s → Passed (termsOf s) s (rowStart j) (previous (idOf s headSize) j)
+  passed = rows-passed (termsOf s) s headSize (rowCount s) (parts .1)
 
   kept : (j : ℕ) → j < rowCount s → getD (table 256 (fileRow s)) j zeroRow ≡ rowAt s (rowStart j)
   kept j l = table-at zeroRow 256 (fileRow s) j (omega (arith, few)) ∙ rw (lt-ltb j (rowCount s) l)
@@ -77,49 +86,55 @@ module _ (s : List ℕ) (accepted : intervalFault s .number ≡ 0) where
       rw (
         taken,
         head-write s small (head-of .long) (head-of .mark),
-        rows-write s (rowCount s) small (omega (arith, head-of .fits)) marks,
+        rows-write s (rowCount s) small (omega (arith, head-of .fits)) (λ j l. passed j l .mark),
       )
       (sym (take-add 15 (rowCount s * 21) s) ∙ take-all (rowStart (rowCount s)) s (omega (arith, head-of .fits)))
 
-  list-is : listFault (table 256 (fileRow s)) 0 (rowCount s) 0 ≡ rowsFault s 15 (rowCount s) 1 0
-  list-is =
-      sym (rows-agree s (table 256 (fileRow s)) 0 (rowCount s) 0
-      (λ j l m. record { mark = marks j (omega arith); row = sym (kept j (omega arith)) }))
+  rises : (j : ℕ) → j < rowCount s → previous (idIn (table 256 (fileRow s))) j < idIn (table 256 (fileRow s)) j
+  rises j l =
+      let before = same-previous (idIn (table 256 (fileRow s))) (idOf s headSize) (rowCount s) (λ k q. ap (λ (r : Row). r .id) (kept k q)) j l in
+      let here : idIn (table 256 (fileRow s)) j ≡ idOf s headSize j = ap (λ (r : Row). r .id) (kept j l) in
+      omega (arith, before, here, passed j l .above)
 
-  pub file-writable : (room : ℕ) → length s ≤ room → writerFault (contentsOf s) room ≡ none
-  unfolding writerFault contentsFault contentsOf
+  pub file-writable : (room : ℕ) → length s ≤ room → Writable (contentsOf s) room
+  unfolding contentsOf
   file-writable room h =
-      rw (
-        head-of .ok,
-        list-is,
-        or-next (rowsFault s 15 (rowCount s) 1 0) (cond (ltb room (rowStart (rowCount s))) (fault 11 0) none) (parts .1),
-        le-ltb room (rowStart (rowCount s)) (omega (arith, head-of .fits)),
-      )
+      record {
+        head = head-of .ok;
+        rows = list-passes (termsIn (headAt s)) (table 256 (fileRow s)) (rowCount s) (λ j l. rw (kept j l, file-terms s) (passed j l .ok)) rises;
+        roomy = omega (arith, head-of .fits);
+      }
 
   pub file-reading : readingOf s ≡ record { verdict = Accepted (rowCount s); contents = contentsOf s }
   unfolding readingOf
-  file-reading = rw (eq-eqb (intervalFault s .number) 0 accepted)
+  file-reading = rw accepted
 
 -- A file that is accepted, read, and its contents written into a buffer with room.
-module _ (s : List ℕ) (accepted : read.numberOf (readingOf s .verdict) ≡ 0) (bytes : (i : ℕ) → getD s i 0 < 256) where
-  no-fault : intervalFault s .number ≡ 0
+module _ (s : List ℕ) (accepted : file.numberOf (readingOf s .verdict) ≡ 0) (bytes : (i : ℕ) → getD s i 0 < 256) where
+  passes : Passes (intervalOrder s)
   unfolding readingOf
-  no-fault = number-none (rowCount s) (intervalFault s) accepted
+  passes = go (firstRefusal (intervalOrder s) .applies) refl
+    where
+      go : (b : Bool) → firstRefusal (intervalOrder s) .applies ≡ b → Passes (intervalOrder s)
+      go true e = absurd (omega (arith, first-number 1 7 (intervalOrder s) (interval-numbers s) e .0, rw e at accepted))
+      go false e = e
 
   module _ (out : List ℕ) (room : length s ≤ length out) where
     no-refusal : writerFault (readingOf s .contents) (length out) ≡ none
-    no-refusal = rw (file-reading s no-fault) (file-writable s no-fault (length out) room)
+    no-refusal = rw (file-reading s passes) (passed-writer (contentsOf s) (length out) (file-writable s passes (length out) room))
 
     pub file-rewritten : writtenOf (readingOf s .contents) (length out) ≡ Bytes (length s)
     unfolding writtenOf contentsOf
-    file-rewritten = rw (no-refusal, file-reading s no-fault, head-of s no-fault .fits)
+    file-rewritten = rw (no-refusal, file-reading s passes, head-of s passes .fits)
 
     pub file-buffer : writtenBuffer (readingOf s .contents) out ≡ put out 0 s
     unfolding writtenBuffer
-    file-buffer = rw (no-refusal, file-reading s no-fault, file-again s no-fault bytes)
+    file-buffer = rw (no-refusal, file-reading s passes, file-again s passes bytes)
 
     pub file-front : take (length s) (writtenBuffer (readingOf s .contents) out) ≡ s
     file-front = rw file-buffer (put-taken out 0 s (omega arith))
+
+-- ---- from contents
 
 -- What contents within the ranges make.
 module _ (c : Contents) (c-in : InRange c) where
@@ -132,30 +147,41 @@ module _ (c : Contents) (c-in : InRange c) where
   made-count : rowCount (contentsBytes c) ≡ c .head .rows
   made-count = ap (λ (h : Head). h .rows) made-head
 
+  made-terms : termsOf (contentsBytes c) ≡ termsIn (c .head)
+  made-terms = sym (file-terms (contentsBytes c)) ∙ ap termsIn made-head
+
   made-row : (k : ℕ) → k < c .head .rows → rowAt (contentsBytes c) (rowStart k) ≡ getD (c .rows) k zeroRow
-  made-row = contents-row c enough (λ i l. row-fits (getD (c .rows) i zeroRow) (c-in .rows i l) (c-in .ids i))
+  made-row = contents-row c enough (λ i l. row-fits (c .head) (getD (c .rows) i zeroRow) (c-in .rows i l) (c-in .ids i))
 
-  sound-rows : listFault (c .rows) 0 (c .head .rows) 0 ≡ none
-  sound-rows = rows-pass c c-in
+  made-previous : (k : ℕ) → k < c .head .rows → previous (idOf (contentsBytes c) headSize) k ≡ previous (idIn (c .rows)) k
+  made-previous =
+      same-previous (idOf (contentsBytes c) headSize) (idIn (c .rows)) (c .head .rows) (λ k l. ap (λ (r : Row). r .id) (made-row k l))
 
-  made-rows : rowsFault (contentsBytes c) 15 (c .head .rows) 1 0 ≡ none
-  made-rows =
-      rows-agree (contentsBytes c) (c .rows) 0 (c .head .rows) 0
-      (λ j l m. record { mark = contents-row-mark c enough j (omega arith); row = made-row j (omega arith) })
-      ∙ sound-rows
+  row-made : (k : ℕ) → k < c .head .rows → firstOf (rowChecksOf (termsIn (c .head)) (contentsBytes c) headSize k) ≡ 0
+  unfolding rowChecksOf rowChecksAt
+  row-made k l =
+      rw (contents-row-mark c enough k l, made-row k l, made-previous k l)
+      (row-passes (termsIn (c .head)) (getD (c .rows) k zeroRow) (previous (idIn (c .rows)) k) (c-in .rows k l) (rising-ids c c-in k l))
 
-  made-start : headFault (contentsBytes c) ≡ 0
-  unfolding headFault
+  made-rows : Passes (file.rowsOrder (termsIn (c .head)) (contentsBytes c) headSize (c .head .rows))
+  unfolding rowChecksOf rowChecksAt rowChecks
+  made-rows = rows-all (rowChecksOf (termsIn (c .head)) (contentsBytes c) headSize) (c .head .rows) (λ i. tt) row-made
+
+  made-start : firstOf (headChecks (contentsBytes c)) ≡ 0
+  unfolding headChecks
   made-start =
       let s = contentsBytes c in
       let long : length s ≡ rowStart (rowCount s) = contents-length c enough ∙ ap rowStart (sym made-count) in
       let ok : headOk (headAt s) ≡ true = rw made-head (c-in .head) in
       rw
-      (le-ltb (length s) 15 (omega arith), contents-mark c, ok, eq-eqb (length s) (rowStart (rowCount s)) long)
+      (le-ltb (length s) headSize (omega arith), contents-mark c, ok, eq-eqb (length s) (rowStart (rowCount s)) long)
 
-  pub contents-accepted : intervalFault (contentsBytes c) ≡ none
-  unfolding intervalFault
-  contents-accepted = rw (made-count, made-rows, or-next (fault (headFault (contentsBytes c)) 0) none made-start)
+  pub contents-accepted : Passes (intervalOrder (contentsBytes c))
+  unfolding intervalOrder headChecks
+  contents-accepted =
+      let s = contentsBytes c in
+      rw (append-next (placed 0 (headChecks s)) (file.rowsOrder (termsOf s) s headSize (rowCount s)) (placed-passes 0 (headChecks s) tt made-start), made-terms, made-count)
+      made-rows
 
   pub contents-again : contentsOf (contentsBytes c) ≡ c
   unfolding contentsOf
@@ -171,21 +197,19 @@ module _ (c : Contents) (c-in : InRange c) where
       rw (made-head, ← rows)
 
   pub contents-read : readingOf (contentsBytes c) ≡ record { verdict = Accepted (c .head .rows); contents = c }
-  unfolding readingOf
-  contents-read = rw (contents-accepted, made-count, contents-again)
+  contents-read = file-reading (contentsBytes c) contents-accepted ∙ rw (made-count, contents-again)
 
   module _ (out : List ℕ) (room : rowStart (c .head .rows) ≤ length out) where
-    contents-writable : writerFault c (length out) ≡ none
-    unfolding writerFault contentsFault orElse
-    contents-writable = rw (c-in .head, sound-rows, le-ltb (length out) (rowStart (c .head .rows)) room)
+    no-check : writerFault c (length out) ≡ none
+    no-check = passed-writer c (length out) (in-range-writable c c-in (length out) room)
 
     pub contents-written : writtenOf c (length out) ≡ Bytes (rowStart (c .head .rows))
     unfolding writtenOf
-    contents-written = rw contents-writable
+    contents-written = rw no-check
 
     pub contents-front : take (rowStart (c .head .rows)) (writtenBuffer c out) ≡ contentsBytes c
     unfolding writtenBuffer
-    contents-front = rw (contents-writable, ← contents-length c enough) (put-taken out 0 (contentsBytes c) (omega arith))
+    contents-front = rw (no-check, ← contents-length c enough) (put-taken out 0 (contentsBytes c) (omega arith))
 
     pub contents-reread : readingOf (take (rowStart (c .head .rows)) (writtenBuffer c out))
         ≡ record { verdict = Accepted (c .head .rows); contents = c }

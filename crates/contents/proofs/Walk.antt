@@ -6,7 +6,7 @@ use mathlib.Core.Path.{_≡_, refl, sym, ap, _∙_}
 use mathlib.Core.Bool.{cond}
 use mathlib.Core.Logic.{⊎-elim}
 use mathlib.Core.List.{List, _++_}
-use Prim.Native.Nat.{ℕ, suc, _+_, _-_, _*_, _≤_, _<_}
+use Prim.Native.Nat.{ℕ, _+_, _*_, _≤_, _<_}
 use native.Mathlib.Numerals.{add-one}
 use native.Mathlib.Omega.{arith}
 use lib.Dec.{ltb}
@@ -15,55 +15,58 @@ use lib.Seq.{length-take-le, take-suc, getD-set-other}
 use borrow.Author.Tests.{lt-ltb, le-ltb}
 use Rattle.columns.specs.Table.{table, Below}
 use Rattle.columns.specs.Test.{firstOf}
+use Rattle.columns.specs.Checks.{firstRefusal, rowByRow, previous}
 use Rattle.records.specs.Buffer.{put}
 use Rattle.columns.proofs.Sum.{lt-or-le}
 use Rattle.columns.proofs.Table.{table-length, table-at, table-past, table-is}
 use Rattle.columns.proofs.Table as tables
+use Rattle.columns.proofs.Checks.{Passes, rows-none, rows-next, rows-stop}
 use Rattle.records.proofs.Buffer.{put-length, put-none, put-put}
 use Rattle.files.specs.Layout.{rowStart, headAt, rowAt, rowBytes, rowCount}
-use Rattle.files.specs.Fault.{Fault, fault, orElse, rowChecks, verdict}
+use Rattle.files.specs.Order.{rowChecks, verdict}
 use Rattle.files.specs.declared.Head.{Head}
 use Rattle.files.specs.declared.Row.{Row}
+use Rattle.files.specs.declared.Terms.{Terms}
 use Rattle.files.specs.declared.Verdict.the-variants.{Accepted, Refused}
-use Rattle.files.proofs.Answer.{or-first, or-next, verdict-yes, verdict-no}
-use Rattle.contents.specs.Content.{zeroRow, contentsOf, rowsBytes, listFault}
+use Rattle.contents.specs.Content.{zeroRow, contentsOf, rowsBytes, idIn, termsIn, rowChecksIn, rowsOrder}
 use Rattle.contents.specs.declared.Contents.{Contents}
 use Rattle.contents.proofs.Record.{row-length}
 use Rattle.contents.proofs.Rows.{rows-append, rows-length, one-row}
 
-pub record Checked (rs : List Row) (count last i : ℕ) : Type 0 where
-  pub short : i ≤ count
-  pub is : listFault rs 0 count 0 ≡ listFault rs i (count - i) last
+pub record Checked (c : Contents) (last i : ℕ) : Type 0 where
+  pub short : i ≤ c .head .rows
+  pub before : last ≡ previous (idIn (c .rows)) i
+  pub passes : Passes (rowByRow i (rowChecksIn (termsIn (c .head)) (c .rows)))
 
-pub check-start : (rs : List Row) (count : ℕ) → Checked rs count 0 0
-check-start rs count = let all : count - 0 ≡ count = omega arith in record { short = omega arith; is = rw all }
+pub check-start : (c : Contents) → Checked c 0 0
+unfolding previous
+check-start c = record { short = omega arith; before = refl; passes = rows-none (rowChecksIn (termsIn (c .head)) (c .rows)) }
 
-list-step : (rs : List Row) (count last i : ℕ) → i < count
-    → listFault rs i (count - i) last
-    ≡ orElse (fault (firstOf (rowChecks (getD rs i zeroRow) last)) (i + 1)) (listFault rs (i + 1) (count - (i + 1)) (getD rs i zeroRow .id))
-unfolding listFault
-list-step rs count last i l = let more : count - i ≡ suc (count - (i + 1)) = omega arith in rw more
+module _ (c : Contents) (last i f : ℕ) (t : Terms) (w : Checked c last i) (l : i < c .head .rows) (e : t ≡ termsIn (c .head))
+    (told : f ≡ firstOf (rowChecks t (getD (c .rows) i zeroRow) last)) where
+  -- the number that the code has for row i is that of its checks
+  row-told : f ≡ firstOf (rowChecksIn (termsIn (c .head)) (c .rows) i)
+  unfolding rowChecksIn
+  row-told = rw (← e, ← w .before) told
 
-pub check-next : (rs : List Row) (count last i f : ℕ) → Checked rs count last i → i < count
-    → f ≡ firstOf (rowChecks (getD rs i zeroRow) last) → f ≡ 0 → Checked rs count (getD rs i zeroRow .id) (i + 1)
-check-next rs count last i f w l e z =
-    record { short = omega arith; is = w .is ∙ list-step rs count last i l ∙ or-next _ _ (sym e ∙ z) }
+  pub check-next : f ≡ 0 → Checked c (idIn (c .rows) i) (i + 1)
+  unfolding previous rowChecksIn rowChecks
+  check-next z =
+      record {
+        short = omega arith;
+        before = rw (add-one i);
+        passes = rows-next (rowChecksIn (termsIn (c .head)) (c .rows)) i tt (w .passes) (sym row-told ∙ z);
+      }
 
-pub check-stops : (rs : List Row) (count last i f : ℕ) → Checked rs count last i → i < count
-    → f ≡ firstOf (rowChecks (getD rs i zeroRow) last) → (f ≡ 0 → ⊥)
-    → Refused f (i + 1) ≡ verdict count (listFault rs 0 count 0)
-check-stops rs count last i f w l e z =
-    let is : listFault rs 0 count 0 ≡ fault f (i + 1) =
-    w .is ∙ list-step rs count last i l ∙ or-first _ _ (λ o. z (e ∙ o)) ∙ ap (λ (x : ℕ). fault x (i + 1)) (sym e) in
-    rw is (sym (verdict-no count (fault f (i + 1)) z))
+  pub check-stops : (f ≡ 0 → ⊥) → Refused f (i + 1) ≡ verdict (c .head .rows) (firstRefusal (rowsOrder c))
+  check-stops z =
+      rw (rows-stop (rowChecksIn (termsIn (c .head)) (c .rows)) (c .head .rows) i f l (w .passes) row-told z)
 
-pub check-ends : (rs : List Row) (count last i : ℕ) → Checked rs count last i → count ≤ i
-    → Accepted count ≡ verdict count (listFault rs 0 count 0)
-unfolding listFault
-check-ends rs count last i w l =
-    let none : count - i ≡ 0 = omega arith in
-    let is : listFault rs 0 count 0 .number ≡ 0 = ap (λ (f : Fault). f .number) (w .is) ∙ rw none in
-    sym (verdict-yes count (listFault rs 0 count 0) is)
+pub check-ends : (c : Contents) (last i : ℕ) → Checked c last i → c .head .rows ≤ i
+    → Accepted (c .head .rows) ≡ verdict (c .head .rows) (firstRefusal (rowsOrder c))
+check-ends c last i w l =
+    let e : i ≡ c .head .rows = omega (arith, w .short) in
+    rw (rw e at (w .passes))
 
 pub record Placed (l₀ : List ℕ) (rs : List Row) (count : ℕ) (l : List ℕ) (i : ℕ) : Type 0 where
   pub short : i ≤ count

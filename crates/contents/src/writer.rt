@@ -5,6 +5,8 @@ use crate::ROW;
 use crate::Written;
 use files::Head;
 use files::Row;
+use files::TERMS_01;
+use files::Terms;
 use files::Verdict;
 use files::head_ok;
 use files::row_checks;
@@ -14,8 +16,9 @@ ghost use Prim.Native.Nat.{_+_, _≤_};
 ghost use lib.ListN.{length, take};
 ghost use Rattle.records.specs.Buffer.{put};
 ghost use Rattle.files.specs.Layout.{rowStart, headBytes, rowBytes};
-ghost use Rattle.files.specs.Fault.{verdict};
-ghost use Rattle.contents.specs.Content.{rowsBytes, contentsBytes, listFault, writerFault, writtenOf, writtenBuffer};
+ghost use Rattle.columns.specs.Checks.{firstRefusal};
+ghost use Rattle.files.specs.Order.{verdict};
+ghost use Rattle.contents.specs.Content.{rowsBytes, contentsBytes, termsIn, rowsOrder, writtenOf, writtenBuffer};
 
 // The widths of a head's fields and of a row's, the mark as two of one byte.
 const HEAD_WIDTHS: [u8; 7] = [1, 1, 4, 1, 2, 4, 2];
@@ -60,17 +63,26 @@ fn put_row(out: &mut [u8], at: usize, r: Row)
     put_fields(out, at, &ROW_WIDTHS, &fields);
 }
 
+// The terms that contents with this head are checked against.
+fn terms_in(h: Head) -> Terms
+    ensures { λ r. ⌜ r ≡ termsIn h ⌝ }
+{
+    TERMS_01
+}
+
 // 6 and 7, row by row.
 fn rows_verdict(contents: Contents) -> Verdict
     requires { ⌜ contents .head .rows ≤ 256 ⌝ }
-    ensures { λ v. ⌜ v ≡ verdict (contents .head .rows) (listFault (contents .rows) 0 (contents .head .rows) 0) ⌝ }
+    ensures { λ v. ⌜ v ≡ verdict (contents .head .rows) (firstRefusal (rowsOrder contents)) ⌝ }
 {
-    let count = contents.head.rows as usize;
+    let h = contents.head;
+    let terms = terms_in(h);
+    let count = h.rows as usize;
     let mut last: u16 = 0;
     let mut i = 0;
     while i < count {
         let r = contents.rows[i];
-        let f = row_checks(r, last);
+        let f = row_checks(terms, r, last);
         if f != 0 {
             return Verdict::Refused(f, i + 1);
         }
@@ -80,22 +92,22 @@ fn rows_verdict(contents: Contents) -> Verdict
     Verdict::Accepted(count)
 }
 
-// 3, 6, 7 and 11, the last by the length of the buffer; with none, how many bytes there will be.
-fn writer_verdict(contents: Contents, room: usize) -> Verdict
-    ensures { λ v. ⌜ v ≡ verdict (rowStart (contents .head .rows)) (writerFault contents room) ⌝ }
+// What the writer will answer: 3, then 6 and 7, then 11 by the room that there is; else how many bytes there will be.
+fn answer_for(contents: Contents, room: usize) -> Written
+    ensures { λ w. ⌜ w ≡ writtenOf contents room ⌝ }
 {
     let h = contents.head;
     if !head_ok(h) {
-        return Verdict::Refused(3, 0);
+        return Written::Refused(3, 0);
     }
     match rows_verdict(contents) {
-        Verdict::Refused(number, place) => Verdict::Refused(number, place),
+        Verdict::Refused(number, place) => Written::Refused(number, place),
         Verdict::Accepted(count) => {
             let needed = HEAD + count * ROW;
             if room < needed {
-                return Verdict::Refused(11, 0);
+                return Written::Refused(11, 0);
             }
-            Verdict::Accepted(needed)
+            Written::Bytes(needed)
         }
     }
 }
@@ -126,13 +138,15 @@ fn put_contents(contents: Contents, out: &mut [u8])
 
 // Writes contents as an interval file to the front of a lent buffer, which a refusal leaves as it is.
 pub fn write(contents: Contents, out: &mut [u8]) -> Written
-    ensures { λ r. ⌜ (r ≡ writtenOf contents (length (now (out .entry)))) × (now (out .exit) ≡ writtenBuffer contents (now (out .entry))) ⌝ }
+    ensures { λ r. ⌜ r ≡ writtenOf contents (length (now (out .entry))) ⌝ }
+    ensures { λ r. ⌜ now (out .exit) ≡ writtenBuffer contents (now (out .entry)) ⌝ }
 {
-    match writer_verdict(contents, out.len()) {
-        Verdict::Refused(number, place) => Written::Refused(number, place),
-        Verdict::Accepted(count) => {
+    let answer = answer_for(contents, out.len());
+    match answer {
+        Written::Refused(_, _) => answer,
+        Written::Bytes(_) => {
             put_contents(contents, out);
-            Written::Bytes(count)
+            answer
         }
     }
 }

@@ -1,7 +1,6 @@
 -- `contents::writer::put_head` meets its contract: the fields by their widths are the head's bytes.
 use mathlib.Core.Path.{refl, ap, _∙_}
 use borrow.Author.Needs.{needs}
-use Rattle.records.specs.Fields.{span}
 use Rattle.records.specs.Buffer.{put}
 use Rattle.contents.proofs.Record.{head-fields}
 use Rattle.contents.proofs.writer.put_head.Statement.{statement}
@@ -35,7 +34,6 @@ slice-aggregate-put-fields-2 : tie.Need-slice-aggregate-put-fields-2
 slice-aggregate-put-fields-2 c = search needs
 
 put-fields-requires : tie.Need-put-fields-requires
-unfolding span
 put-fields-requires c κs = (refl, search needs)
 
 same-length : tie.Need-same-length
