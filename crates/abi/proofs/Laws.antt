@@ -11,7 +11,7 @@ use native.Mathlib.Omega.{arith}
 use lib.ListN.{length, getD}
 use borrow.Author.Tests.{lt-ltb, le-ltb}
 use Rattle.records.specs.Buffer.{put}
-use Rattle.files.specs.Fault as read
+use Rattle.files.specs.Order as read
 use Rattle.files.specs.Counting.{countingBytes}
 use Rattle.contents.specs.Content.{readingOf}
 use Rattle.contents.proofs.RoundTrip.{file-rewritten, file-buffer}

@@ -6,16 +6,19 @@
 --   short-told, short-buffer, copied-told, copied-made                  no room for the row, and room
 use Prim.Native.Nat.{ℕ, _≤_, _<_, zero-le}
 use mathlib.Core.Path.{_≡_, sym, ap, _∙_}
+use mathlib.Core.Bool.{true}
 use mathlib.Core.List.{List}
 use native.Mathlib.Omega.{arith}
 use lib.ListN.{length}
 use borrow.Author.Tests.{lt-ltb, le-ltb, ne-eqb}
+use Rattle.columns.specs.Checks.{Refusal, refusal}
+use Rattle.columns.proofs.Checks.{first-number}
 use Rattle.records.specs.Buffer.{put}
 use Rattle.files.specs.Counting.{countingBytes}
 use Rattle.files.specs.Layout.{rowCount}
-use Rattle.files.specs.Fault.{intervalFault}
-use Rattle.files.specs.Fault as read
-use Rattle.files.proofs.Answer.{refused-of}
+use Rattle.files.specs.Order.{intervalOrder, intervalFault}
+use Rattle.files.specs.Order as read
+use Rattle.files.proofs.Answer.{refused-of, interval-numbers}
 use Rattle.files.specs.declared.Verdict.{Verdict}
 use Rattle.files.specs.declared.Verdict.the-variants.{Accepted, Refused}
 use Rattle.contents.specs.Content.{readingOf, writtenOf, writtenBuffer}
@@ -76,8 +79,11 @@ module _ (s : List ℕ) (q : Reading) (is : q ≡ readingOf s) where
 
   not-zero : (number place : ℕ) → q .verdict ≡ Refused number place → number ≡ 0 → ⊥
   unfolding readingOf
-  not-zero number place e =
-      refused-of (rowCount s) number place (intervalFault s) (ap (λ (x : Reading). x .verdict) (sym is) ∙ e) .1
+  not-zero number place e z =
+      let f : intervalFault s ≡ refusal true number place =
+      refused-of (rowCount s) number place (intervalFault s) (ap (λ (x : Reading). x .verdict) (sym is) ∙ e) in
+      let low = first-number 1 7 (intervalOrder s) (interval-numbers s) (ap (λ (r : Refusal). r .applies) f) .0 in
+      omega (arith, rw f at low)
 
   pub unread-told : (number place room r : ℕ) → q .verdict ≡ Refused number place → r ≡ packed number place → r ≡ rewritten s room
   unfolding rewritten

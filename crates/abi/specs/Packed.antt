@@ -6,7 +6,7 @@ use lib.Dec.{ltb, eqb}
 use lib.ListN.{length}
 use Rattle.records.specs.Buffer.{put}
 use Rattle.files.specs.Counting.{countingBytes}
-use Rattle.files.specs.Fault as reading
+use Rattle.files.specs.Order as reading
 use Rattle.contents.specs.Content.{readingOf, writtenOf, writtenBuffer}
 use Rattle.contents.specs.Content as writing
 use Rattle.contents.specs.declared.Contents.{Contents}
