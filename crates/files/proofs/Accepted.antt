@@ -5,7 +5,7 @@
 --   Corrected           what is known of the correction's rows; there are none if there is no correction
 use mathlib.Core.Path.{_≡_, refl, sym, subst}
 use mathlib.Core.Logic.{⊎-elim}
-use Prim.Native.Nat.{ℕ, _+_, _*_, _≤_, _<_}
+use Prim.Native.Nat.{ℕ, _≤_, _<_}
 use mathlib.Core.Bool.{Bool, true, false, not, cond, _&&_}
 use mathlib.Core.List.{List, [], _∷_}
 use native.Mathlib.Omega.{arith}
@@ -13,12 +13,13 @@ use lib.Dec.{T, eqb, leb, lit<}
 use lib.ListN.{length}
 use borrow.Author.Tests.{not-false, ne-eqb, leb-true}
 use Rattle.records.specs.Number.{numberAt}
-use Rattle.columns.specs.Test.{Check, firstOf, within}
+use Rattle.columns.specs.Test.{within}
 use Rattle.columns.specs.Checks.{check, refusal, rowByRow, renumbered}
 use Rattle.columns.proofs.Checks.{Passes, cons-passes, append-passes, passes-renumbered, rows-each}
 use Rattle.columns.proofs.First.{none-applies, right-true, each}
 use Rattle.columns.proofs.Sum.{lt-or-le}
-use Rattle.files.specs.Layout.{headSize, correctionHeadSize, marked, letterK, rowAt, rowStart, correctionStart, headAt, correctionHeadAt, rowCount, correctionCount}
+use Rattle.records.specs.Record.{marked, fieldsAt, recordAt}
+use Rattle.files.specs.Layout.{headSize, correctionHeadSize, letterK, rowAt, rowStart, correctionStart, headAt, correctionHeadAt, rowCount, correctionCount}
 use Rattle.files.specs.Terms.{termsOf}
 use Rattle.files.specs.Range.{dayOk, quarterOk, headOk, correctionHeadOk, rowOk}
 use Rattle.files.specs.Walk.{Rows, Own}
@@ -101,7 +102,7 @@ names-each s k h j l =
 
 -- without a correction there are no rows of one
 none-named : (k : List ℕ) → length k ≡ 0 → correctionCount k ≡ 0
-unfolding correctionHeadAt numberAt
+unfolding correctionHeadAt recordAt fieldsAt numberAt
 none-named [] e = refl
 none-named (x ∷ k) e = absurd (omega arith)
 

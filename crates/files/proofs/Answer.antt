@@ -11,7 +11,7 @@ use mathlib.Core.List.{List, []}
 use native.Mathlib.Omega.{arith}
 use lib.Dec.{eqb, lit≤}
 use lib.ListN.{length}
-use Rattle.columns.specs.Checks.{Refusal, refusal, firstRefusal, placed, rowByRow, renumbered, numbersIn, Earliest, NoneApplies, Tells}
+use Rattle.columns.specs.Checks.{Refusal, refusal, placed, numbersIn, Earliest, NoneApplies, Tells}
 use Rattle.columns.proofs.Checks as checks
 use Rattle.files.specs.Layout.{headSize, correctionHeadSize, rowCount, correctionCount}
 use Rattle.files.specs.Terms.{termsOf}

@@ -15,7 +15,7 @@ use borrow.Author.Count.{below-more}
 use Rattle.columns.proofs.First.{left-true, right-true}
 use Rattle.columns.proofs.Rank.{find-is, find-passes}
 use Rattle.columns.proofs.Sum.{lt-or-le}
-use Rattle.files.specs.Layout.{headSize, rowAt, rowStart, rowCount}
+use Rattle.files.specs.Layout.{headSize, rowAt, rowStart}
 use Rattle.files.specs.Walk.{idOf, hasId, findId, Rows, Own, Under, Sought}
 use Rattle.files.specs.Order.{sameTerms, corrects}
 use Rattle.files.specs.declared.Row.{Row}

@@ -6,18 +6,18 @@
 --   own-refused, alone, paired      1 to 7 first; then nothing more without a correction, else 8 to 10
 --   own-passed, own-standing        an interval that passed 1 to 7
 use mathlib.Core.Path.{_≡_, refl, sym, ap, _∙_}
-use Prim.Native.Nat.{ℕ, _+_, _*_, _≤_, _<_}
+use Prim.Native.Nat.{ℕ, _+_, _≤_, _<_}
 use mathlib.Core.Bool.{Bool, true, false, not, cond, _&&_}
-use mathlib.Core.List.{List, [], _++_}
+use mathlib.Core.List.{List, []}
 use native.Mathlib.Omega.{arith}
 use lib.Dec.{eqb, leb}
 use lib.ListN.{length}
 use borrow.Author.Tests.{not-true, not-false, eq-eqb, ne-eqb, eqb-true, lt-ltb, le-ltb, le-leb, lt-leb}
-use Rattle.columns.specs.Test.{firstOf}
-use Rattle.columns.specs.Checks.{Refusal, refusal, none, firstRefusal, placed, rowByRow, renumbered}
+use Rattle.columns.specs.Checks.{Refusal, refusal, firstRefusal, placed, rowByRow, renumbered}
 use Rattle.columns.proofs.First.{right-true}
 use Rattle.columns.proofs.Checks.{Passes, append-first, append-next, append-passes, passes-placed, rows-none, rows-next, rows-stop, renumbered-told, renumbered-passes, answer-no, answer-yes}
-use Rattle.files.specs.Layout.{headSize, rowSize, correctionHeadSize, marked, letterK, rowAt, rowStart, correctionStart, correctionHeadAt, rowCount, correctionCount}
+use Rattle.records.specs.Record.{marked}
+use Rattle.files.specs.Layout.{headSize, correctionHeadSize, letterK, rowAt, rowStart, correctionStart, correctionHeadAt, rowCount, correctionCount}
 use Rattle.files.specs.Terms.{termsOf}
 use Rattle.files.specs.Range.{correctionHeadOk}
 use Rattle.files.specs.Walk.{idOf, Own, Theirs, Under, Sought}

@@ -18,7 +18,8 @@ use Rattle.columns.specs.Checks.{check, previous}
 use Rattle.columns.proofs.Checks.{Passes, rows-each}
 use Rattle.columns.proofs.First.{none-applies}
 use Rattle.columns.proofs.Sum.{lt-or-le}
-use Rattle.files.specs.Layout.{headSize, rowSize, rowStart, marked, letterH, letterR, headAt, rowAt, rowCount}
+use Rattle.records.specs.Record.{marked}
+use Rattle.files.specs.Layout.{headSize, rowSize, rowStart, letterH, letterR, headAt, rowAt, rowCount}
 use Rattle.files.specs.Range.{headOk, rowOk}
 use Rattle.files.specs.Walk.{idOf, Rows}
 use Rattle.files.specs.Order.{headChecks, rowChecks, rowChecksAt, rowChecksOf, rowsOrder}

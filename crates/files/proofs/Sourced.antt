@@ -179,13 +179,13 @@ pub own-small : (s k : List ℕ) (n i : ℕ) → verdictOf s k ≡ Accepted n �
 own-small s k n i h l = omega (arith, accepted-few s k n h)
 
 pub has-own : (s k : List ℕ) (n i id : ℕ) (b : Bool) → verdictOf s k ≡ Accepted n → b ≡ has s headSize n i id → b ≡ true → i < 256
-has-own s k n i id b h e t = omega (arith, accepted-few s k n h, has-below s 15 n i id b e t)
+has-own s k n i id b h e t = omega (arith, accepted-few s k n h, has-below s headSize n i id b e t)
 
 pub has-theirs : (s k : List ℕ) (n m j id : ℕ) (b : Bool) → verdictOf s k ≡ Accepted n → m ≡ correctionCount k → b ≡ has k correctionHeadSize m j id → b ≡ true → j < 256
-has-theirs s k n m j id b h c e t = omega (arith, few-of s k n m h c, has-below k 9 m j id b e t)
+has-theirs s k n m j id b h c e t = omega (arith, few-of s k n m h c, has-below k correctionHeadSize m j id b e t)
 
 pub has-told : (k : List ℕ) (m j id : ℕ) (b : Bool) → b ≡ has k correctionHeadSize m j id → not b ≡ false → j < m
-has-told k m j id b e t = has-below k 9 m j id b e (not-false b t)
+has-told k m j id b e t = has-below k correctionHeadSize m j id b e (not-false b t)
 
 pub has-in-own : (s k : List ℕ) (n i id : ℕ) (b : Bool) → verdictOf s k ≡ Accepted n → b ≡ has s headSize n i id → b ≡ true → rowStart i + rowSize ≤ length s
-has-in-own s k n i id b h e t = has-in s 15 n i id b (accepted-rows s k n h) e t
+has-in-own s k n i id b h e t = has-in s headSize n i id b (accepted-rows s k n h) e t

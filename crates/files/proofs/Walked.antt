@@ -10,11 +10,10 @@ use mathlib.Core.Bool.{Bool, true, false, not}
 use mathlib.Core.List.{List}
 use native.Mathlib.Numerals.{add-one}
 use native.Mathlib.Omega.{arith}
-use lib.Dec.{T, eqb}
+use lib.Dec.{eqb}
 use lib.ListN.{length}
 use Rattle.columns.specs.Test.{firstOf}
 use Rattle.columns.specs.Checks.{Refusal, firstRefusal, placed, previous}
-use Rattle.columns.proofs.First.{numbered}
 use Rattle.columns.proofs.Checks.{Passes, append-first, append-next, placed-told, placed-passes, rows-none, rows-next, rows-stop, answer-no, answer-yes}
 use Rattle.columns.proofs.Choice.{differ, agree}
 use Rattle.files.specs.Layout.{headSize, rowSize, rowStart, headAt, rowAt, rowCount}

@@ -1,35 +1,11 @@
--- Where each field stands in its record, and a record's bytes (01, The files).
+-- Interval files and corrections in bytes (01, The files): a head, then rows, each a record by its table of widths.
 use Prim.Native.Nat.{ℕ, _+_, _*_}
-use mathlib.Core.Bool.{Bool, _&&_}
-use mathlib.Core.List.{List, _∷_, _++_}
-use lib.Dec.{eqb}
-use lib.ListN.{getD}
-use Rattle.records.specs.Number.{numberAt, numberBytes}
+use mathlib.Core.List.{List, [], _∷_}
+use Rattle.columns.specs.Table.{at}
+use Rattle.records.specs.Record.{recordSize, recordAt, recordBytes}
 use Rattle.files.specs.declared.Head.{Head}
 use Rattle.files.specs.declared.Row.{Row}
 use Rattle.files.specs.declared.CorrectionHead.{CorrectionHead}
-
--- how many bytes an interval head, a row and a correction head take
-abbrev pub headSize : ℕ
-headSize = 15
-
-abbrev pub rowSize : ℕ
-rowSize = 21
-
-abbrev pub correctionHeadSize : ℕ
-correctionHeadSize = 9
-
--- where row i of an interval file begins
-abbrev pub rowStart : ℕ → ℕ
-rowStart i = headSize + i * rowSize
-
--- where row j of a correction begins
-abbrev pub correctionStart : ℕ → ℕ
-correctionStart j = correctionHeadSize + j * rowSize
-
--- the two bytes at position k are the letter P and the letter given
-abbrev pub marked : List ℕ → ℕ → ℕ → Bool
-marked s k letter = eqb (getD s k 0) 80 && eqb (getD s (k + 1) 0) letter
 
 -- the letters of the marks PH, PR and PK
 abbrev pub letterH : ℕ
@@ -41,46 +17,88 @@ letterR = 82
 abbrev pub letterK : ℕ
 letterK = 75
 
--- interval head, 15 bytes
+-- an interval's head: day, quarter, tariff, need, rows
+abbrev pub headWidths : List ℕ
+headWidths = 4 ∷ 1 ∷ 2 ∷ 4 ∷ 2 ∷ []
+
+-- a row: id, kind, capacity, metered, status, offered, minimum, bid of tier 1, of tier 2
+abbrev pub rowWidths : List ℕ
+rowWidths = 2 ∷ 1 ∷ 2 ∷ 4 ∷ 1 ∷ 1 ∷ 4 ∷ 2 ∷ 2 ∷ []
+
+-- a correction's head: day, quarter, rows
+abbrev pub correctionWidths : List ℕ
+correctionWidths = 4 ∷ 1 ∷ 2 ∷ []
+
+-- how many bytes each takes with its mark
+abbrev pub headSize : ℕ
+headSize = recordSize headWidths
+
+abbrev pub rowSize : ℕ
+rowSize = recordSize rowWidths
+
+abbrev pub correctionHeadSize : ℕ
+correctionHeadSize = recordSize correctionWidths
+
+-- where row i of an interval file begins, and row j of a correction
+abbrev pub rowStart : ℕ → ℕ
+rowStart i = headSize + i * rowSize
+
+abbrev pub correctionStart : ℕ → ℕ
+correctionStart j = correctionHeadSize + j * rowSize
+
+-- a head as its fields, and back
+abbrev pub headFields : Head → List ℕ
+headFields h = h .day ∷ h .quarter ∷ h .tariff .0 ∷ h .need .0 ∷ h .rows ∷ []
+
+abbrev pub headOf : List ℕ → Head
+headOf xs =
+    record {
+      day = at xs 0;
+      quarter = at xs 1;
+      tariff = record { 0 = at xs 2 };
+      need = record { 0 = at xs 3 };
+      rows = at xs 4;
+    }
+
+-- a row as its fields, and back
+abbrev pub rowFields : Row → List ℕ
+rowFields r =
+    r .id ∷ r .kind ∷ r .capacity ∷ r .metered .0 ∷ r .status ∷ r .offered ∷ r .minimum .0 ∷ r .bid1 .0 ∷ r .bid2 .0 ∷ []
+
+abbrev pub rowOf : List ℕ → Row
+rowOf xs =
+    record {
+      id = at xs 0;
+      kind = at xs 1;
+      capacity = at xs 2;
+      metered = record { 0 = at xs 3 };
+      status = at xs 4;
+      offered = at xs 5;
+      minimum = record { 0 = at xs 6 };
+      bid1 = record { 0 = at xs 7 };
+      bid2 = record { 0 = at xs 8 };
+    }
+
+-- a correction's head of its fields
+abbrev pub correctionHeadOf : List ℕ → CorrectionHead
+correctionHeadOf xs = record { day = at xs 0; quarter = at xs 1; rows = at xs 2 }
+
+-- the head at the front of an interval file, the row at position k, the head at the front of a correction
 unfoldable pub headAt : List ℕ → Head
-headAt s =
-    record {
-      day = numberAt 4 s 2;
-      quarter = numberAt 1 s 6;
-      tariff = record { 0 = numberAt 2 s 7 };
-      need = record { 0 = numberAt 4 s 9 };
-      rows = numberAt 2 s 13;
-    }
+headAt s = headOf (recordAt headWidths s 0)
 
-unfoldable pub headBytes : Head → List ℕ
-headBytes h =
-    80 ∷ letterH ∷ numberBytes 4 (h .day) ++ numberBytes 1 (h .quarter) ++ numberBytes 2 (h .tariff .0)
-    ++ numberBytes 4 (h .need .0) ++ numberBytes 2 (h .rows)
-
--- row, 21 bytes, from position k on
 unfoldable pub rowAt : List ℕ → ℕ → Row
-rowAt s k =
-    record {
-      id = numberAt 2 s (k + 2);
-      kind = numberAt 1 s (k + 4);
-      capacity = numberAt 2 s (k + 5);
-      metered = record { 0 = numberAt 4 s (k + 7) };
-      status = numberAt 1 s (k + 11);
-      offered = numberAt 1 s (k + 12);
-      minimum = record { 0 = numberAt 4 s (k + 13) };
-      bid1 = record { 0 = numberAt 2 s (k + 17) };
-      bid2 = record { 0 = numberAt 2 s (k + 19) };
-    }
+rowAt s k = rowOf (recordAt rowWidths s k)
+
+unfoldable pub correctionHeadAt : List ℕ → CorrectionHead
+correctionHeadAt s = correctionHeadOf (recordAt correctionWidths s 0)
+
+-- a head and a row in bytes
+unfoldable pub headBytes : Head → List ℕ
+headBytes h = recordBytes letterH headWidths (headFields h)
 
 unfoldable pub rowBytes : Row → List ℕ
-rowBytes r =
-    80 ∷ letterR ∷ numberBytes 2 (r .id) ++ numberBytes 1 (r .kind) ++ numberBytes 2 (r .capacity)
-    ++ numberBytes 4 (r .metered .0) ++ numberBytes 1 (r .status) ++ numberBytes 1 (r .offered)
-    ++ numberBytes 4 (r .minimum .0) ++ numberBytes 2 (r .bid1 .0) ++ numberBytes 2 (r .bid2 .0)
-
--- correction head, 9 bytes
-unfoldable pub correctionHeadAt : List ℕ → CorrectionHead
-correctionHeadAt s = record { day = numberAt 4 s 2; quarter = numberAt 1 s 6; rows = numberAt 2 s 7 }
+rowBytes r = recordBytes letterR rowWidths (rowFields r)
 
 -- how many rows the head of an interval file announces, and how many that of a correction; none where it is empty
 abbrev pub rowCount : List ℕ → ℕ

@@ -6,7 +6,8 @@ use lib.Dec.{leb, ltb, eqb}
 use lib.ListN.{length}
 use Rattle.columns.specs.Test.{Check}
 use Rattle.columns.specs.Checks.{Refusal, check, refusal, firstRefusal, placed, rowByRow, previous, renumbered, answerBy}
-use Rattle.files.specs.Layout.{headSize, rowSize, correctionHeadSize, rowStart, correctionStart, marked, letterH, letterR, letterK, headAt, rowAt, correctionHeadAt, rowCount, correctionCount}
+use Rattle.records.specs.Record.{marked}
+use Rattle.files.specs.Layout.{headSize, rowSize, correctionHeadSize, rowStart, correctionStart, letterH, letterR, letterK, headAt, rowAt, correctionHeadAt, rowCount, correctionCount}
 use Rattle.files.specs.Terms.{termsOf}
 use Rattle.files.specs.Range.{headOk, correctionHeadOk, rowOk}
 use Rattle.files.specs.Walk.{idOf, inInterval}

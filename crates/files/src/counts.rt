@@ -1,4 +1,7 @@
 // Which bytes count for a row, and the rows that count (01, The files): the correction's where it names the row.
+use crate::CORRECTION_HEAD;
+use crate::HEAD;
+use crate::ROW;
 use crate::Row;
 use crate::Verdict;
 use crate::read::id_at;
@@ -13,16 +16,10 @@ ghost use lib.Dec.{ltb, eqb};
 ghost use lib.ListN.{length};
 ghost use Rattle.columns.specs.Table.{table};
 ghost use Rattle.records.specs.Buffer.{put};
-ghost use Rattle.files.specs.Layout.{rowSize, correctionHeadSize, rowCount, correctionCount};
+ghost use Rattle.files.specs.Layout.{rowSize, correctionHeadSize, correctionCount};
 ghost use Rattle.files.specs.Order.{verdictOf};
 ghost use Rattle.files.specs.Walk.{idOf, Rows};
 ghost use Rattle.files.specs.Counting.{part, named, countingBytes, sourceOf, countingRow};
-
-const HEAD: usize = 15;
-
-const CORRECTION_HEAD: usize = 9;
-
-const ROW: usize = 21;
 
 // How many rows a correction has that is sound or absent.
 fn named_rows(k: &[u8]) -> usize

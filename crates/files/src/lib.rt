@@ -23,6 +23,19 @@ pub use read::terms_of;
 pub use refusal::check;
 pub use refusal::interval_verdict;
 
+// The widths of the fields of an interval's head, of a row and of a correction's head, and how many bytes each takes with its mark.
+pub const HEAD_WIDTHS: [u8; 5] = [4, 1, 2, 4, 2];
+
+pub const ROW_WIDTHS: [u8; 9] = [2, 1, 2, 4, 1, 1, 4, 2, 2];
+
+pub const CORRECTION_WIDTHS: [u8; 3] = [4, 1, 2];
+
+pub const HEAD: usize = 15;
+
+pub const ROW: usize = 21;
+
+pub const CORRECTION_HEAD: usize = 9;
+
 // An interval's head, without its mark.
 pub struct Head {
     pub day: u32,

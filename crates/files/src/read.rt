@@ -1,9 +1,13 @@
 // What the bytes of a head or a row say (01, The files).
+use crate::CORRECTION_WIDTHS;
 use crate::CorrectionHead;
+use crate::HEAD_WIDTHS;
 use crate::Head;
+use crate::ROW_WIDTHS;
 use crate::Row;
 use crate::TERMS_01;
 use crate::Terms;
+use records::get_record;
 use records::number_at;
 use units::Hao;
 use units::Kwh;
@@ -11,27 +15,21 @@ use units::Li;
 ghost use mathlib.Core.Path.{_≡_};
 ghost use Prim.Native.Nat.{_+_, _≤_};
 ghost use lib.ListN.{length};
-ghost use Rattle.files.specs.Layout.{headSize, rowSize, correctionHeadSize, marked, headAt, rowAt, correctionHeadAt};
+ghost use Rattle.files.specs.Layout.{headSize, rowSize, correctionHeadSize, headAt, rowAt, correctionHeadAt};
 ghost use Rattle.files.specs.Terms.{termsOf};
-
-// Whether a record's mark stands at a position: the letter P and the letter given.
-pub fn marked(s: &[u8], at: usize, letter: u8) -> bool
-    requires { ⌜ at + 2 ≤ length (now s) ⌝ }
-    ensures { λ r. ⌜ r ≡ marked (now (s .entry)) at letter ⌝ }
-{
-    (s[at] == b'P') & (s[at + 1] == letter)
-}
 
 pub fn head_at(s: &[u8]) -> Head
     requires { ⌜ headSize ≤ length (now s) ⌝ }
     ensures { λ r. ⌜ r ≡ headAt (now (s .entry)) ⌝ }
 {
+    let mut x = [0u64; 5];
+    get_record(s, 0, &HEAD_WIDTHS, &mut x);
     Head {
-        day: number_at(s, 2, 4) as u32,
-        quarter: number_at(s, 6, 1) as u8,
-        tariff: Hao(number_at(s, 7, 2) as u32),
-        need: Kwh(number_at(s, 9, 4) as u32),
-        rows: number_at(s, 13, 2) as u16,
+        day: x[0] as u32,
+        quarter: x[1] as u8,
+        tariff: Hao(x[2] as u32),
+        need: Kwh(x[3] as u32),
+        rows: x[4] as u16,
     }
 }
 
@@ -39,16 +37,18 @@ pub fn row_at(s: &[u8], at: usize) -> Row
     requires { ⌜ at + rowSize ≤ length (now s) ⌝ }
     ensures { λ r. ⌜ r ≡ rowAt (now (s .entry)) at ⌝ }
 {
+    let mut x = [0u64; 9];
+    get_record(s, at, &ROW_WIDTHS, &mut x);
     Row {
-        id: number_at(s, at + 2, 2) as u16,
-        kind: number_at(s, at + 4, 1) as u8,
-        capacity: number_at(s, at + 5, 2) as u16,
-        metered: Kwh(number_at(s, at + 7, 4) as u32),
-        status: number_at(s, at + 11, 1) as u8,
-        offered: number_at(s, at + 12, 1) as u8,
-        minimum: Kwh(number_at(s, at + 13, 4) as u32),
-        bid1: Li(number_at(s, at + 17, 2)),
-        bid2: Li(number_at(s, at + 19, 2)),
+        id: x[0] as u16,
+        kind: x[1] as u8,
+        capacity: x[2] as u16,
+        metered: Kwh(x[3] as u32),
+        status: x[4] as u8,
+        offered: x[5] as u8,
+        minimum: Kwh(x[6] as u32),
+        bid1: Li(x[7]),
+        bid2: Li(x[8]),
     }
 }
 
@@ -56,11 +56,21 @@ pub fn correction_head_at(s: &[u8]) -> CorrectionHead
     requires { ⌜ correctionHeadSize ≤ length (now s) ⌝ }
     ensures { λ r. ⌜ r ≡ correctionHeadAt (now (s .entry)) ⌝ }
 {
+    let mut x = [0u64; 3];
+    get_record(s, 0, &CORRECTION_WIDTHS, &mut x);
     CorrectionHead {
-        day: number_at(s, 2, 4) as u32,
-        quarter: number_at(s, 6, 1) as u8,
-        rows: number_at(s, 7, 2) as u16,
+        day: x[0] as u32,
+        quarter: x[1] as u8,
+        rows: x[2] as u16,
     }
+}
+
+// A row's id alone: its first field, behind the mark.
+pub fn id_at(s: &[u8], at: usize) -> u16
+    requires { ⌜ at + rowSize ≤ length (now s) ⌝ }
+    ensures { λ r. ⌜ r ≡ rowAt (now (s .entry)) at .id ⌝ }
+{
+    number_at(s, at + 2, 2) as u16
 }
 
 // The terms that an interval file and its correction are checked against: those of document 01, whatever the file says.
@@ -68,12 +78,4 @@ pub fn terms_of(s: &[u8]) -> Terms
     ensures { λ r. ⌜ r ≡ termsOf (now (s .entry)) ⌝ }
 {
     TERMS_01
-}
-
-// A row's id alone.
-pub fn id_at(s: &[u8], at: usize) -> u16
-    requires { ⌜ at + rowSize ≤ length (now s) ⌝ }
-    ensures { λ r. ⌜ r ≡ rowAt (now (s .entry)) at .id ⌝ }
-{
-    number_at(s, at + 2, 2) as u16
 }

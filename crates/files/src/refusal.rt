@@ -1,4 +1,7 @@
 // The refusals 1 to 10 in their order (01, Numbers of refusal).
+use crate::CORRECTION_HEAD;
+use crate::HEAD;
+use crate::ROW;
 use crate::Row;
 use crate::Terms;
 use crate::Verdict;
@@ -8,14 +11,13 @@ use crate::range::row_checks;
 use crate::read::correction_head_at;
 use crate::read::head_at;
 use crate::read::id_at;
-use crate::read::marked;
 use crate::read::row_at;
 use crate::read::terms_of;
-use records::number_at;
+use records::marked;
 ghost use mathlib.Core.Path.{_≡_};
 ghost use mathlib.Core.Bool.{_&&_};
 ghost use Prim.Native.Nat.{_+_, _*_, _≤_, _<_};
-ghost use lib.Dec.{ltb, eqb};
+ghost use lib.Dec.{ltb};
 ghost use lib.ListN.{length};
 ghost use Rattle.columns.specs.Test.{firstOf};
 ghost use Rattle.columns.specs.Checks.{firstRefusal, rowByRow};
@@ -23,18 +25,12 @@ ghost use Rattle.files.specs.Layout.{headSize, rowSize, correctionHeadSi
 ghost use Rattle.files.specs.Walk.{Rows, Own, Theirs, Under, Sought};
 ghost use Rattle.files.specs.Order.{headChecks, rowChecksAt, rowsOrder, intervalFault, correctionStarts, sameTime, sameTerms, nameChecks, besideOrder, presentOrder, verdict, verdictOf};
 
-const HEAD: usize = 15;
-
-const CORRECTION_HEAD: usize = 9;
-
-const ROW: usize = 21;
-
 // How many rows an interval file announces.
 pub fn row_count(s: &[u8]) -> usize
     requires { ⌜ headSize ≤ length (now s) ⌝ }
     ensures { λ r. ⌜ (r ≡ rowCount (now (s .entry))) × (r < 65536) ⌝ }
 {
-    number_at(s, 13, 2) as usize
+    head_at(s).rows as usize
 }
 
 // How many rows a correction announces.
@@ -42,7 +38,7 @@ pub fn correction_count(k: &[u8]) -> usize
     requires { ⌜ correctionHeadSize ≤ length (now k) ⌝ }
     ensures { λ r. ⌜ (r ≡ correctionCount (now (k .entry))) × (r < 65536) ⌝ }
 {
-    number_at(k, 7, 2) as usize
+    correction_head_at(k).rows as usize
 }
 
 // 1 to 4.

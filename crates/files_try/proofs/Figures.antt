@@ -6,6 +6,7 @@ use lib.Dec.{eqb}
 use borrow.Author.Tests.{eq-eqb}
 use Rattle.columns.specs.Checks.{firstRefusal, rowByRow, previous}
 use Rattle.records.specs.Number.{numberAt}
+use Rattle.records.specs.Record.{fieldsAt, recordAt}
 use Rattle.files.specs.Layout.{headAt, rowAt}
 use Rattle.files.specs.Terms.{termsOf}
 use Rattle.files.specs.Range.{headOk, statusOk, notOffering, offering, rowTests, rowOk}
@@ -21,7 +22,7 @@ pub record Figures : Type 0 where
   pub bid-321 : answerOf 100 321 ≡ 6
 
 pub figures : Figures
-unfolding answerOf verdictOf firstRefusal fileOrder intervalOrder rowByRow previous rowChecksOf rowChecksAt rowChecks headChecks rowOk rowTests offering notOffering statusOk headOk termsOf headAt rowAt numberAt
+unfolding answerOf verdictOf firstRefusal fileOrder intervalOrder rowByRow previous rowChecksOf rowChecksAt rowChecks headChecks rowOk rowTests offering notOffering statusOk headOk termsOf headAt rowAt recordAt fieldsAt numberAt
 figures =
     record {
       capacity-2000 = refl;

@@ -1,5 +1,5 @@
 -- `files::counts::counting_row` meets its contract.
-use Prim.Native.Nat.{_-_, _<_}
+use Prim.Native.Nat.{_<_}
 use borrow.Author.Needs.{needs}
 use Rattle.files.proofs.Sourced.{own-small, own-in, their-in, own-source, their-source}
 use Rattle.files.proofs.counts.counting_row.Statement.{statement}

@@ -1,5 +1,4 @@
 -- `files::counts::is_row` meets its contract.
-use Prim.Native.Nat.{_-_}
 use borrow.Author.Needs.{needs}
 use Rattle.files.proofs.Passed.{row-in}
 use Rattle.files.proofs.Sourced.{not-there, is-there}

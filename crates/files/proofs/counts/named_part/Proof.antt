@@ -1,5 +1,5 @@
 -- `files::counts::named_part` meets its contract.
-use Prim.Native.Nat.{_-_, _<_}
+use Prim.Native.Nat.{_<_}
 use borrow.Author.Needs.{needs}
 use Rattle.files.proofs.Accepted.{accepted-rows, accepted-theirs}
 use Rattle.files.proofs.Sourced.{has-in-own, theirs-of, under-none, has-theirs, has-own, has-in, named-theirs, named-own, named-none}

@@ -1,5 +1,5 @@
 -- `files::counts::source_at` meets its contract.
-use Prim.Native.Nat.{_-_, _<_}
+use Prim.Native.Nat.{_<_}
 use borrow.Author.Needs.{needs}
 use Rattle.columns.proofs.Choice.{checks}
 use Rattle.files.proofs.Sourced.{has-told}

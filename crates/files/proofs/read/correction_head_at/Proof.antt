@@ -1,39 +1,52 @@
--- `files::read::correction_head_at` meets its contract.
+-- `files::read::correction_head_at` meets its contract: the fields read by the table.
 use borrow.Author.Needs.{needs}
-use Rattle.files.specs.Layout.{correctionHeadAt}
+use mathlib.Core.Path.{ap}
+use Rattle.files.specs.Layout.{correctionHeadAt, correctionHeadOf}
 use Rattle.files.proofs.read.correction_head_at.Statement.{statement}
 use Rattle.files.proofs.read.correction_head_at.Tie as tie
 
-number-at-requires : tie.Need-number-at-requires
-number-at-requires c κs = search needs
+slice-aggregate-get-record : tie.Need-slice-aggregate-get-record
+slice-aggregate-get-record c = search needs
 
-cast-t3 : tie.Need-cast-t3
-cast-t3 c = search needs
+slice-aggregate-get-record-2 : tie.Need-slice-aggregate-get-record-2
+slice-aggregate-get-record-2 c = search needs
 
-number-at-requires-2 : tie.Need-number-at-requires-2
-number-at-requires-2 c κs = search needs
+get-record-requires : tie.Need-get-record-requires
+get-record-requires c κs = search needs
 
-cast-t5 : tie.Need-cast-t5
-cast-t5 c = search needs
+array-read-t11 : tie.Need-array-read-t11
+array-read-t11 c = search needs
 
-number-at-requires-3 : tie.Need-number-at-requires-3
-number-at-requires-3 c κs = search needs
+cast-t12 : tie.Need-cast-t12
+cast-t12 c = search needs
 
-cast-t7 : tie.Need-cast-t7
-cast-t7 c = search needs
+array-read-t15 : tie.Need-array-read-t15
+array-read-t15 c = search needs
+
+cast-t16 : tie.Need-cast-t16
+cast-t16 c = search needs
+
+array-read-t19 : tie.Need-array-read-t19
+array-read-t19 c = search needs
+
+cast-t20 : tie.Need-cast-t20
+cast-t20 c = search needs
 
 returns : tie.Need-returns
 unfolding correctionHeadAt
-returns c = cc
+returns c = ap correctionHeadOf (c .before .get-record .ensures .0)
 
 pub correction-head-at-spec : {M : Type 1} → statement M
 correction-head-at-spec =
     tie.close
     (tie.spec
-    number-at-requires
-    cast-t3
-    number-at-requires-2
-    cast-t5
-    number-at-requires-3
-    cast-t7
+    slice-aggregate-get-record
+    slice-aggregate-get-record-2
+    get-record-requires
+    array-read-t11
+    cast-t12
+    array-read-t15
+    cast-t16
+    array-read-t19
+    cast-t20
     returns)

@@ -1,5 +1,6 @@
 -- `files::read::id_at` meets its contract.
 use borrow.Author.Needs.{needs}
+use Rattle.records.specs.Record.{fieldsAt, recordAt}
 use Rattle.files.specs.Layout.{rowAt}
 use Rattle.files.proofs.read.id_at.Statement.{statement}
 use Rattle.files.proofs.read.id_at.Tie as tie
@@ -14,7 +15,7 @@ cast-result : tie.Need-cast-result
 cast-result c = search needs
 
 returns : tie.Need-returns
-unfolding rowAt
+unfolding rowAt recordAt fieldsAt
 returns c = search needs
 
 pub id-at-spec : {M : Type 1} → statement M

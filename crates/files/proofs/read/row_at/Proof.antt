@@ -1,115 +1,92 @@
--- `files::read::row_at` meets its contract.
+-- `files::read::row_at` meets its contract: the fields read by the table.
 use borrow.Author.Needs.{needs}
-use Rattle.files.specs.Layout.{rowAt}
+use mathlib.Core.Path.{ap}
+use Rattle.files.specs.Layout.{rowAt, rowOf}
 use Rattle.files.proofs.read.row_at.Statement.{statement}
 use Rattle.files.proofs.read.row_at.Tie as tie
 
-add-number-at : tie.Need-add-number-at
-add-number-at c = search needs
+slice-aggregate-get-record : tie.Need-slice-aggregate-get-record
+slice-aggregate-get-record c = search needs
 
-number-at-requires : tie.Need-number-at-requires
-number-at-requires c κs = search needs
+slice-aggregate-get-record-2 : tie.Need-slice-aggregate-get-record-2
+slice-aggregate-get-record-2 c = search needs
 
-cast-t5 : tie.Need-cast-t5
-cast-t5 c = search needs
+get-record-requires : tie.Need-get-record-requires
+get-record-requires c κs = search needs
 
-add-number-at-2 : tie.Need-add-number-at-2
-add-number-at-2 c = search needs
+array-read-t12 : tie.Need-array-read-t12
+array-read-t12 c = search needs
 
-number-at-requires-2 : tie.Need-number-at-requires-2
-number-at-requires-2 c κs = search needs
+cast-t13 : tie.Need-cast-t13
+cast-t13 c = search needs
 
-cast-t8 : tie.Need-cast-t8
-cast-t8 c = search needs
+array-read-t16 : tie.Need-array-read-t16
+array-read-t16 c = search needs
 
-add-number-at-3 : tie.Need-add-number-at-3
-add-number-at-3 c = search needs
+cast-t17 : tie.Need-cast-t17
+cast-t17 c = search needs
 
-number-at-requires-3 : tie.Need-number-at-requires-3
-number-at-requires-3 c κs = search needs
-
-cast-t11 : tie.Need-cast-t11
-cast-t11 c = search needs
-
-add-number-at-4 : tie.Need-add-number-at-4
-add-number-at-4 c = search needs
-
-number-at-requires-4 : tie.Need-number-at-requires-4
-number-at-requires-4 c κs = search needs
-
-cast-t14 : tie.Need-cast-t14
-cast-t14 c = search needs
-
-add-number-at-5 : tie.Need-add-number-at-5
-add-number-at-5 c = search needs
-
-number-at-requires-5 : tie.Need-number-at-requires-5
-number-at-requires-5 c κs = search needs
-
-cast-t18 : tie.Need-cast-t18
-cast-t18 c = search needs
-
-add-number-at-6 : tie.Need-add-number-at-6
-add-number-at-6 c = search needs
-
-number-at-requires-6 : tie.Need-number-at-requires-6
-number-at-requires-6 c κs = search needs
+array-read-t20 : tie.Need-array-read-t20
+array-read-t20 c = search needs
 
 cast-t21 : tie.Need-cast-t21
 cast-t21 c = search needs
 
-add-number-at-7 : tie.Need-add-number-at-7
-add-number-at-7 c = search needs
+array-read-t24 : tie.Need-array-read-t24
+array-read-t24 c = search needs
 
-number-at-requires-7 : tie.Need-number-at-requires-7
-number-at-requires-7 c κs = search needs
+cast-t25 : tie.Need-cast-t25
+cast-t25 c = search needs
 
-cast-t24 : tie.Need-cast-t24
-cast-t24 c = search needs
+array-read-t29 : tie.Need-array-read-t29
+array-read-t29 c = search needs
 
-add-number-at-8 : tie.Need-add-number-at-8
-add-number-at-8 c = search needs
+cast-t30 : tie.Need-cast-t30
+cast-t30 c = search needs
 
-number-at-requires-8 : tie.Need-number-at-requires-8
-number-at-requires-8 c κs = search needs
+array-read-t33 : tie.Need-array-read-t33
+array-read-t33 c = search needs
 
-add-number-at-9 : tie.Need-add-number-at-9
-add-number-at-9 c = search needs
+cast-t34 : tie.Need-cast-t34
+cast-t34 c = search needs
 
-number-at-requires-9 : tie.Need-number-at-requires-9
-number-at-requires-9 c κs = search needs
+array-read-t37 : tie.Need-array-read-t37
+array-read-t37 c = search needs
+
+cast-t38 : tie.Need-cast-t38
+cast-t38 c = search needs
+
+array-read-t42 : tie.Need-array-read-t42
+array-read-t42 c = search needs
+
+array-read-t46 : tie.Need-array-read-t46
+array-read-t46 c = search needs
 
 returns : tie.Need-returns
 unfolding rowAt
-returns c = cc
+returns c = ap rowOf (c .before .get-record .ensures .0)
 
 pub row-at-spec : {M : Type 1} → statement M
 row-at-spec =
     tie.close
     (tie.spec
-    add-number-at
-    number-at-requires
-    cast-t5
-    add-number-at-2
-    number-at-requires-2
-    cast-t8
-    add-number-at-3
-    number-at-requires-3
-    cast-t11
-    add-number-at-4
-    number-at-requires-4
-    cast-t14
-    add-number-at-5
-    number-at-requires-5
-    cast-t18
-    add-number-at-6
-    number-at-requires-6
+    slice-aggregate-get-record
+    slice-aggregate-get-record-2
+    get-record-requires
+    array-read-t12
+    cast-t13
+    array-read-t16
+    cast-t17
+    array-read-t20
     cast-t21
-    add-number-at-7
-    number-at-requires-7
-    cast-t24
-    add-number-at-8
-    number-at-requires-8
-    add-number-at-9
-    number-at-requires-9
+    array-read-t24
+    cast-t25
+    array-read-t29
+    cast-t30
+    array-read-t33
+    cast-t34
+    array-read-t37
+    cast-t38
+    array-read-t42
+    array-read-t46
     returns)

@@ -1,5 +1,5 @@
 -- `files::refusal::names_verdict` meets its contract: the fault of all of the correction's rows is that of its rows from j on, and the rows passed in the interval lie below its next id.
-use Prim.Native.Nat.{_+_, _-_, _*_, _≤_}
+use Prim.Native.Nat.{_+_, _-_, _≤_}
 use lib.ListN.{length}
 use borrow.Author.Needs.{needs}
 use Rattle.files.specs.Layout.{correctionStart, rowSize}
