@@ -4,7 +4,7 @@
 --   answer-3, answer-6-7, answer-11, answer-0   the answer where the check of that number applies, and where none does
 --   write-room, write-few what an answer of bytes gives: room in the buffer, and at most 256 rows
 --   refused-buffer, done-buffer   the writer's buffer, by its answer
---   head-then-rows        the bytes of the head, then those of the rows, are the file
+--   rows-then-head        the rows, then the head in front of them, are the file
 --   read-few, read-long   at most 256 rows, all of them there, in a file that is accepted
 --   read-refused, read-done     the reader's result, by the file's answer
 use mathlib.Core.Path.{_≡_, sym, ap, _∙_}
@@ -13,24 +13,27 @@ use mathlib.Core.List.{List}
 use Prim.Native.Nat.{ℕ, _+_, _*_, _≤_, _<_}
 use native.Mathlib.Omega.{arith}
 use borrow.Author.Tests.{not-true, not-false, lt-ltb, le-ltb}
-use lib.ListN.{length, take}
+use lib.ListN.{length}
 use Rattle.columns.specs.Checks.{Refusal, firstRefusal}
 use Rattle.columns.proofs.Checks.{Passes}
 use Rattle.records.specs.Buffer.{put}
-use Rattle.records.proofs.Buffer.{put-put}
-use Rattle.files.specs.Layout.{rowStart, headBytes, rowCount}
+use Rattle.records.specs.Record.{recordBytes}
+use Rattle.records.specs.Sheet.{sheet}
+use Rattle.records.proofs.Sheet.{sheet-head}
+use Rattle.files.specs.Layout.{letterH, letterR, headWidths, rowWidths, headSize, rowStart, headBytes, headFields, rowCount}
 use Rattle.files.specs.Range.{headOk}
 use Rattle.files.specs.Order.{intervalOrder, intervalFault, verdict}
 use Rattle.files.specs.declared.Head.{Head}
 use Rattle.files.specs.declared.Verdict.{Verdict}
 use Rattle.files.specs.declared.Verdict.the-variants.{Accepted, Refused}
 use Rattle.files.proofs.Answer.{accepted-of, refused-of}
-use Rattle.contents.specs.Content.{zeroContents, contentsOf, readingOf, rowsBytes, contentsBytes, rowsOrder, writerFault, writtenOf, writtenBuffer}
+use Rattle.contents.specs.Content.{zeroContents, contentsOf, readingOf, fieldsIn, contentsBytes, rowsOrder, writerFault, writtenOf, writtenBuffer}
 use Rattle.contents.specs.declared.Contents.{Contents}
 use Rattle.contents.specs.declared.Reading.{Reading}
 use Rattle.contents.specs.declared.Written.{Written}
 use Rattle.contents.specs.declared.Written.the-variants as written
-use Rattle.contents.proofs.Record.{head-length, rows-few}
+use Rattle.contents.proofs.Record.{rows-few}
+use Rattle.contents.proofs.Rows.{head-length}
 use Rattle.contents.proofs.Refusal.{Writable, head-refuses, rows-refuse, room-decides, writer-passed, unwritten-of, written-of}
 use Rattle.contents.proofs.RoundTrip.{head-of, few}
 
@@ -85,13 +88,14 @@ module _ (c : Contents) (out : List ℕ) (w : Written) (p : w ≡ writtenOf c (l
     unfolding writtenBuffer
     done-buffer out′ e = rw (written-of c (length out) n (sym p ∙ q)) e
 
-pub head-then-rows : (c : Contents) (out l m : List ℕ) → l ≡ put out 0 (headBytes (c .head))
-    → m ≡ put l 15 (rowsBytes (take (c .head .rows) (c .rows))) → m ≡ put out 0 (contentsBytes c)
-unfolding contentsBytes
-head-then-rows c out l m p q =
-    q ∙ rw p
-    (put-put out 0 15 (headBytes (c .head)) (rowsBytes (take (c .head .rows) (c .rows))) (omega (arith, head-length (c .head)))
-    (omega arith))
+pub rows-then-head : (c : Contents) (out l m xs : List ℕ) → rowStart (c .head .rows) ≤ length out → xs ≡ headFields (c .head)
+    → l ≡ sheet headSize letterR rowWidths out (c .head .rows) (fieldsIn (c .rows))
+    → m ≡ put l 0 (recordBytes letterH headWidths xs) → m ≡ put out 0 (contentsBytes c)
+unfolding contentsBytes headBytes
+rows-then-head c out l m xs room e p q =
+    let head = headBytes (c .head) in
+    let made = sheet-head head letterR rowWidths out (c .head .rows) (fieldsIn (c .rows)) (omega (arith, head-length c)) in
+    q ∙ rw (p, e) (rw (head-length c) at made)
 
 module _ (s : List ℕ) (v : Verdict) (p : v ≡ verdict (rowCount s) (intervalFault s)) where
   pub read-refused : (number place : ℕ) (z : Contents) → v ≡ Refused number place → z ≡ zeroContents

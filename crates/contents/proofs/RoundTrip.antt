@@ -14,16 +14,18 @@ use Prim.Native.Nat.{ℕ, zero, suc, _*_, _≤_, _<_}
 use native.Mathlib.Omega.{arith}
 use borrow.Author.Tests.{lt-ltb, le-ltb, eq-eqb}
 use lib.ListN.{length, getD, take}
-use lib.Seq.{length-take-le, getD-take, take-add, take-all}
+use lib.Seq.{take-add, take-all}
 use Rattle.columns.specs.Table.{table, Below}
 use Rattle.columns.specs.Test.{firstOf}
 use Rattle.columns.specs.Checks.{none, firstRefusal, placed, previous}
 use Rattle.columns.proofs.Sum.{lt-or-le}
-use Rattle.columns.proofs.Table.{table-length, table-at, table-is}
+use Rattle.columns.proofs.Table.{table-at, table-same, table-is}
 use Rattle.columns.proofs.Checks.{Passes, append-passes, append-next, passes-placed, placed-passes, first-number}
 use Rattle.records.specs.Buffer.{put}
+use Rattle.records.specs.Record.{recordAt}
 use Rattle.records.proofs.Buffer.{put-taken}
-use Rattle.files.specs.Layout.{headSize, rowStart, headAt, rowAt, rowCount}
+use Rattle.records.proofs.Record.{record-write}
+use Rattle.files.specs.Layout.{letterH, letterR, headWidths, rowWidths, headSize, rowSize, rowStart, headAt, headBytes, rowAt, rowFields, rowCount}
 use Rattle.files.specs.Terms.{termsOf}
 use Rattle.files.specs.Range.{headOk}
 use Rattle.files.specs.Walk.{idOf}
@@ -34,13 +36,13 @@ use Rattle.files.specs.declared.Row.{Row}
 use Rattle.files.specs.declared.Verdict.the-variants.{Accepted}
 use Rattle.files.proofs.Answer.{interval-numbers}
 use Rattle.files.proofs.Passed.{HeadPassed, head-passed, Passed, rows-passed}
-use Rattle.contents.specs.Content.{zeroRow, contentsOf, readingOf, contentsBytes, termsIn, idIn, writerFault, writtenOf, writtenBuffer}
+use Rattle.contents.specs.Content.{zeroRow, fieldsIn, contentsOf, readingOf, contentsBytes, termsIn, idIn, writerFault, writtenOf, writtenBuffer}
 use Rattle.contents.specs.InRange.{InRange}
 use Rattle.contents.specs.declared.Contents.{Contents}
 use Rattle.contents.specs.declared.Written.the-variants.{Bytes}
 use Rattle.contents.proofs.Walk.{fileRow}
-use Rattle.contents.proofs.Record.{head-write, head-fits, row-fits, rows-few}
-use Rattle.contents.proofs.Rows.{contents-length, contents-head, contents-mark, contents-row, contents-row-mark, rows-write}
+use Rattle.contents.proofs.Record.{head-said, row-said, head-fits, row-fits, rows-few}
+use Rattle.contents.proofs.Rows.{records-write, contents-length, contents-head, contents-mark, contents-row, contents-row-mark}
 use Rattle.contents.proofs.Refusal.{Writable, passed-writer, rows-all, row-passes, list-passes, rising-ids, in-range-writable}
 
 -- contents are checked against the terms of the file that they were read from
@@ -74,21 +76,21 @@ module _ (s : List ℕ) (accepted : Passes (intervalOrder s)) where
   kept : (j : ℕ) → j < rowCount s → getD (table 256 (fileRow s)) j zeroRow ≡ rowAt s (rowStart j)
   kept j l = table-at zeroRow 256 (fileRow s) j (omega (arith, few)) ∙ rw (lt-ltb j (rowCount s) l)
 
-  taken : take (rowCount s) (table 256 (fileRow s)) ≡ table (rowCount s) (λ i. rowAt s (rowStart i))
+  taken : table (rowCount s) (fieldsIn (table 256 (fileRow s))) ≡ table (rowCount s) (λ i. recordAt rowWidths s (rowStart i))
   taken =
-      table-is zeroRow (take (rowCount s) (table 256 (fileRow s))) (rowCount s) (λ i. rowAt s (rowStart i))
-      (length-take-le (rowCount s) (table 256 (fileRow s)) (omega (arith, few, table-length 256 (fileRow s))))
-      (λ k q. getD-take (rowCount s) (table 256 (fileRow s)) k zeroRow q ∙ kept k q)
+      table-same (rowCount s) (fieldsIn (table 256 (fileRow s))) (λ i. recordAt rowWidths s (rowStart i))
+      (λ j l. ap rowFields (kept j l) ∙ row-said s (rowStart j))
 
   pub file-again : ((i : ℕ) → getD s i 0 < 256) → contentsBytes (contentsOf s) ≡ s
-  unfolding contentsBytes contentsOf
+  unfolding contentsBytes contentsOf headBytes
   file-again small =
       rw (
         taken,
-        head-write s small (head-of .long) (head-of .mark),
-        rows-write s (rowCount s) small (omega (arith, head-of .fits)) (λ j l. passed j l .mark),
+        head-said s,
+        record-write letterH headWidths s 0 small (head-of .long) (head-of .mark),
+        records-write letterR rowWidths s headSize (rowCount s) small (omega (arith, head-of .fits)) (λ j l. passed j l .mark),
       )
-      (sym (take-add 15 (rowCount s * 21) s) ∙ take-all (rowStart (rowCount s)) s (omega (arith, head-of .fits)))
+      (sym (take-add headSize (rowCount s * rowSize) s) ∙ take-all (rowStart (rowCount s)) s (omega (arith, head-of .fits)))
 
   rises : (j : ℕ) → j < rowCount s → previous (idIn (table 256 (fileRow s))) j < idIn (table 256 (fileRow s)) j
   rises j l =
@@ -138,9 +140,6 @@ module _ (s : List ℕ) (accepted : file.numberOf (readingOf s .verdict) ≡ 0) 
 
 -- What contents within the ranges make.
 module _ (c : Contents) (c-in : InRange c) where
-  enough : c .head .rows ≤ length (c .rows)
-  enough = omega (arith, rows-few (c .head) (c-in .head), c-in .held)
-
   made-head : headAt (contentsBytes c) ≡ c .head
   made-head = contents-head c (head-fits (c .head) (c-in .head))
 
@@ -151,7 +150,7 @@ module _ (c : Contents) (c-in : InRange c) where
   made-terms = sym (file-terms (contentsBytes c)) ∙ ap termsIn made-head
 
   made-row : (k : ℕ) → k < c .head .rows → rowAt (contentsBytes c) (rowStart k) ≡ getD (c .rows) k zeroRow
-  made-row = contents-row c enough (λ i l. row-fits (c .head) (getD (c .rows) i zeroRow) (c-in .rows i l) (c-in .ids i))
+  made-row k l = contents-row c k l (row-fits (c .head) (getD (c .rows) k zeroRow) (c-in .rows k l) (c-in .ids k))
 
   made-previous : (k : ℕ) → k < c .head .rows → previous (idOf (contentsBytes c) headSize) k ≡ previous (idIn (c .rows)) k
   made-previous =
@@ -160,7 +159,7 @@ module _ (c : Contents) (c-in : InRange c) where
   row-made : (k : ℕ) → k < c .head .rows → firstOf (rowChecksOf (termsIn (c .head)) (contentsBytes c) headSize k) ≡ 0
   unfolding rowChecksOf rowChecksAt
   row-made k l =
-      rw (contents-row-mark c enough k l, made-row k l, made-previous k l)
+      rw (contents-row-mark c k l, made-row k l, made-previous k l)
       (row-passes (termsIn (c .head)) (getD (c .rows) k zeroRow) (previous (idIn (c .rows)) k) (c-in .rows k l) (rising-ids c c-in k l))
 
   made-rows : Passes (file.rowsOrder (termsIn (c .head)) (contentsBytes c) headSize (c .head .rows))
@@ -171,7 +170,7 @@ module _ (c : Contents) (c-in : InRange c) where
   unfolding headChecks
   made-start =
       let s = contentsBytes c in
-      let long : length s ≡ rowStart (rowCount s) = contents-length c enough ∙ ap rowStart (sym made-count) in
+      let long : length s ≡ rowStart (rowCount s) = contents-length c ∙ ap rowStart (sym made-count) in
       let ok : headOk (headAt s) ≡ true = rw made-head (c-in .head) in
       rw
       (le-ltb (length s) headSize (omega arith), contents-mark c, ok, eq-eqb (length s) (rowStart (rowCount s)) long)
@@ -209,7 +208,7 @@ module _ (c : Contents) (c-in : InRange c) where
 
     pub contents-front : take (rowStart (c .head .rows)) (writtenBuffer c out) ≡ contentsBytes c
     unfolding writtenBuffer
-    contents-front = rw (no-check, ← contents-length c enough) (put-taken out 0 (contentsBytes c) (omega arith))
+    contents-front = rw (no-check, ← contents-length c) (put-taken out 0 (contentsBytes c) (omega arith))
 
     pub contents-reread : readingOf (take (rowStart (c .head .rows)) (writtenBuffer c out))
         ≡ record { verdict = Accepted (c .head .rows); contents = c }

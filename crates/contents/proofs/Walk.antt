@@ -5,33 +5,33 @@
 use mathlib.Core.Path.{_≡_, refl, sym, ap, _∙_}
 use mathlib.Core.Bool.{cond}
 use mathlib.Core.Logic.{⊎-elim}
-use mathlib.Core.List.{List, _++_}
-use Prim.Native.Nat.{ℕ, _+_, _*_, _≤_, _<_}
+use mathlib.Core.List.{List}
+use Prim.Native.Nat.{ℕ, _+_, _≤_, _<_}
 use native.Mathlib.Numerals.{add-one}
 use native.Mathlib.Omega.{arith}
 use lib.Dec.{ltb}
-use lib.ListN.{length, getD, set, take, length-set}
-use lib.Seq.{length-take-le, take-suc, getD-set-other}
+use lib.ListN.{length, getD, set, length-set}
+use lib.Seq.{getD-set-other}
 use borrow.Author.Tests.{lt-ltb, le-ltb}
 use Rattle.columns.specs.Table.{table, Below}
 use Rattle.columns.specs.Test.{firstOf}
 use Rattle.columns.specs.Checks.{firstRefusal, rowByRow, previous}
-use Rattle.records.specs.Buffer.{put}
 use Rattle.columns.proofs.Sum.{lt-or-le}
 use Rattle.columns.proofs.Table.{table-length, table-at, table-past, table-is}
 use Rattle.columns.proofs.Table as tables
 use Rattle.columns.proofs.Checks.{Passes, rows-none, rows-next, rows-stop}
-use Rattle.records.proofs.Buffer.{put-length, put-none, put-put}
-use Rattle.files.specs.Layout.{rowStart, headAt, rowAt, rowBytes, rowCount}
+use Rattle.records.specs.Buffer.{put}
+use Rattle.records.specs.Record.{recordBytes}
+use Rattle.records.specs.Sheet.{sheet}
+use Rattle.records.proofs.Sheet.{sheet-none, sheet-next, sheet-length}
+use Rattle.files.specs.Layout.{letterR, rowWidths, headSize, rowStart, headAt, rowAt, rowCount}
 use Rattle.files.specs.Order.{rowChecks, verdict}
 use Rattle.files.specs.declared.Head.{Head}
 use Rattle.files.specs.declared.Row.{Row}
 use Rattle.files.specs.declared.Terms.{Terms}
 use Rattle.files.specs.declared.Verdict.the-variants.{Accepted, Refused}
-use Rattle.contents.specs.Content.{zeroRow, contentsOf, rowsBytes, idIn, termsIn, rowChecksIn, rowsOrder}
+use Rattle.contents.specs.Content.{zeroRow, contentsOf, fieldsIn, idIn, termsIn, rowChecksIn, rowsOrder}
 use Rattle.contents.specs.declared.Contents.{Contents}
-use Rattle.contents.proofs.Record.{row-length}
-use Rattle.contents.proofs.Rows.{rows-append, rows-length, one-row}
 
 pub record Checked (c : Contents) (last i : ℕ) : Type 0 where
   pub short : i ≤ c .head .rows
@@ -71,30 +71,26 @@ check-ends c last i w l =
 pub record Placed (l₀ : List ℕ) (rs : List Row) (count : ℕ) (l : List ℕ) (i : ℕ) : Type 0 where
   pub short : i ≤ count
   pub long : length l ≡ length l₀
-  pub is : l ≡ put l₀ 15 (rowsBytes (take i rs))
+  pub is : l ≡ sheet headSize letterR rowWidths l₀ i (fieldsIn rs)
 
 pub place-start : (l₀ : List ℕ) (rs : List Row) (count : ℕ) → Placed l₀ rs count l₀ 0
-unfolding rowsBytes
-place-start l₀ rs count = record { short = omega arith; long = refl; is = sym (put-none l₀ 15) }
+place-start l₀ rs count =
+    record { short = omega arith; long = refl; is = sym (sheet-none headSize letterR rowWidths l₀ (fieldsIn rs)) }
 
-pub place-next : (l₀ : List ℕ) (rs : List Row) (count : ℕ) (l : List ℕ) (i : ℕ) (l′ : List ℕ)
-    → Placed l₀ rs count l i → i < count → count ≤ length rs → rowStart count ≤ length l₀
-    → l′ ≡ put l (rowStart i) (rowBytes (getD rs i zeroRow)) → Placed l₀ rs count l′ (i + 1)
-place-next l₀ rs count l i l′ w h few room p =
-    let row = rowBytes (getD rs i zeroRow) in
-    let n : length (take i rs) ≡ i = length-take-le i rs (omega arith) in
-    let m : length (rowsBytes (take i rs)) ≡ i * 21 = rows-length (take i rs) ∙ ap (λ (x : ℕ). x * 21) n in
-    let width : length row ≡ 21 = row-length (getD rs i zeroRow) in
-    let more : rowsBytes (take (i + 1) rs) ≡ rowsBytes (take i rs) ++ row =
-    rw (add-one i, take-suc rs i zeroRow (omega arith), rows-append, one-row) in
+pub place-next : (l₀ : List ℕ) (rs : List Row) (count : ℕ) (l : List ℕ) (i : ℕ) (l′ xs : List ℕ)
+    → Placed l₀ rs count l i → i < count → rowStart count ≤ length l₀ → xs ≡ fieldsIn rs i
+    → l′ ≡ put l (rowStart i) (recordBytes letterR rowWidths xs) → Placed l₀ rs count l′ (i + 1)
+place-next l₀ rs count l i l′ xs w h room e p =
+    let is : l′ ≡ sheet headSize letterR rowWidths l₀ (i + 1) (fieldsIn rs) =
+    p ∙ rw (e, w .is) (sheet-next headSize letterR rowWidths l₀ i (fieldsIn rs) (λ k. refl) (omega arith)) in
     record {
       short = omega arith;
-      long = rw p (put-length l (rowStart i) row (omega (arith, w .long)) ∙ w .long);
-      is = p ∙ rw (w .is, more) (put-put l₀ 15 (rowStart i) (rowsBytes (take i rs)) row (omega arith) (omega arith));
+      long = rw is (sheet-length headSize letterR rowWidths l₀ (i + 1) (fieldsIn rs) (λ k. refl) (omega arith));
+      is = is;
     }
 
 pub place-ends : (l₀ : List ℕ) (rs : List Row) (count : ℕ) (l : List ℕ) (i : ℕ) → Placed l₀ rs count l i → count ≤ i
-    → l ≡ put l₀ 15 (rowsBytes (take count rs))
+    → l ≡ sheet headSize letterR rowWidths l₀ count (fieldsIn rs)
 place-ends l₀ rs count l i w h =
     let e : i ≡ count = omega (arith, w .short) in
     rw (← e) (w .is)

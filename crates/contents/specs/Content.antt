@@ -3,12 +3,13 @@ use Prim.Native.Nat.{ℕ}
 use mathlib.Core.Bool.{cond, not}
 use mathlib.Core.List.{List, [], _∷_, _++_}
 use lib.Dec.{ltb}
-use lib.ListN.{length, getD, take}
+use lib.ListN.{length, getD}
 use Rattle.columns.specs.Table.{table}
 use Rattle.columns.specs.Test.{Check}
 use Rattle.columns.specs.Checks.{Refusal, refusal, firstRefusal, rowByRow, previous, answerBy}
 use Rattle.records.specs.Buffer.{put}
-use Rattle.files.specs.Layout.{rowStart, headAt, headBytes, rowAt, rowBytes, rowCount}
+use Rattle.records.specs.Record.{recordsBytes}
+use Rattle.files.specs.Layout.{letterR, rowWidths, rowStart, headAt, headBytes, rowAt, rowFields, rowCount}
 use Rattle.files.specs.Terms.{terms01}
 use Rattle.files.specs.Range.{headOk}
 use Rattle.files.specs.Order.{rowChecks, intervalFault, verdict}
@@ -55,14 +56,13 @@ readingOf s =
     let f = intervalFault s in
     record { verdict = verdict (rowCount s) f; contents = cond (f .applies) zeroContents (contentsOf s) }
 
--- the bytes of rows, one after the other
-unfoldable pub rowsBytes : List Row → List ℕ
-rowsBytes [] = []
-rowsBytes (r ∷ rs) = rowBytes r ++ rowsBytes rs
+-- the fields of row i of a list
+abbrev pub fieldsIn : List Row → ℕ → List ℕ
+fieldsIn rs i = rowFields (getD rs i zeroRow)
 
 -- the file that contents make: the head and as many rows as it says
 unfoldable pub contentsBytes : Contents → List ℕ
-contentsBytes c = headBytes (c .head) ++ rowsBytes (take (c .head .rows) (c .rows))
+contentsBytes c = headBytes (c .head) ++ recordsBytes letterR rowWidths (table (c .head .rows) (fieldsIn (c .rows)))
 
 -- the terms that contents with this head are checked against
 unfoldable pub termsIn : Head → Terms

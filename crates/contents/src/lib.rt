@@ -9,11 +9,6 @@ mod writer;
 pub use reader::read;
 pub use writer::write;
 
-// Bytes of a head and of a row.
-const HEAD: usize = 15;
-
-const ROW: usize = 21;
-
 // What an interval file says: its head and its rows. Past the head's count of rows there are zero rows.
 pub struct Contents {
     pub head: Head,

@@ -1,9 +1,9 @@
 // Contents read from the bytes of an interval file.
 use crate::Contents;
-use crate::HEAD;
-use crate::ROW;
 use crate::Reading;
+use files::HEAD;
 use files::Head;
+use files::ROW;
 use files::Row;
 use files::Verdict;
 use files::head_at;

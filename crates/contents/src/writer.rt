@@ -1,55 +1,45 @@
 // Contents written as an interval file, once the refusals 3, 6, 7 and 11 are ruled out.
 use crate::Contents;
-use crate::HEAD;
-use crate::ROW;
 use crate::Written;
+use files::HEAD;
+use files::HEAD_WIDTHS;
 use files::Head;
+use files::ROW;
+use files::ROW_WIDTHS;
 use files::Row;
 use files::TERMS_01;
 use files::Terms;
 use files::Verdict;
 use files::head_ok;
 use files::row_checks;
-use records::put_fields;
+use records::put_record;
 ghost use mathlib.Core.Path.{_≡_};
-ghost use Prim.Native.Nat.{_+_, _≤_};
-ghost use lib.ListN.{length, take};
-ghost use Rattle.records.specs.Buffer.{put};
-ghost use Rattle.files.specs.Layout.{rowStart, headBytes, rowBytes};
+ghost use Prim.Native.Nat.{_≤_};
+ghost use lib.ListN.{length};
 ghost use Rattle.columns.specs.Checks.{firstRefusal};
+ghost use Rattle.records.specs.Buffer.{put};
+ghost use Rattle.records.specs.Sheet.{sheet};
+ghost use Rattle.files.specs.Layout.{letterR, rowWidths, headSize, rowStart, headFields, rowFields};
 ghost use Rattle.files.specs.Order.{verdict};
-ghost use Rattle.contents.specs.Content.{rowsBytes, contentsBytes, termsIn, rowsOrder, writtenOf, writtenBuffer};
+ghost use Rattle.contents.specs.Content.{fieldsIn, contentsBytes, termsIn, rowsOrder, writtenOf, writtenBuffer};
 
-// The widths of a head's fields and of a row's, the mark as two of one byte.
-const HEAD_WIDTHS: [u8; 7] = [1, 1, 4, 1, 2, 4, 2];
-
-const ROW_WIDTHS: [u8; 11] = [1, 1, 2, 1, 2, 4, 1, 1, 4, 2, 2];
-
-// Puts a head's 15 bytes at the front of a buffer.
-fn put_head(out: &mut [u8], h: Head)
-    requires { ⌜ 15 ≤ length (now out) ⌝ }
-    ensures { λ r. ⌜ now (out .exit) ≡ put (now (out .entry)) 0 (headBytes h) ⌝ }
+// A head and a row as their fields, in the order of their tables.
+fn head_fields(h: Head) -> [u64; 5]
+    ensures { λ r. ⌜ r ≡ headFields h ⌝ }
 {
-    let fields = [
-        b'P' as u64,
-        b'H' as u64,
+    [
         h.day as u64,
         h.quarter as u64,
         h.tariff.0 as u64,
         h.need.0 as u64,
         h.rows as u64,
-    ];
-    put_fields(out, 0, &HEAD_WIDTHS, &fields);
+    ]
 }
 
-// Puts a row's 21 bytes into a buffer from a position on.
-fn put_row(out: &mut [u8], at: usize, r: Row)
-    requires { ⌜ at + 21 ≤ length (now out) ⌝ }
-    ensures { λ _. ⌜ now (out .exit) ≡ put (now (out .entry)) at (rowBytes r) ⌝ }
+fn row_fields(r: Row) -> [u64; 9]
+    ensures { λ x. ⌜ x ≡ rowFields r ⌝ }
 {
-    let fields = [
-        b'P' as u64,
-        b'R' as u64,
+    [
         r.id as u64,
         r.kind as u64,
         r.capacity as u64,
@@ -59,8 +49,7 @@ fn put_row(out: &mut [u8], at: usize, r: Row)
         r.minimum.0 as u64,
         r.bid1.0,
         r.bid2.0,
-    ];
-    put_fields(out, at, &ROW_WIDTHS, &fields);
+    ]
 }
 
 // The terms that contents with this head are checked against.
@@ -115,13 +104,14 @@ fn answer_for(contents: Contents, room: usize) -> Written
 // The rows of contents, each at its place.
 fn put_rows(contents: Contents, out: &mut [u8])
     requires { ⌜ (contents .head .rows ≤ 256) × (rowStart (contents .head .rows) ≤ length (now out)) ⌝ }
-    ensures { λ r. ⌜ now (out .exit) ≡ put (now (out .entry)) 15 (rowsBytes (take (contents .head .rows) (contents .rows))) ⌝ }
+    ensures { λ r. ⌜ now (out .exit) ≡ sheet headSize letterR rowWidths (now (out .entry)) (contents .head .rows) (fieldsIn (contents .rows)) ⌝ }
 {
     let count = contents.head.rows as usize;
     let mut i = 0;
     while i < count {
         let r = contents.rows[i];
-        put_row(out, HEAD + i * ROW, r);
+        let fields = row_fields(r);
+        put_record(out, HEAD + i * ROW, b'R', &ROW_WIDTHS, &fields);
         i += 1;
     }
 }
@@ -132,8 +122,9 @@ fn put_contents(contents: Contents, out: &mut [u8])
     ensures { λ r. ⌜ now (out .exit) ≡ put (now (out .entry)) 0 (contentsBytes contents) ⌝ }
 {
     let h = contents.head;
-    put_head(out, h);
     put_rows(contents, out);
+    let fields = head_fields(h);
+    put_record(out, 0, b'H', &HEAD_WIDTHS, &fields);
 }
 
 // Writes contents as an interval file to the front of a lent buffer, which a refusal leaves as it is.
