@@ -14,7 +14,8 @@ use Rattle.columns.specs.Test.{Check, within}
 use Rattle.columns.specs.Checks.{Refusal, refusal, none, firstRefusal, orElse, placed, rowByRow, renumbered, answerBy, numbersIn}
 use Rattle.columns.proofs.Checks.{Passes, first-append, passes-none, passes-placed, cons-passes, append-passes, first-number, numbers-append, numbers-wider, renumbered-told, renumbered-passes}
 use Rattle.columns.proofs.First.{left-true, right-true, each}
-use Rattle.files.specs.Layout.{headSize, correctionHeadSize, marked, letterK, rowStart, correctionStart, headAt, correctionHeadAt, rowCount, correctionCount}
+use Rattle.records.specs.Record.{marked}
+use Rattle.files.specs.Layout.{headSize, correctionHeadSize, letterK, rowStart, correctionStart, headAt, correctionHeadAt, rowCount, correctionCount}
 use Rattle.files.specs.Terms.{termsOf}
 use Rattle.files.specs.Range.{dayOk, quarterOk, headOk, correctionHeadOk}
 use Rattle.files.specs.Walk.{inCorrection, inInterval}
