@@ -77,6 +77,9 @@ module _ (s : List ℕ) (q : Reading) (is : q ≡ readingOf s) where
   pub unread-packs : (number place : ℕ) → q .verdict ≡ Refused number place → Packs number place
   unread-packs number place e = rw e at packs-read
 
+  pub unread-number : (number place : ℕ) → q .verdict ≡ Refused number place → number ≤ 11
+  unread-number number place e = unread-packs number place e .number-fits
+
   not-zero : (number place : ℕ) → q .verdict ≡ Refused number place → number ≡ 0 → ⊥
   unfolding readingOf
   not-zero number place e z =

@@ -1,10 +1,10 @@
 -- `abi::wheatrudder_rewrite` meets its contract, for a file that is refused and for one that is read.
-use Rattle.abi.proofs.Told.{unread-packs, unread-told, unread-buffer, read-told, read-buffer}
+use Rattle.abi.proofs.Told.{unread-packs, unread-number, unread-told, unread-buffer, read-told, read-buffer}
 use borrow.Author.Needs.{needs}
 use Rattle.abi.proofs.wheatrudder_rewrite.Statement.{statement}
 use Rattle.abi.proofs.wheatrudder_rewrite.Tie as tie
 
-ruleset fitting = (unread-packs, needs)
+ruleset fitting = (unread-packs, unread-number, needs)
 
 read-requires : tie.Need-read-requires
 read-requires c κs = search needs
