@@ -12,14 +12,17 @@ use lib.ListN.{length, drop, length-take}
 use borrow.Author.Tests.{leb-true, not-false}
 use Rattle.columns.specs.Test.{Check, within}
 use Rattle.columns.specs.Checks.{Refusal, refusal, none, firstRefusal, orElse, placed, rowByRow, renumbered, answerBy, numbersIn}
-use Rattle.columns.proofs.Checks.{Passes, first-append, passes-none, passes-placed, cons-passes, append-passes, first-number, numbers-append, numbers-wider, renumbered-told, renumbered-passes}
+use Rattle.columns.proofs.Checks.{Passes, first-append, passes-none, passes-placed, cons-passes, append-passes}
+use Rattle.columns.proofs.Checks.{first-number, numbers-append, numbers-wider, renumbered-told, renumbered-passes}
 use Rattle.columns.proofs.First.{left-true, right-true, each}
 use Rattle.records.specs.Record.{marked}
-use Rattle.files.specs.Layout.{headSize, correctionHeadSize, letterK, rowStart, correctionStart, headAt, correctionHeadAt, rowCount, correctionCount}
+use Rattle.files.specs.Layout.{headSize, correctionHeadSize, letterK, rowStart, correctionStart}
+use Rattle.files.specs.Layout.{headAt, correctionHeadAt, rowCount, correctionCount}
 use Rattle.files.specs.Terms.{termsOf}
 use Rattle.files.specs.Range.{dayOk, quarterOk, headOk, correctionHeadOk}
 use Rattle.files.specs.Walk.{inCorrection, inInterval}
-use Rattle.files.specs.Order.{headChecks, rowChecksOf, rowsOrder, intervalOrder, correctionStarts, correctionOrder, sameTime, nameChecks, besideOrder, presentOrder, fileOrder, fileFault, verdict}
+use Rattle.files.specs.Order.{headChecks, rowChecksOf, rowsOrder, intervalOrder, fileOrder, fileFault}
+use Rattle.files.specs.Order.{correctionStarts, correctionOrder, sameTime, nameChecks, besideOrder, presentOrder}
 use Rattle.files.specs.Order as read
 use Rattle.files.specs.Counting.{part, named, countingBytes}
 use Rattle.files.specs.declared.Terms.{Terms}
@@ -93,7 +96,8 @@ unfolding correctionStarts correctionHeadOk
 starts-few k e =
     let h = correctionHeadAt k in
     let start = leb correctionHeadSize (length k) && marked k 0 letterK in
-    let ok = right-true start (correctionHeadOk h) (left-true (start && correctionHeadOk h) (eqb (length k) (correctionStart (correctionCount k))) e) in
+    let long = eqb (length k) (correctionStart (correctionCount k)) in
+    let ok = right-true start (correctionHeadOk h) (left-true (start && correctionHeadOk h) long e) in
     leb-true (h .rows) 256
     (right-true (leb 1 (h .rows)) (leb (h .rows) 256)
     (each (dayOk (h .day) ∷ quarterOk (h .quarter) ∷ within 1 256 (h .rows) ∷ []) ok 2 (lit< tt)))
@@ -212,7 +216,8 @@ named-short s k id =
     if-short (ltb (inCorrection k id) (correctionCount k)) (part k (correctionStart (inCorrection k id)))
     (cond (ltb (inInterval s id) (rowCount s)) (part s (rowStart (inInterval s id))) [])
     (taken-short k (correctionStart (inCorrection k id)))
-    (if-short (ltb (inInterval s id) (rowCount s)) (part s (rowStart (inInterval s id))) [] (taken-short s (rowStart (inInterval s id))) zero-le)
+    (if-short (ltb (inInterval s id) (rowCount s)) (part s (rowStart (inInterval s id))) []
+    (taken-short s (rowStart (inInterval s id))) zero-le)
 
 pub part-short : (s k : List ℕ) (id : ℕ) → length (countingBytes s k id) ≤ 21
 unfolding countingBytes

@@ -18,16 +18,16 @@ use Rattle.columns.specs.Checks.{Refusal, firstRefusal}
 use Rattle.columns.proofs.Checks.{Passes}
 use Rattle.records.specs.Buffer.{put}
 use Rattle.records.specs.Record.{recordBytes}
-use Rattle.records.specs.Sheet.{sheet}
 use Rattle.records.proofs.Sheet.{sheet-head}
-use Rattle.files.specs.Layout.{letterH, letterR, headWidths, rowWidths, headSize, rowStart, headBytes, headFields, rowCount}
+use Rattle.files.specs.Layout.{letterH, letterR, headWidths, rowWidths, rowStart, headBytes, headFields, rowCount}
 use Rattle.files.specs.Range.{headOk}
 use Rattle.files.specs.Order.{intervalOrder, intervalFault, verdict}
 use Rattle.files.specs.declared.Head.{Head}
 use Rattle.files.specs.declared.Verdict.{Verdict}
 use Rattle.files.specs.declared.Verdict.the-variants.{Accepted, Refused}
 use Rattle.files.proofs.Answer.{accepted-of, refused-of}
-use Rattle.contents.specs.Content.{zeroContents, contentsOf, readingOf, fieldsIn, contentsBytes, rowsOrder, writerFault, writtenOf, writtenBuffer}
+use Rattle.contents.specs.Content.{zeroContents, contentsOf, readingOf, fieldsIn, contentsBytes, withRows}
+use Rattle.contents.specs.Content.{rowsOrder, writerFault, writtenOf, writtenBuffer}
 use Rattle.contents.specs.declared.Contents.{Contents}
 use Rattle.contents.specs.declared.Reading.{Reading}
 use Rattle.contents.specs.declared.Written.{Written}
@@ -89,7 +89,7 @@ module _ (c : Contents) (out : List ℕ) (w : Written) (p : w ≡ writtenOf c (l
     done-buffer out′ e = rw (written-of c (length out) n (sym p ∙ q)) e
 
 pub rows-then-head : (c : Contents) (out l m xs : List ℕ) → rowStart (c .head .rows) ≤ length out → xs ≡ headFields (c .head)
-    → l ≡ sheet headSize letterR rowWidths out (c .head .rows) (fieldsIn (c .rows))
+    → l ≡ withRows c out
     → m ≡ put l 0 (recordBytes letterH headWidths xs) → m ≡ put out 0 (contentsBytes c)
 unfolding contentsBytes headBytes
 rows-then-head c out l m xs room e p q =

@@ -64,7 +64,8 @@ said rows =
     }
 
 pub x-accepted : intervalFault file ≡ none
-unfolding intervalOrder headChecks rowByRow rowChecksOf rowChecksAt rowChecks previous firstRefusal termsOf headAt rowAt recordAt fieldsAt numberAt headOk rowOk rowTests statusOk notOffering offering
+unfolding intervalOrder headChecks rowByRow rowChecksOf rowChecksAt rowChecks previous firstRefusal termsOf
+    headAt rowAt recordAt fieldsAt numberAt headOk rowOk rowTests statusOk notOffering offering
 x-accepted = refl
 
 pub x-said : contentsBytes (said (first ∷ plain 2 1 20000 ∷ plain 3 2 5000 ∷ [])) ≡ file
@@ -78,5 +79,6 @@ x-read = refl
 pub x-refused :
     (writtenOf (said (first ∷ plain 3 2 5000 ∷ plain 2 1 20000 ∷ [])) 78 ≡ Refused 7 3)
     × (writtenOf (said (first ∷ plain 2 1 20000 ∷ plain 3 2 5000 ∷ [])) 77 ≡ Refused 11 0)
-unfolding writtenOf writerOrder rowByRow rowChecksIn rowChecks previous firstRefusal termsIn headOk rowOk rowTests statusOk notOffering offering table
+unfolding writtenOf writerOrder rowByRow rowChecksIn rowChecks previous firstRefusal termsIn
+    headOk rowOk rowTests statusOk notOffering offering table
 x-refused = (refl, refl)

@@ -25,9 +25,11 @@ use Rattle.files.specs.Order.{rowChecks}
 use Rattle.files.specs.declared.Row.{Row}
 use Rattle.files.specs.declared.Terms.{Terms}
 use Rattle.files.proofs.Ranges.{row-ranges}
-use Rattle.contents.specs.Content.{zeroRow, idIn, termsIn, rowChecksIn, rowsOrder, writerOrder, writerFault, writtenOf, numberOf, valueOf}
+use Rattle.contents.specs.Content.{zeroRow, idIn, termsIn, rowChecksIn, rowsOrder}
+use Rattle.contents.specs.Content.{writerOrder, writerFault, writtenOf, numberOf, valueOf}
 use Rattle.contents.specs.InRange.{InRange}
 use Rattle.contents.specs.declared.Contents.{Contents}
+use Rattle.contents.specs.declared.Written.{Written}
 use Rattle.contents.specs.declared.Written.the-variants.{Bytes, Refused}
 
 -- ---- the first check that applies
@@ -104,17 +106,21 @@ module _ (c : Contents) (c-in : InRange c) where
 apart : (n a p : ℕ) → Refused a p ≡ Bytes n → ⊥
 apart n a p e = let z : _≡_ {A = ℕ} 0 1 = cc in omega arith
 
-tells : (n : ℕ) → Tells Refused (Bytes n) numberOf valueOf
-tells n = record { given = refl; numbers = λ a p. refl; places = λ a p. refl; differs = apart n }
-
 module _ (c : Contents) (room : ℕ) where
+  -- the answer where nothing refuses
+  abbrev done : Written
+  done = Bytes (rowStart (c .head .rows))
+
+  tells : Tells Refused done numberOf valueOf
+  tells = record { given = refl; numbers = λ a p. refl; places = λ a p. refl; differs = apart (rowStart (c .head .rows)) }
+
   pub unwritten-of : (a p : ℕ) → writtenOf c room ≡ Refused a p → writerFault c room ≡ refusal true a p
   unfolding writtenOf
-  unwritten-of a p h = checks.refused-of Refused (Bytes (rowStart (c .head .rows))) numberOf valueOf (tells (rowStart (c .head .rows))) (writerFault c room) a p h
+  unwritten-of = checks.refused-of Refused done numberOf valueOf tells (writerFault c room)
 
   pub written-of : (n : ℕ) → writtenOf c room ≡ Bytes n → Passes (writerOrder c room)
   unfolding writtenOf
-  written-of n h = checks.accepted-of Refused (Bytes (rowStart (c .head .rows))) (writerFault c room) (Bytes n) (apart n) h .0
+  written-of n h = checks.accepted-of Refused done (writerFault c room) (Bytes n) (apart n) h .0
 
   pub writer-numbers : numbersIn 1 11 (writerOrder c room) ≡ true
   unfolding writerOrder rowChecksIn rowChecks
@@ -124,26 +130,18 @@ module _ (c : Contents) (room : ℕ) where
 
   pub number-zero : numberOf (writtenOf c room) ≡ 0 → NoneApplies (writerOrder c room)
   unfolding writtenOf
-  number-zero =
-      checks.zero-none Refused (Bytes (rowStart (c .head .rows))) numberOf valueOf (tells (rowStart (c .head .rows)))
-      (writerOrder c room) 11 writer-numbers
+  number-zero = checks.zero-none Refused done numberOf valueOf tells (writerOrder c room) 11 writer-numbers
 
   pub zero-number : NoneApplies (writerOrder c room) → numberOf (writtenOf c room) ≡ 0
   unfolding writtenOf
-  zero-number =
-      checks.none-zero Refused (Bytes (rowStart (c .head .rows))) numberOf valueOf (tells (rowStart (c .head .rows)))
-      (writerOrder c room) 11 writer-numbers
+  zero-number = checks.none-zero Refused done numberOf valueOf tells (writerOrder c room) 11 writer-numbers
 
   pub number-earliest : (a p : ℕ) → (a ≡ 0 → ⊥) → numberOf (writtenOf c room) ≡ a → valueOf (writtenOf c room) ≡ p
       → Earliest (writerOrder c room) a p
   unfolding writtenOf
-  number-earliest =
-      checks.number-earliest Refused (Bytes (rowStart (c .head .rows))) numberOf valueOf (tells (rowStart (c .head .rows)))
-      (writerOrder c room) 11 writer-numbers
+  number-earliest = checks.number-earliest Refused done numberOf valueOf tells (writerOrder c room) 11 writer-numbers
 
   pub earliest-number : (a p : ℕ) → Earliest (writerOrder c room) a p
       → (numberOf (writtenOf c room) ≡ a) × (valueOf (writtenOf c room) ≡ p)
   unfolding writtenOf
-  earliest-number =
-      checks.earliest-number Refused (Bytes (rowStart (c .head .rows))) numberOf valueOf (tells (rowStart (c .head .rows)))
-      (writerOrder c room) 11 writer-numbers
+  earliest-number = checks.earliest-number Refused done numberOf valueOf tells (writerOrder c room) 11 writer-numbers

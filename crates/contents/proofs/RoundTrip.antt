@@ -25,9 +25,10 @@ use Rattle.records.specs.Buffer.{put}
 use Rattle.records.specs.Record.{recordAt}
 use Rattle.records.proofs.Buffer.{put-taken}
 use Rattle.records.proofs.Record.{record-write}
-use Rattle.files.specs.Layout.{letterH, letterR, headWidths, rowWidths, headSize, rowSize, rowStart, headAt, headBytes, rowAt, rowFields, rowCount}
+use Rattle.files.specs.Layout.{letterH, letterR, headWidths, rowWidths, headSize, rowSize, rowStart}
+use Rattle.files.specs.Layout.{headAt, headBytes, rowAt, rowFields, rowCount}
 use Rattle.files.specs.Terms.{termsOf}
-use Rattle.files.specs.Range.{headOk}
+use Rattle.files.specs.Range.{headOk, rowOk}
 use Rattle.files.specs.Walk.{idOf}
 use Rattle.files.specs.Order.{headChecks, rowChecks, rowChecksAt, rowChecksOf, intervalOrder}
 use Rattle.files.specs.Order as file
@@ -36,7 +37,8 @@ use Rattle.files.specs.declared.Row.{Row}
 use Rattle.files.specs.declared.Verdict.the-variants.{Accepted}
 use Rattle.files.proofs.Answer.{interval-numbers}
 use Rattle.files.proofs.Passed.{HeadPassed, head-passed, Passed, rows-passed}
-use Rattle.contents.specs.Content.{zeroRow, fieldsIn, contentsOf, readingOf, contentsBytes, termsIn, idIn, writerFault, writtenOf, writtenBuffer}
+use Rattle.contents.specs.Content.{zeroRow, contentsOf, readingOf, fieldsIn, contentsBytes, termsIn, idIn}
+use Rattle.contents.specs.Content.{writerFault, writtenOf, writtenBuffer}
 use Rattle.contents.specs.InRange.{InRange}
 use Rattle.contents.specs.declared.Contents.{Contents}
 use Rattle.contents.specs.declared.Written.the-variants.{Bytes}
@@ -94,7 +96,8 @@ module _ (s : List ℕ) (accepted : Passes (intervalOrder s)) where
 
   rises : (j : ℕ) → j < rowCount s → previous (idIn (table 256 (fileRow s))) j < idIn (table 256 (fileRow s)) j
   rises j l =
-      let before = same-previous (idIn (table 256 (fileRow s))) (idOf s headSize) (rowCount s) (λ k q. ap (λ (r : Row). r .id) (kept k q)) j l in
+      let before =
+      same-previous (idIn (table 256 (fileRow s))) (idOf s headSize) (rowCount s) (λ k q. ap (λ (r : Row). r .id) (kept k q)) j l in
       let here : idIn (table 256 (fileRow s)) j ≡ idOf s headSize j = ap (λ (r : Row). r .id) (kept j l) in
       omega (arith, before, here, passed j l .above)
 
@@ -103,9 +106,12 @@ module _ (s : List ℕ) (accepted : Passes (intervalOrder s)) where
   file-writable room h =
       record {
         head = head-of .ok;
-        rows = list-passes (termsIn (headAt s)) (table 256 (fileRow s)) (rowCount s) (λ j l. rw (kept j l, file-terms s) (passed j l .ok)) rises;
+        rows = list-passes (termsIn (headAt s)) (table 256 (fileRow s)) (rowCount s) ok rises;
         roomy = omega (arith, head-of .fits);
       }
+    where
+      ok : (j : ℕ) → j < rowCount s → rowOk (termsIn (headAt s)) (getD (table 256 (fileRow s)) j zeroRow) ≡ true
+      ok j l = rw (kept j l, file-terms s) (passed j l .ok)
 
   pub file-reading : readingOf s ≡ record { verdict = Accepted (rowCount s); contents = contentsOf s }
   unfolding readingOf
@@ -179,7 +185,8 @@ module _ (c : Contents) (c-in : InRange c) where
   unfolding intervalOrder headChecks
   contents-accepted =
       let s = contentsBytes c in
-      rw (append-next (placed 0 (headChecks s)) (file.rowsOrder (termsOf s) s headSize (rowCount s)) (placed-passes 0 (headChecks s) tt made-start), made-terms, made-count)
+      let rows = file.rowsOrder (termsOf s) s headSize (rowCount s) in
+      rw (append-next (placed 0 (headChecks s)) rows (placed-passes 0 (headChecks s) tt made-start), made-terms, made-count)
       made-rows
 
   pub contents-again : contentsOf (contentsBytes c) ≡ c

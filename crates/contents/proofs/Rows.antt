@@ -18,7 +18,8 @@ use Rattle.columns.proofs.Table.{table-length, table-at}
 use Rattle.records.specs.Record.{marked, recordSize, recordAt, recordBytes, recordsBytes, Fits}
 use Rattle.records.proofs.Record.{record-length, record-read, record-write}
 use Rattle.records.proofs.Sheet.{records-joined, lines-length, lines-read}
-use Rattle.files.specs.Layout.{letterH, letterR, headWidths, rowWidths, headSize, rowStart, headAt, headOf, headBytes, headFields, rowAt, rowOf, rowFields}
+use Rattle.files.specs.Layout.{letterH, letterR, headWidths, rowWidths, headSize, rowStart}
+use Rattle.files.specs.Layout.{headAt, headOf, headBytes, headFields, rowAt, rowOf, rowFields}
 use Rattle.files.specs.declared.Row.{Row}
 use Rattle.contents.specs.Content.{zeroRow, fieldsIn, contentsBytes}
 use Rattle.contents.specs.declared.Contents.{Contents}
@@ -65,7 +66,8 @@ records-write letter ws s start (suc n) small h marks =
     let front = table n (λ i. recordAt ws s (start + i * size)) in
     let ih = records-write letter ws s start n small (omega arith) (λ i l. marks i (omega arith)) in
     let here : recordBytes letter ws last ≡ take size (drop (n * size) (drop start s)) =
-    record-write letter ws s (start + n * size) small (omega arith) (marks n (omega arith)) ∙ ap (take size) (sym (drop-drop (n * size) start s)) in
+    record-write letter ws s (start + n * size) small (omega arith) (marks n (omega arith))
+    ∙ ap (take size) (sym (drop-drop (n * size) start s)) in
     let more : suc n * size ≡ n * size + size = omega arith in
     records-joined letter ws front (last ∷ [])
     ∙ rw (more, ih, one-record letter ws last, here) (sym (take-add (n * size) size (drop start s)))

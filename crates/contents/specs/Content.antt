@@ -9,7 +9,8 @@ use Rattle.columns.specs.Test.{Check}
 use Rattle.columns.specs.Checks.{Refusal, refusal, firstRefusal, rowByRow, previous, answerBy}
 use Rattle.records.specs.Buffer.{put}
 use Rattle.records.specs.Record.{recordsBytes}
-use Rattle.files.specs.Layout.{letterR, rowWidths, rowStart, headAt, headBytes, rowAt, rowFields, rowCount}
+use Rattle.records.specs.Sheet.{sheet}
+use Rattle.files.specs.Layout.{letterR, rowWidths, headSize, rowStart, headAt, headBytes, rowAt, rowFields, rowCount}
 use Rattle.files.specs.Terms.{terms01}
 use Rattle.files.specs.Range.{headOk}
 use Rattle.files.specs.Order.{rowChecks, intervalFault, verdict}
@@ -63,6 +64,10 @@ fieldsIn rs i = rowFields (getD rs i zeroRow)
 -- the file that contents make: the head and as many rows as it says
 unfoldable pub contentsBytes : Contents → List ℕ
 contentsBytes c = headBytes (c .head) ++ recordsBytes letterR rowWidths (table (c .head .rows) (fieldsIn (c .rows)))
+
+-- a buffer with the rows of contents, behind the place of the head
+abbrev pub withRows : Contents → List ℕ → List ℕ
+withRows c out = sheet headSize letterR rowWidths out (c .head .rows) (fieldsIn (c .rows))
 
 -- the terms that contents with this head are checked against
 unfoldable pub termsIn : Head → Terms

@@ -18,10 +18,9 @@ ghost use Prim.Native.Nat.{_≤_};
 ghost use lib.ListN.{length};
 ghost use Rattle.columns.specs.Checks.{firstRefusal};
 ghost use Rattle.records.specs.Buffer.{put};
-ghost use Rattle.records.specs.Sheet.{sheet};
-ghost use Rattle.files.specs.Layout.{letterR, rowWidths, headSize, rowStart, headFields, rowFields};
+ghost use Rattle.files.specs.Layout.{rowStart, headFields, rowFields};
 ghost use Rattle.files.specs.Order.{verdict};
-ghost use Rattle.contents.specs.Content.{fieldsIn, contentsBytes, termsIn, rowsOrder, writtenOf, writtenBuffer};
+ghost use Rattle.contents.specs.Content.{contentsBytes, withRows, termsIn, rowsOrder, writtenOf, writtenBuffer};
 
 // A head and a row as their fields, in the order of their tables.
 fn head_fields(h: Head) -> [u64; 5]
@@ -104,7 +103,7 @@ fn answer_for(contents: Contents, room: usize) -> Written
 // The rows of contents, each at its place.
 fn put_rows(contents: Contents, out: &mut [u8])
     requires { ⌜ (contents .head .rows ≤ 256) × (rowStart (contents .head .rows) ≤ length (now out)) ⌝ }
-    ensures { λ r. ⌜ now (out .exit) ≡ sheet headSize letterR rowWidths (now (out .entry)) (contents .head .rows) (fieldsIn (contents .rows)) ⌝ }
+    ensures { λ r. ⌜ now (out .exit) ≡ withRows contents (now (out .entry)) ⌝ }
 {
     let count = contents.head.rows as usize;
     let mut i = 0;
