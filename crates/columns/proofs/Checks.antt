@@ -9,10 +9,11 @@
 --   numbers-append, -wider, -renumbered, -rows       such bounds, for lists made of lists
 --   placed-told, placed-passes       checks at one place, by the number that code gives for them
 --   renumbered-told, renumbered-passes               the same checks under one number
+--   previous-none, -next, -same      what stands before a row
 --   rows-none, -next, -stop, -each, -same            row by row: a walk begins, goes on, stops; what it says of each row
 --   answer-no, answer-yes, refused-of, accepted-of   an answer, by what refuses
 --   zero-none, none-zero, number-earliest, earliest-number
---                                    its number is 0 exactly if no check applies, a number and place otherwise exactly those of the earliest
+--                                    its number is 0 exactly if no check applies, else number and place are exactly the earliest's
 use mathlib.Core.Path.{_≡_, refl, sym, ap, subst, _∙_}
 use mathlib.Core.Logic.{_⊎_, inl, inr, ⊎-elim}
 use Prim.Native.Nat.{ℕ, zero, suc, _+_, _≤_, _<_}
@@ -25,7 +26,8 @@ use lib.Dec.{T, leb, ltb, ltb→lt}
 use lib.ListN.{length, getD}
 use borrow.Author.Tests.{leb-true, le-leb}
 use Rattle.columns.specs.Test.{Check, firstOf, within}
-use Rattle.columns.specs.Checks.{Refusal, refusal, none, firstRefusal, orElse, placed, rowByRow, renumbered, answerBy, numbersIn, Earliest, NoneApplies, Tells}
+use Rattle.columns.specs.Checks.{previous, Refusal, refusal, none, firstRefusal, orElse, placed, rowByRow}
+use Rattle.columns.specs.Checks.{renumbered, answerBy, numbersIn, Earliest, NoneApplies, Tells}
 use Rattle.columns.proofs.First.{numbered, both-left, both-right, left-true, right-true}
 use Rattle.columns.proofs.Sum.{lt-or-le}
 
@@ -50,7 +52,8 @@ first-none (r ∷ rs) h = rw (h 0 (omega arith)) (first-none rs (λ i l. h (suc 
 -- a check in front of others that refuses nothing with them: it does not apply, and they refuse nothing
 in-front : (r f : Refusal) → cond (r .applies) r f .applies ≡ false → (r .applies ≡ false) × (f .applies ≡ false)
 in-front r f h =
-    ⊎-elim (λ (e : r .applies ≡ true). absurd (never true refl (rw e at h))) (λ (e : r .applies ≡ false). (e, rw e at h)) (test-or (r .applies))
+    ⊎-elim (λ (e : r .applies ≡ true). absurd (never true refl (rw e at h))) (λ (e : r .applies ≡ false). (e, rw e at h))
+    (test-or (r .applies))
 
 pub cons-passes : (r : Refusal) (rs : List Refusal) → Passes (r ∷ rs) → (r .applies ≡ false) × Passes rs
 unfolding firstRefusal
@@ -76,7 +79,14 @@ earliest-first rs n p e = walked rs (e .at) (e .inside) (e .applies) (e .earlier
 
 later : (r : Refusal) (rs : List Refusal) (n p : ℕ) → r .applies ≡ false → Earliest rs n p → Earliest (r ∷ rs) n p
 later r rs n p q e =
-    record { at = suc (e .at); inside = omega (arith, e .inside); applies = e .applies; number = e .number; place = e .place; earlier = go } where
+    record {
+      at = suc (e .at);
+      inside = omega (arith, e .inside);
+      applies = e .applies;
+      number = e .number;
+      place = e .place;
+      earlier = go;
+    } where
       go : (i : ℕ) → i < suc (e .at) → getD (r ∷ rs) i none .applies ≡ false
       go zero l = q
       go (suc i) l = e .earlier i (le-of-suc-le-suc l)
@@ -152,10 +162,12 @@ module _ (xs : List Refusal) (r : Refusal) where
   more-passes h e = rw (append-next xs (r ∷ []) h) (one-passes r e)
 
   pub more-earliest : (n p : ℕ) → Earliest (xs ++ (r ∷ [])) n p → Earliest xs n p ⊎ (NoneApplies xs × (r ≡ refusal true n p))
-  more-earliest n p h = ⊎-elim inl (λ (w : NoneApplies xs × Earliest (r ∷ []) n p). inr (w .0, only (w .1) (test-or (r .applies)))) (earliest-append xs (r ∷ []) n p h) where
-    only : Earliest (r ∷ []) n p → (r .applies ≡ true) ⊎ (r .applies ≡ false) → r ≡ refusal true n p
-    only e (inl q) = sym (one-first r q) ∙ earliest-first (r ∷ []) n p e
-    only e (inr q) = absurd (never _ (ap (λ (x : Refusal). x .applies) (earliest-first (r ∷ []) n p e)) (one-passes r q))
+  more-earliest n p h =
+      ⊎-elim inl (λ (w : NoneApplies xs × Earliest (r ∷ []) n p). inr (w .0, only (w .1) (test-or (r .applies))))
+      (earliest-append xs (r ∷ []) n p h) where
+        only : Earliest (r ∷ []) n p → (r .applies ≡ true) ⊎ (r .applies ≡ false) → r ≡ refusal true n p
+        only e (inl q) = sym (one-first r q) ∙ earliest-first (r ∷ []) n p e
+        only e (inr q) = absurd (never _ (ap (λ (x : Refusal). x .applies) (earliest-first (r ∷ []) n p e)) (one-passes r q))
 
 -- ---- numbers within bounds
 
@@ -172,7 +184,11 @@ module _ (lo hi : ℕ) where
         go : (firstRefusal rs .applies ≡ true → (lo ≤ firstRefusal rs .number) × (firstRefusal rs .number ≤ hi))
             → (r .applies ≡ true) ⊎ (r .applies ≡ false)
             → (lo ≤ cond (r .applies) r (firstRefusal rs) .number) × (cond (r .applies) r (firstRefusal rs) .number ≤ hi)
-        go f (inl q) = rw q (leb-true lo (r .number) (left-true (leb lo (r .number)) _ here), leb-true (r .number) hi (right-true (leb lo (r .number)) _ here))
+        go f (inl q) =
+            rw q (
+              leb-true lo (r .number) (left-true (leb lo (r .number)) _ here),
+              leb-true (r .number) hi (right-true (leb lo (r .number)) _ here),
+            )
         go f (inr q) = rw q (f (rw q at e))
 
   pub numbers-append : (xs ys : List Refusal) → numbersIn lo hi xs ≡ true → numbersIn lo hi ys ≡ true → numbersIn lo hi (xs ++ ys) ≡ true
@@ -186,7 +202,8 @@ module _ (lo hi : ℕ) where
   numbers-renumbered n [] h = refl
   numbers-renumbered n (r ∷ rs) h = rw h (numbers-renumbered n rs h)
 
-  pub numbers-rows : (n : ℕ) (f : ℕ → List Check) → ((i : ℕ) → numbersIn lo hi (placed (suc i) (f i)) ≡ true) → numbersIn lo hi (rowByRow n f) ≡ true
+  pub numbers-rows : (n : ℕ) (f : ℕ → List Check) → ((i : ℕ) → numbersIn lo hi (placed (suc i) (f i)) ≡ true)
+      → numbersIn lo hi (rowByRow n f) ≡ true
   unfolding rowByRow
   numbers-rows zero f h = refl
   numbers-rows (suc n) f h = numbers-append (rowByRow n f) (placed (suc n) (f n)) (numbers-rows n f h) (h n)
@@ -237,7 +254,8 @@ renumbered-first n (r ∷ rs) = rw (renumbered-first n rs) (go (test-or (r .appl
   go (inl q) = rw q
   go (inr q) = rw q
 
-pub renumbered-told : (n a p : ℕ) (rs : List Refusal) → firstRefusal rs ≡ refusal true a p → firstRefusal (renumbered n rs) ≡ refusal true n p
+pub renumbered-told : (n a p : ℕ) (rs : List Refusal) → firstRefusal rs ≡ refusal true a p
+    → firstRefusal (renumbered n rs) ≡ refusal true n p
 renumbered-told n a p rs e = renumbered-first n rs ∙ rw e
 
 pub renumbered-passes : (n : ℕ) (rs : List Refusal) → Passes rs → Passes (renumbered n rs)
@@ -249,6 +267,19 @@ passes-renumbered n rs h =
     (λ (e : firstRefusal rs .applies ≡ false). e) (test-or (firstRefusal rs .applies))
 
 -- ---- row by row
+
+pub previous-none : (f : ℕ → ℕ) → previous f 0 ≡ 0
+unfolding previous
+previous-none f = refl
+
+pub previous-next : (f : ℕ → ℕ) (i : ℕ) → previous f (i + 1) ≡ f i
+unfolding previous
+previous-next f i = rw (add-one i)
+
+pub previous-same : (f g : ℕ → ℕ) (i : ℕ) → ((j : ℕ) → j < i → f j ≡ g j) → previous f i ≡ previous g i
+unfolding previous
+previous-same f g zero h = refl
+previous-same f g (suc i) h = h i (omega arith)
 
 pub rows-none : (f : ℕ → List Check) → Passes (rowByRow 0 f)
 unfolding rowByRow firstRefusal
@@ -286,7 +317,8 @@ rows-each f (suc n) i h l =
     (lt-or-le i n)
 
 -- checks at one place answer alike if they give the same number
-placed-same : (p : ℕ) (cs ds : List Check) → T (numbered cs) → T (numbered ds) → firstOf cs ≡ firstOf ds → firstRefusal (placed p cs) ≡ firstRefusal (placed p ds)
+placed-same : (p : ℕ) (cs ds : List Check) → T (numbered cs) → T (numbered ds) → firstOf cs ≡ firstOf ds
+    → firstRefusal (placed p cs) ≡ firstRefusal (placed p ds)
 placed-same p cs ds s t e =
     ⊎-elim
     (λ (z : firstOf cs ≡ 0).
@@ -317,7 +349,8 @@ module _ {A : Type 0} (refuse : ℕ → ℕ → A) (otherwise : A) where
   answer-yes f e = rw e
 
   -- an answer that is no refusal is the one given
-  pub accepted-of : (f : Refusal) (x : A) → ((a p : ℕ) → refuse a p ≡ x → ⊥) → answerBy refuse otherwise f ≡ x → (f .applies ≡ false) × (otherwise ≡ x)
+  pub accepted-of : (f : Refusal) (x : A) → ((a p : ℕ) → refuse a p ≡ x → ⊥) → answerBy refuse otherwise f ≡ x
+      → (f .applies ≡ false) × (otherwise ≡ x)
   accepted-of f x other h =
       ⊎-elim (λ (e : f .applies ≡ true). absurd (other _ _ (rw e at h))) (λ (e : f .applies ≡ false). (e, rw e at h)) (test-or (f .applies))
 

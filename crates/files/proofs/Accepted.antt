@@ -3,32 +3,33 @@
 --   accepted-head-ok, accepted-row-ok      the head and each row of the interval are in their ranges
 --   accepted-rows       the interval's rows are there, with ids that rise
 --   Corrected           what is known of the correction's rows; there are none if there is no correction
-use mathlib.Core.Path.{_≡_, refl, sym, subst}
+use mathlib.Core.Path.{_≡_, refl, sym}
 use mathlib.Core.Logic.{⊎-elim}
 use Prim.Native.Nat.{ℕ, _≤_, _<_}
-use mathlib.Core.Bool.{Bool, true, false, not, cond, _&&_}
+use mathlib.Core.Bool.{true, false, not, cond}
 use mathlib.Core.List.{List, [], _∷_}
 use native.Mathlib.Omega.{arith}
-use lib.Dec.{T, eqb, leb, lit<}
+use lib.Dec.{eqb, lit<}
 use lib.ListN.{length}
-use borrow.Author.Tests.{not-false, ne-eqb, leb-true}
+use borrow.Author.Tests.{not-false, ne-eqb}
 use Rattle.records.specs.Number.{numberAt}
-use Rattle.columns.specs.Test.{within}
 use Rattle.columns.specs.Checks.{check, refusal, rowByRow, renumbered}
 use Rattle.columns.proofs.Checks.{Passes, cons-passes, append-passes, passes-renumbered, rows-each}
-use Rattle.columns.proofs.First.{none-applies, right-true, each}
+use Rattle.columns.proofs.First.{none-applies}
 use Rattle.columns.proofs.Sum.{lt-or-le}
-use Rattle.records.specs.Record.{marked, fieldsAt, recordAt}
-use Rattle.files.specs.Layout.{headSize, correctionHeadSize, letterK, rowAt, rowStart, correctionStart, headAt, correctionHeadAt, rowCount, correctionCount}
+use Rattle.records.specs.Record.{fieldsAt, recordAt}
+use Rattle.files.specs.Layout.{headSize, correctionHeadSize, rowAt, rowStart}
+use Rattle.files.specs.Layout.{correctionStart, headAt, correctionHeadAt, rowCount, correctionCount}
 use Rattle.files.specs.Terms.{termsOf}
-use Rattle.files.specs.Range.{dayOk, quarterOk, headOk, correctionHeadOk, rowOk}
+use Rattle.files.specs.Range.{headOk, rowOk}
 use Rattle.files.specs.Walk.{Rows, Own}
-use Rattle.files.specs.Order.{rowsOrder, intervalOrder, correctionStarts, correctionOrder, sameTime, corrects, nameChecks, besideOrder, presentOrder, fileOrder, fileFault, verdictOf}
+use Rattle.files.specs.Order.{rowsOrder, intervalOrder, correctionStarts, correctionOrder, sameTime, corrects}
+use Rattle.files.specs.Order.{nameChecks, besideOrder, presentOrder, fileOrder, fileFault, verdictOf}
 use Rattle.files.specs.declared.Verdict.the-variants.{Accepted}
 use Rattle.files.proofs.Answer.{accepted-of}
 use Rattle.files.proofs.Passed.{rows-passed, rows-sound}
-use Rattle.files.proofs.Named.{own-head, own-rows, own-stands, starts-long}
-use Rattle.files.proofs.Ranges.{head-ranges}
+use Rattle.files.proofs.Named.{own-head, own-rows, passed-own, starts-long, starts-ok}
+use Rattle.files.proofs.Ranges.{head-ranges, correction-few}
 
 module _ (s k : List ℕ) (n : ℕ) (h : verdictOf s k ≡ Accepted n) where
   pub accepted-passes : fileFault s k .applies ≡ false
@@ -44,7 +45,7 @@ module _ (s k : List ℕ) (n : ℕ) (h : verdictOf s k ≡ Accepted n) where
   parts = append-passes (intervalOrder s) (cond (eqb (length k) 0) [] (presentOrder s k)) accepted-passes
 
   pub accepted-own : Own s n
-  accepted-own = rw accepted-count (own-stands s (parts .0))
+  accepted-own = rw accepted-count (passed-own s (parts .0))
 
   pub accepted-rows : Rows s headSize n
   accepted-rows = accepted-own .rows
@@ -71,7 +72,9 @@ module _ (s k : List ℕ) (n : ℕ) (h : verdictOf s k ≡ Accepted n) where
 module _ (s k : List ℕ) (e : Passes (correctionOrder (termsOf s) k)) where
   eight : (not (correctionStarts k) ≡ false) × Passes (renumbered 8 (rowsOrder (termsOf s) k correctionHeadSize (correctionCount k)))
   unfolding correctionOrder
-  eight = cons-passes (refusal (not (correctionStarts k)) 8 0) (renumbered 8 (rowsOrder (termsOf s) k correctionHeadSize (correctionCount k))) e
+  eight =
+      cons-passes (refusal (not (correctionStarts k)) 8 0)
+      (renumbered 8 (rowsOrder (termsOf s) k correctionHeadSize (correctionCount k))) e
 
   starts : correctionStarts k ≡ true
   starts = not-false (correctionStarts k) (eight .0)
@@ -80,17 +83,7 @@ module _ (s k : List ℕ) (e : Passes (correctionOrder (termsOf s) k)) where
   rows = passes-renumbered 8 (rowsOrder (termsOf s) k correctionHeadSize (correctionCount k)) (eight .1)
 
   their-few : correctionCount k ≤ 256
-  unfolding correctionStarts correctionHeadOk
-  their-few =
-      let c = correctionHeadAt k in
-      let ok = third (leb correctionHeadSize (length k) && marked k 0 letterK) _ _ starts in
-      leb-true (c .rows) 256
-      (right-true (leb 1 (c .rows)) _ (each (dayOk (c .day) ∷ quarterOk (c .quarter) ∷ within 1 256 (c .rows) ∷ []) ok 2 (lit< tt)))
-    where
-      third : (a b c : Bool) → a && b && c ≡ true → b ≡ true
-      third true true c q = refl
-      third true false c q = q
-      third false b c q = absurd (subst T (sym q) tt)
+  their-few = correction-few (correctionHeadAt k) (starts-ok k starts)
 
 -- each of a correction's rows that pass 10 corrects one of the interval's
 names-each : (s k : List ℕ) → Passes (besideOrder s k) → (j : ℕ) → j < correctionCount k → corrects s (rowAt k (correctionStart j)) ≡ true

@@ -1,4 +1,5 @@
 -- An answer, and what refuses.
+--   tells            number and value of each answer
 --   accepted-of      an acceptance: nothing refuses, and the count is the one stated
 --   refused-of       a refusal: what refuses has this number and this place
 --   zero-none, none-zero          01, Numbers of refusal: a pair of files gets number 0 exactly if no check applies
@@ -15,14 +16,15 @@ use Rattle.columns.specs.Checks.{Refusal, refusal, placed, numbersIn, Earliest,
 use Rattle.columns.proofs.Checks as checks
 use Rattle.files.specs.Layout.{headSize, correctionHeadSize, rowCount, correctionCount}
 use Rattle.files.specs.Terms.{termsOf}
-use Rattle.files.specs.Order.{headChecks, rowChecks, rowChecksAt, rowChecksOf, rowsOrder, intervalOrder, correctionOrder, nameChecks, besideOrder, presentOrder, fileOrder, verdict, verdictOf, numberOf, valueOf}
+use Rattle.files.specs.Order.{headChecks, rowChecks, rowChecksAt, rowChecksOf, rowsOrder, intervalOrder, correctionOrder, nameChecks}
+use Rattle.files.specs.Order.{besideOrder, presentOrder, fileOrder, verdict, verdictOf, numberOf, valueOf}
 use Rattle.files.specs.declared.Terms.{Terms}
 use Rattle.files.specs.declared.Verdict.the-variants.{Accepted, Refused}
 
 apart : (n a p : ℕ) → Refused a p ≡ Accepted n → ⊥
 apart n a p e = let z : _≡_ {A = ℕ} 0 1 = cc in omega arith
 
-tells : (n : ℕ) → Tells Refused (Accepted n) numberOf valueOf
+pub tells : (n : ℕ) → Tells Refused (Accepted n) numberOf valueOf
 tells n = record { given = refl; numbers = λ a p. refl; places = λ a p. refl; differs = apart n }
 
 pub accepted-of : (n m : ℕ) (f : Refusal) → verdict n f ≡ Accepted m → (f .applies ≡ false) × (n ≡ m)
@@ -60,18 +62,21 @@ module _ (s k : List ℕ) where
         pair true = refl
         pair false = present-numbers s k
 
+  abbrev told : Tells Refused (Accepted (rowCount s)) numberOf valueOf
+  told = tells (rowCount s)
+
   pub zero-none : numberOf (verdictOf s k) ≡ 0 → NoneApplies (fileOrder s k)
   unfolding verdictOf
-  zero-none = checks.zero-none Refused (Accepted (rowCount s)) numberOf valueOf (tells (rowCount s)) (fileOrder s k) 10 file-numbers
+  zero-none = checks.zero-none Refused (Accepted (rowCount s)) numberOf valueOf told (fileOrder s k) 10 file-numbers
 
   pub none-zero : NoneApplies (fileOrder s k) → numberOf (verdictOf s k) ≡ 0
   unfolding verdictOf
-  none-zero = checks.none-zero Refused (Accepted (rowCount s)) numberOf valueOf (tells (rowCount s)) (fileOrder s k) 10 file-numbers
+  none-zero = checks.none-zero Refused (Accepted (rowCount s)) numberOf valueOf told (fileOrder s k) 10 file-numbers
 
   pub number-earliest : (a p : ℕ) → (a ≡ 0 → ⊥) → numberOf (verdictOf s k) ≡ a → valueOf (verdictOf s k) ≡ p → Earliest (fileOrder s k) a p
   unfolding verdictOf
-  number-earliest = checks.number-earliest Refused (Accepted (rowCount s)) numberOf valueOf (tells (rowCount s)) (fileOrder s k) 10 file-numbers
+  number-earliest = checks.number-earliest Refused (Accepted (rowCount s)) numberOf valueOf told (fileOrder s k) 10 file-numbers
 
   pub earliest-number : (a p : ℕ) → Earliest (fileOrder s k) a p → (numberOf (verdictOf s k) ≡ a) × (valueOf (verdictOf s k) ≡ p)
   unfolding verdictOf
-  earliest-number = checks.earliest-number Refused (Accepted (rowCount s)) numberOf valueOf (tells (rowCount s)) (fileOrder s k) 10 file-numbers
+  earliest-number = checks.earliest-number Refused (Accepted (rowCount s)) numberOf valueOf told (fileOrder s k) 10 file-numbers

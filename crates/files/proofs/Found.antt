@@ -17,7 +17,7 @@ use Rattle.columns.proofs.Rank.{find-is, find-passes}
 use Rattle.columns.proofs.Sum.{lt-or-le}
 use Rattle.files.specs.Layout.{headSize, rowAt, rowStart}
 use Rattle.files.specs.Walk.{idOf, hasId, findId, Rows, Own, Under, Sought}
-use Rattle.files.specs.Order.{sameTerms, corrects}
+use Rattle.files.specs.Order.{alike, corrects}
 use Rattle.files.specs.declared.Row.{Row}
 
 pub find-has : (s : List ℕ) (start n id : ℕ) → findId s start n id < n → idOf s start (findId s start n id) ≡ id
@@ -33,7 +33,8 @@ module _ (s : List ℕ) (start n id r : ℕ) (rows : Rows s start n) (w : Sought
   unfolding findId hasId
   found-yes e =
       find-is n (hasId s start id) r (ltb-true r n (left-true (ltb r n) (eqb (idOf s start r) id) e))
-      (right-true (ltb r n) (eqb (idOf s start r) id) e) (λ x l. ne-eqb (idOf s start x) id (λ (q : idOf s start x ≡ id). omega (arith, w .under x l)))
+      (right-true (ltb r n) (eqb (idOf s start r) id) e)
+      (λ x l. ne-eqb (idOf s start x) id (λ (q : idOf s start x ≡ id). omega (arith, w .under x l)))
 
   -- no row has the id if the one where the walk stopped has not
   nowhere : has s start n r id ≡ false → (x : ℕ) → x < n → idOf s start x ≡ id → ⊥
@@ -52,13 +53,13 @@ module _ (s : List ℕ) (start n id r : ℕ) (rows : Rows s start n) (w : Sought
       ⊎-elim (λ (l : findId s start n id < n). absurd (nowhere e (findId s start n id) l (find-has s start n id l)))
       (λ (m : n ≤ findId s start n id). le-ltb (findId s start n id) n m) (lt-or-le (findId s start n id) n)
 
--- row r is there and has the same terms
+-- row r is there and like this row
 abbrev pub matches : List ℕ → ℕ → ℕ → Row → Bool
-matches s n r row = ltb r n && sameTerms (rowAt s (rowStart r)) row
+matches s n r row = ltb r n && alike (rowAt s (rowStart r)) row
 
--- a row that is not of this id has not the same terms
+-- a row of another id is not like this one
 other-id : (s : List ℕ) (n r : ℕ) (row : Row) → has s headSize n r (row .id) ≡ false → matches s n r row ≡ false
-unfolding sameTerms
+unfolding alike
 other-id s n r row e =
     ⊎-elim (λ (l : r < n). rw (lt-ltb r n l, rw (lt-ltb r n l) at e)) (λ (m : n ≤ r). rw (le-ltb r n m)) (lt-or-le r n)
 
@@ -66,7 +67,7 @@ pub corrects-sought : (s : List ℕ) (n r : ℕ) (row : Row) → Own s n → Sou
 unfolding corrects
 corrects-sought s n r row own w = rw (← own .told) (go (has s headSize n r (row .id)) refl) where
   go : (t : Bool) → has s headSize n r (row .id) ≡ t
-      → (ltb (findId s headSize n (row .id)) n && sameTerms (rowAt s (rowStart (findId s headSize n (row .id)))) row) ≡ matches s n r row
+      → (ltb (findId s headSize n (row .id)) n && alike (rowAt s (rowStart (findId s headSize n (row .id)))) row) ≡ matches s n r row
   go true e = rw (found-yes s headSize n (row .id) r (own .rows) w e)
   go false e = rw (found-no s headSize n (row .id) r (own .rows) w e, other-id s n r row e)
 

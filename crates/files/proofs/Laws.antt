@@ -1,24 +1,20 @@
 -- What callers may use of a pair of files, by its verdict alone.
 --   accepted-count      the count that is accepted is the head's
---   accepted-length     the interval file has 15 + 21n bytes
+--   accepted-length     the interval file is a head and n rows long
 --   accepted-few        n is at most 256
 --   accepted-head       the head's fields are in their ranges
 --   accepted-row        every row that counts is in its ranges
 --   accepted-ranges     the same as plain facts
 --   counting-id         the row that counts has the interval row's id
---   counting-terms      and its kind, capacity, offered, minimum and bids: only metered and status may differ
+--   counting-alike      and its kind, capacity, offered, minimum and bids: only metered and status may differ
 --   ids-rise            ids of the interval's rows rise strictly
 --   counting-rise       and so do those of the rows that count
 --   source-at           what a column of sources has at row i
 --   row-ranges, head-ranges (Ranges.antt)      a row, a head in its ranges as a record of facts
 --   zero-none, none-zero, number-earliest, earliest-number (Answer.antt)
 --                       number 0 is given exactly if no check applies, number a ≠ 0 and place p exactly if the first that applies has them
---   head-unique, row-unique, correction-head-unique, test-unique, number-unique, check-unique, interval-unique, counting-unique,
---   sources-unique, counting-row-unique, seek-unique      two results that a contract allows are equal; test-unique serves the
---                       tests, number-unique `row_checks`, `row_count`, `correction_count` and `id_at`
 use mathlib.Core.Path.{_≡_, refl, _∙_}
-use Prim.Native.Nat.{ℕ, _+_, _≤_, _<_}
-use mathlib.Core.Logic.{⊎-elim}
+use Prim.Native.Nat.{ℕ, _+_, _<_}
 use mathlib.Core.Bool.{Bool, true, false, cond}
 use mathlib.Core.List.{List}
 use native.Mathlib.Omega.{arith}
@@ -31,18 +27,14 @@ use Rattle.columns.proofs.Table.{table-length, table-at}
 use Rattle.records.proofs.Buffer.{put-inside}
 use Rattle.columns.proofs.First.{right-true}
 use Rattle.columns.proofs.Rank.{find-is}
-use Rattle.columns.proofs.Unique.{unique}
-use Rattle.columns.proofs.Sum.{lt-or-le}
-use Rattle.files.specs.Layout.{headSize, correctionHeadSize, rowAt, rowStart, correctionStart, headAt, correctionHeadAt, rowCount, correctionCount}
+use Rattle.files.specs.Layout.{headSize, correctionHeadSize, rowAt, rowStart, correctionStart}
+use Rattle.files.specs.Layout.{headAt, rowCount, correctionCount}
 use Rattle.files.specs.Terms.{termsOf}
 use Rattle.files.specs.Range.{rowOk}
-use Rattle.files.specs.Walk.{idOf, hasId, findId, inCorrection, Own, Sought}
-use Rattle.files.specs.Order.{sameTerms, corrects, intervalFault, verdict, verdictOf}
-use Rattle.files.specs.Counting.{countingBytes, sourceOf, countingRow}
-use Rattle.files.specs.declared.Head.{Head}
-use Rattle.files.specs.declared.CorrectionHead.{CorrectionHead}
+use Rattle.files.specs.Walk.{idOf, hasId, findId, inCorrection, Own}
+use Rattle.files.specs.Order.{alike, corrects, verdict, verdictOf}
+use Rattle.files.specs.Counting.{countingRow}
 use Rattle.files.specs.declared.Row.{Row}
-use Rattle.files.specs.declared.Verdict.{Verdict}
 use Rattle.files.specs.declared.Verdict.the-variants.{Accepted}
 use Rattle.files.proofs.Accepted.{accepted-own, accepted-head-ok, accepted-row-ok, accepted-rows, accepted-corrected}
 use Rattle.files.proofs.Found.{find-has}
@@ -58,7 +50,8 @@ counted s k i P theirs own = go (ltb j (correctionCount k)) refl where
   j : ℕ
   j = inCorrection k (idOf s headSize i)
 
-  go : (t : Bool) → ltb j (correctionCount k) ≡ t → P (cond (ltb j (correctionCount k)) (rowAt k (correctionStart j)) (rowAt s (rowStart i)))
+  go : (t : Bool) → ltb j (correctionCount k) ≡ t
+      → P (cond (ltb j (correctionCount k)) (rowAt k (correctionStart j)) (rowAt s (rowStart i)))
   go true q = rw q (theirs (ltb-true j (correctionCount k) q))
   go false q = rw q own
 
@@ -67,9 +60,9 @@ counting-id s k i =
     counted s k i (λ (r : Row). r .id ≡ rowAt s (rowStart i) .id)
     (λ l. find-has k correctionHeadSize (correctionCount k) (idOf s headSize i) l) refl
 
-same-self : (r : Row) → sameTerms r r ≡ true
-unfolding sameTerms
-same-self r =
+alike-self : (r : Row) → alike r r ≡ true
+unfolding alike
+alike-self r =
     rw (
       eq-eqb (r .id) (r .id) refl,
       eq-eqb (r .kind) (r .kind) refl,
@@ -80,16 +73,17 @@ same-self r =
       eq-eqb (r .bid2 .0) (r .bid2 .0) refl,
     )
 
--- a row that corrects, of row i's id: it has row i's terms
+-- a row that corrects, of row i's id, is like row i
 corrects-own : (s : List ℕ) (n i : ℕ) (r : Row) → Own s n → i < n → r .id ≡ idOf s headSize i → corrects s r ≡ true
-    → sameTerms (rowAt s (rowStart i)) r ≡ true
+    → alike (rowAt s (rowStart i)) r ≡ true
 unfolding corrects findId hasId
 corrects-own s n i r own l e h =
     let found : findId s headSize (rowCount s) (r .id) ≡ i =
     rw (← own .told, e)
     (find-is n (hasId s headSize (idOf s headSize i)) i l (eq-eqb (idOf s headSize i) (idOf s headSize i) refl)
-    (λ x m. ne-eqb (idOf s headSize x) (idOf s headSize i) (λ (q : idOf s headSize x ≡ idOf s headSize i). omega (arith, own .rows .rising x i m l)))) in
-    right-true (ltb i (rowCount s)) (sameTerms (rowAt s (rowStart i)) r) (rw found at h)
+    (λ x m. ne-eqb (idOf s headSize x) (idOf s headSize i)
+    (λ (q : idOf s headSize x ≡ idOf s headSize i). omega (arith, own .rows .rising x i m l)))) in
+    right-true (ltb i (rowCount s)) (alike (rowAt s (rowStart i)) r) (rw found at h)
 
 module _ (s k : List ℕ) (n : ℕ) (h : verdictOf s k ≡ Accepted n) where
   pub accepted-head : HeadRanges (headAt s)
@@ -106,12 +100,12 @@ module _ (s k : List ℕ) (n : ℕ) (h : verdictOf s k ≡ Accepted n) where
     pub accepted-ranges : RowRanges (termsOf s) (countingRow s k i)
     accepted-ranges = row-ranges (termsOf s) (countingRow s k i) accepted-row
 
-    pub counting-terms : sameTerms (rowAt s (rowStart i)) (countingRow s k i) ≡ true
-    counting-terms =
-        counted s k i (λ (r : Row). sameTerms (rowAt s (rowStart i)) r ≡ true)
+    pub counting-alike : alike (rowAt s (rowStart i)) (countingRow s k i) ≡ true
+    counting-alike =
+        counted s k i (λ (r : Row). alike (rowAt s (rowStart i)) r ≡ true)
         (λ m. corrects-own s n i (rowAt k (correctionStart (inCorrection k (idOf s headSize i)))) (accepted-own s k n h) l
         (find-has k correctionHeadSize (correctionCount k) (idOf s headSize i) m) (accepted-corrected s k n h .names _ m))
-        (same-self (rowAt s (rowStart i)))
+        (alike-self (rowAt s (rowStart i)))
 
   pub counting-rise : (i j : ℕ) → i < j → j < n → countingRow s k i .id < countingRow s k j .id
   counting-rise i j l m = rw (counting-id s k i, counting-id s k j) (ids-rise i j l m)
@@ -121,42 +115,3 @@ pub source-at : (out : List ℕ) (n : ℕ) (f : ℕ → ℕ) (i : ℕ) → i < n
 source-at out n f i l =
     let e : 0 + i ≡ i = omega arith in
     (rw e at (put-inside out 0 (table n f) i 0 (omega arith) (omega (arith, table-length n f)))) ∙ table-at 0 n f i l
-
--- ---- two results that one contract allows are equal
-
-pub head-unique : (s : List ℕ) (x y : Head) → x ≡ headAt s → y ≡ headAt s → x ≡ y
-head-unique s = unique (headAt s)
-
-pub row-unique : (s : List ℕ) (k : ℕ) (x y : Row) → x ≡ rowAt s k → y ≡ rowAt s k → x ≡ y
-row-unique s k = unique (rowAt s k)
-
-pub correction-head-unique : (s : List ℕ) (x y : CorrectionHead) → x ≡ correctionHeadAt s → y ≡ correctionHeadAt s → x ≡ y
-correction-head-unique s = unique (correctionHeadAt s)
-
-pub test-unique : (t x y : Bool) → x ≡ t → y ≡ t → x ≡ y
-test-unique = unique
-
-pub number-unique : (n x y : ℕ) → x ≡ n → y ≡ n → x ≡ y
-number-unique = unique
-
-pub check-unique : (s k : List ℕ) (x y : Verdict) → x ≡ verdictOf s k → y ≡ verdictOf s k → x ≡ y
-check-unique s k = unique (verdictOf s k)
-
-pub interval-unique : (s : List ℕ) (x y : Verdict) → x ≡ verdict (rowCount s) (intervalFault s) → y ≡ verdict (rowCount s) (intervalFault s) → x ≡ y
-interval-unique s = unique (verdict (rowCount s) (intervalFault s))
-
-pub counting-unique : (s k : List ℕ) (id : ℕ) (x y : List ℕ) → x ≡ countingBytes s k id → y ≡ countingBytes s k id → x ≡ y
-counting-unique s k id = unique (countingBytes s k id)
-
-pub sources-unique : (s k out : List ℕ) (n : ℕ) (x y : List ℕ) → x ≡ put out 0 (table n (sourceOf s k)) → y ≡ put out 0 (table n (sourceOf s k)) → x ≡ y
-sources-unique s k out n = unique (put out 0 (table n (sourceOf s k)))
-
-pub counting-row-unique : (s k : List ℕ) (i : ℕ) (x y : Row) → x ≡ countingRow s k i → y ≡ countingRow s k i → x ≡ y
-counting-row-unique s k i = unique (countingRow s k i)
-
-pub seek-unique : (s : List ℕ) (start n id x y : ℕ) → Sought s start n id x → Sought s start n id y → x ≡ y
-seek-unique s start n id x y p q =
-    ⊎-elim (λ (l : x < y). absurd (omega (arith, p .reached (omega (arith, q .short)), q .under x l)))
-    (λ (m : y ≤ x).
-    ⊎-elim (λ (l : y < x). absurd (omega (arith, q .reached (omega (arith, p .short)), p .under y l))) (λ (k : x ≤ y). omega arith)
-    (lt-or-le y x)) (lt-or-le x y)

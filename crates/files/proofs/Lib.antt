@@ -7,3 +7,4 @@ pub mod Ranges
 pub mod Accepted
 pub mod Sourced
 pub mod Laws
+pub mod Unique

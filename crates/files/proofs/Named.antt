@@ -4,7 +4,7 @@
 --   starts-short, starts-told, no-match, match-told      tests on what was read
 --   bad-start, bad-row, good-rows, bad-time, good-time   8 by head and length, 8 by a row, 9, then 10
 --   own-refused, alone, paired      1 to 7 first; then nothing more without a correction, else 8 to 10
---   own-passed, own-standing        an interval that passed 1 to 7
+--   own-passed, own-accepted        an interval that passed 1 to 7
 use mathlib.Core.Path.{_≡_, refl, sym, ap, _∙_}
 use Prim.Native.Nat.{ℕ, _+_, _≤_, _<_}
 use mathlib.Core.Bool.{Bool, true, false, not, cond, _&&_}
@@ -14,14 +14,16 @@ use lib.Dec.{eqb, leb}
 use lib.ListN.{length}
 use borrow.Author.Tests.{not-true, not-false, eq-eqb, ne-eqb, eqb-true, lt-ltb, le-ltb, le-leb, lt-leb}
 use Rattle.columns.specs.Checks.{Refusal, refusal, firstRefusal, placed, rowByRow, renumbered}
-use Rattle.columns.proofs.First.{right-true}
-use Rattle.columns.proofs.Checks.{Passes, append-first, append-next, append-passes, passes-placed, rows-none, rows-next, rows-stop, renumbered-told, renumbered-passes, answer-no, answer-yes}
+use Rattle.columns.proofs.First.{left-true, right-true}
+use Rattle.columns.proofs.Checks.{Passes, append-first, append-next, append-passes, passes-placed, answer-no, answer-yes}
+use Rattle.columns.proofs.Checks.{rows-none, rows-next, rows-stop, renumbered-told, renumbered-passes}
 use Rattle.records.specs.Record.{marked}
 use Rattle.files.specs.Layout.{headSize, correctionHeadSize, letterK, rowAt, rowStart, correctionStart, correctionHeadAt, rowCount, correctionCount}
 use Rattle.files.specs.Terms.{termsOf}
 use Rattle.files.specs.Range.{correctionHeadOk}
 use Rattle.files.specs.Walk.{idOf, Own, Theirs, Under, Sought}
-use Rattle.files.specs.Order.{headChecks, rowsOrder, intervalOrder, intervalFault, correctionStarts, correctionOrder, sameTime, sameTerms, corrects, nameChecks, besideOrder, presentOrder, fileOrder, verdict, verdictOf}
+use Rattle.files.specs.Order.{headChecks, rowsOrder, intervalOrder, intervalFault, correctionStarts, correctionOrder, sameTime}
+use Rattle.files.specs.Order.{alike, corrects, nameChecks, besideOrder, presentOrder, fileOrder, verdict, verdictOf}
 use Rattle.files.specs.declared.CorrectionHead.{CorrectionHead}
 use Rattle.files.specs.declared.Row.{Row}
 use Rattle.files.specs.declared.Terms.{Terms}
@@ -43,11 +45,13 @@ pub beside-none : (s k : List ℕ) (n m : ℕ) → Beside s k n m 0 0
 beside-none s k n m =
     record { short = omega arith; within = omega arith; next = λ l x o. absurd (omega arith); passes = rows-none (nameChecks s k) }
 
-pub under-beside : (s k : List ℕ) (n m i j : ℕ) (row : Row) → Beside s k n m i j → j < m → row ≡ rowAt k (correctionStart j) → Under s headSize i (row .id)
+pub under-beside : (s k : List ℕ) (n m i j : ℕ) (row : Row) → Beside s k n m i j → j < m → row ≡ rowAt k (correctionStart j)
+    → Under s headSize i (row .id)
 under-beside s k n m i j row b l e = rw e (b .next l)
 
-module _ (s k : List ℕ) (n m i j r : ℕ) (row : Row) (t : Bool) (b : Beside s k n m i j) (l : j < m) (is-row : row ≡ rowAt k (correctionStart j))
-    (own : Own s n) (theirs : Theirs k m) (w : Sought s headSize n (row .id) r) (told : t ≡ matches s n r row) where
+module _ (s k : List ℕ) (n m i j r : ℕ) (row : Row) (t : Bool) (b : Beside s k n m i j) (l : j < m)
+    (is-row : row ≡ rowAt k (correctionStart j)) (own : Own s n) (theirs : Theirs k m)
+    (w : Sought s headSize n (row .id) r) (told : t ≡ matches s n r row) where
   corrected : corrects s (rowAt k (correctionStart j)) ≡ t
   corrected = rw (← is-row) (corrects-sought s n r row own w ∙ sym told)
 
@@ -67,7 +71,8 @@ module _ (s k : List ℕ) (n m i j r : ℕ) (row : Row) (t : Bool) (b : Beside s
       sym (answer-no Refused (Accepted n) _ _ _
       (rows-stop (nameChecks s k) m j 10 l (b .passes) (rw (corrected, not-true t e)) (λ z. absurd (omega arith))))
 
-pub beside-ends : (s k : List ℕ) (n m i j : ℕ) → Beside s k n m i j → m ≤ j → Accepted n ≡ verdict n (firstRefusal (rowByRow m (nameChecks s k)))
+pub beside-ends : (s k : List ℕ) (n m i j : ℕ) → Beside s k n m i j → m ≤ j
+    → Accepted n ≡ verdict n (firstRefusal (rowByRow m (nameChecks s k)))
 beside-ends s k n m i j b l =
     let e : j ≡ m = omega (arith, b .short) in
     sym (answer-yes Refused (Accepted n) _ (rw e at (b .passes)))
@@ -75,7 +80,7 @@ beside-ends s k n m i j b l =
 pub no-match : (s : List ℕ) (n i : ℕ) (r : Row) → n ≤ i → false ≡ matches s n i r
 no-match s n i r l = rw (le-ltb i n l)
 
-pub match-told : (s : List ℕ) (n i : ℕ) (r q : Row) (t : Bool) → i < n → q ≡ rowAt s (rowStart i) → t ≡ sameTerms q r → t ≡ matches s n i r
+pub match-told : (s : List ℕ) (n i : ℕ) (r q : Row) (t : Bool) → i < n → q ≡ rowAt s (rowStart i) → t ≡ alike q r → t ≡ matches s n i r
 match-told s n i r q t l e h = rw (lt-ltb i n l, ← e) h
 
 -- ---- 9, then 10
@@ -102,9 +107,18 @@ pub starts-told : (k : List ℕ) (a b : Bool) (h : CorrectionHead) (n : ℕ) →
 unfolding correctionStarts
 starts-told k a b h n l e f g i = rw (le-leb correctionHeadSize (length k) l, ← f, ← g, e, i)
 
-pub starts-long : (k : List ℕ) → correctionStarts k ≡ true → length k ≡ correctionStart (correctionCount k)
-unfolding correctionStarts
-starts-long k e = eqb-true _ _ (right-true (leb correctionHeadSize (length k) && marked k 0 letterK && correctionHeadOk (correctionHeadAt k)) _ e)
+module _ (k : List ℕ) (e : correctionStarts k ≡ true) where
+  pub starts-long : length k ≡ correctionStart (correctionCount k)
+  unfolding correctionStarts
+  starts-long =
+      let front = leb correctionHeadSize (length k) && marked k 0 letterK && correctionHeadOk (correctionHeadAt k) in
+      eqb-true _ _ (right-true front _ e)
+
+  pub starts-ok : correctionHeadOk (correctionHeadAt k) ≡ true
+  unfolding correctionStarts
+  starts-ok =
+      let front = leb correctionHeadSize (length k) && marked k 0 letterK in
+      right-true front _ (left-true (front && correctionHeadOk (correctionHeadAt k)) _ e)
 
 module _ (k : List ℕ) (b : Bool) (told : b ≡ correctionStarts k) (h : not b ≡ false) where
   starts : correctionStarts k ≡ true
@@ -152,7 +166,8 @@ module _ (k : List ℕ) (b : Bool) (told : b ≡ correctionStarts k) (h : not b 
                   (renumbered-passes 8 _ passes),
             ) p
 
-pub bad-start : (s k : List ℕ) (n : ℕ) (b : Bool) → b ≡ correctionStarts k → not b ≡ true → Refused 8 0 ≡ verdict n (firstRefusal (presentOrder s k))
+pub bad-start : (s k : List ℕ) (n : ℕ) (b : Bool) → b ≡ correctionStarts k → not b ≡ true
+    → Refused 8 0 ≡ verdict n (firstRefusal (presentOrder s k))
 unfolding presentOrder correctionOrder firstRefusal
 bad-start s k n b e h = let f : correctionStarts k ≡ false = sym e ∙ not-true b h in rw f
 
@@ -169,8 +184,8 @@ module _ (s : List ℕ) (h : Passes (intervalOrder s)) where
   pub own-rows : Passes (rowsOrder (termsOf s) s headSize (rowCount s))
   own-rows = own-parts .1
 
-  pub own-stands : Own s (rowCount s)
-  own-stands =
+  pub passed-own : Own s (rowCount s)
+  passed-own =
       record {
         long = own-head .long;
         told = refl;
@@ -178,10 +193,10 @@ module _ (s : List ℕ) (h : Passes (intervalOrder s)) where
       }
 
 module _ (s : List ℕ) (v : Verdict) (e : v ≡ verdict (rowCount s) (intervalFault s)) where
-  pub own-standing : (n : ℕ) → v ≡ Accepted n → Own s n
-  own-standing n h =
+  pub own-accepted : (n : ℕ) → v ≡ Accepted n → Own s n
+  own-accepted n h =
       let both = accepted-of (rowCount s) n (intervalFault s) (sym e ∙ h) in
-      rw (← both .1) (own-stands s (both .0))
+      rw (← both .1) (passed-own s (both .0))
 
   module _ (k : List ℕ) where
     pub own-refused : (a p : ℕ) → v ≡ Refused a p → Refused a p ≡ verdictOf s k
@@ -202,5 +217,6 @@ module _ (s : List ℕ) (v : Verdict) (e : v ≡ verdict (rowCount s) (intervalF
     unfolding firstRefusal
     alone n h l = sym (rest n h ∙ rw (eq-eqb (length k) 0 l))
 
-    pub paired : (n : ℕ) (w : Verdict) → v ≡ Accepted n → (length k ≡ 0 → ⊥) → w ≡ verdict n (firstRefusal (presentOrder s k)) → w ≡ verdictOf s k
+    pub paired : (n : ℕ) (w : Verdict) → v ≡ Accepted n → (length k ≡ 0 → ⊥)
+        → w ≡ verdict n (firstRefusal (presentOrder s k)) → w ≡ verdictOf s k
     paired n w h l p = p ∙ sym (rest n h ∙ rw (ne-eqb (length k) 0 l))

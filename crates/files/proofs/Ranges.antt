@@ -1,22 +1,25 @@
 -- What the ranges of an accepted head and of an accepted row say, as plain facts.
---   head-ranges    a head in its ranges
---   row-ranges     a row in its ranges, under any terms
---   sound-01       the terms of document 01 are sound; terms-sound: so are those of any file
+--   head-ranges       a head in its ranges
+--   correction-few    a correction head in its ranges has at most 256 rows
+--   row-ranges        a row in its ranges, under any terms
+--   sound-01          the terms of document 01 are sound; terms-sound: so are those of any file
 use mathlib.Core.Path.{_≡_, refl}
 use Prim.Native.Nat.{ℕ, _*_, _≤_, _<_}
-use mathlib.Core.Bool.{Bool, true, false, _||_}
-use mathlib.Core.List.{List, [], _∷_}
+use mathlib.Core.Bool.{Bool, true, false}
+use mathlib.Core.List.{List}
 use native.Mathlib.Omega.{arith}
-use lib.Dec.{leb, eqb, lit<, lit≤}
+use lib.Dec.{leb, lit<, lit≤}
 use lib.ListN.{getD}
 use borrow.Author.Tests.{leb-true, eqb-true}
 use Rattle.columns.specs.Test.{within}
 use Rattle.columns.proofs.First.{each, left-true, right-true}
-use Rattle.files.specs.Range.{dayOk, quarterOk, headOk, rowTests, rowOk, statusOk, notOffering, offering}
+use Rattle.files.specs.Terms.{terms01, termsOf, baseline, Sound}
+use Rattle.files.specs.Range.{headTests, headOk, correctionTests, correctionHeadOk, statusOk, idleTests}
+use Rattle.files.specs.Range.{notOffering, offerTests, offering, rowTests, rowOk}
 use Rattle.files.specs.declared.Head.{Head}
+use Rattle.files.specs.declared.CorrectionHead.{CorrectionHead}
 use Rattle.files.specs.declared.Row.{Row}
 use Rattle.files.specs.declared.Terms.{Terms}
-use Rattle.files.specs.Terms.{terms01, termsOf, baseline, Sound}
 
 -- the ends of a range that a number is in
 within-low : (lo hi x : ℕ) → within lo hi x ≡ true → lo ≤ x
@@ -34,9 +37,9 @@ pub record HeadRanges (h : Head) : Type 0 where
   pub rows : h .rows ≤ 256
 
 pub head-ranges : (h : Head) → headOk h ≡ true → HeadRanges h
-unfolding headOk
+unfolding headOk headTests
 head-ranges h e =
-    let at = each (dayOk (h .day) ∷ quarterOk (h .quarter) ∷ within 1 10000 (h .tariff .0) ∷ leb (h .need .0) 64000000 ∷ leb (h .rows) 256 ∷ []) e in
+    let at = each (headTests h) e in
     record {
       day = leb-true (h .day) 36524 (at 0 (lit< tt));
       quarter = leb-true (h .quarter) 95 (at 1 (lit< tt));
@@ -45,6 +48,10 @@ head-ranges h e =
       need = leb-true (h .need .0) 64000000 (at 3 (lit< tt));
       rows = leb-true (h .rows) 256 (at 4 (lit< tt));
     }
+
+pub correction-few : (h : CorrectionHead) → correctionHeadOk h ≡ true → h .rows ≤ 256
+unfolding correctionHeadOk correctionTests
+correction-few h e = within-high 1 256 (h .rows) (each (correctionTests h) e 2 (lit< tt))
 
 -- what a row states of its offer: nothing, or a thermal unit's minimum and bids
 pub record Idle (r : Row) : Type 0 where
@@ -78,9 +85,9 @@ pub record RowRanges (t : Terms) (r : Row) : Type 0 where
   pub offers : r .offered ≡ 1 → Offers t r
 
 idle-of : (r : Row) → notOffering r ≡ true → Idle r
-unfolding notOffering
+unfolding notOffering idleTests
 idle-of r e =
-    let at = each (eqb (r .offered) 0 ∷ eqb (r .minimum .0) 0 ∷ eqb (r .bid1 .0) 0 ∷ eqb (r .bid2 .0) 0 ∷ []) e in
+    let at = each (idleTests r) e in
     record {
       offered = eqb-true (r .offered) 0 (at 0 (lit< tt));
       minimum = eqb-true (r .minimum .0) 0 (at 1 (lit< tt));
@@ -89,9 +96,9 @@ idle-of r e =
     }
 
 offers-of : (t : Terms) (r : Row) → offering t r ≡ true → Offers t r
-unfolding offering
+unfolding offering offerTests
 offers-of t r e =
-    let at = each (eqb (r .offered) 1 ∷ eqb (r .kind) 1 ∷ leb (r .minimum .0) (baseline t (r .capacity)) ∷ within (t .lowest1 .0) (t .highest1 .0) (r .bid1 .0) ∷ within (t .lowest2 .0) (t .highest2 .0) (r .bid2 .0) ∷ []) e in
+    let at = each (offerTests t r) e in
     record {
       offered = eqb-true (r .offered) 1 (at 0 (lit< tt));
       kind = eqb-true (r .kind) 1 (at 1 (lit< tt));
@@ -102,38 +109,59 @@ offers-of t r e =
       bid2-high = within-high (t .lowest2 .0) (t .highest2 .0) (r .bid2 .0) (at 4 (lit< tt));
     }
 
+-- the part of a row's ranges that speaks of its offer
+record Offer (t : Terms) (r : Row) : Type 0 where
+  offered : r .offered ≤ 1
+  minimum : r .minimum .0 ≤ baseline t (r .capacity)
+  bid1 : r .bid1 .0 ≤ t .highest1 .0
+  bid2 : r .bid2 .0 ≤ t .highest2 .0
+  idle : r .offered ≡ 0 → Idle r
+  offers : r .offered ≡ 1 → Offers t r
+
 pub row-ranges : (t : Terms) (r : Row) → rowOk t r ≡ true → RowRanges t r
 unfolding rowOk rowTests statusOk
-row-ranges t r e = go (notOffering r) refl where
-  at : (i : ℕ) → i < 6 → getD (rowTests t r) i true ≡ true
-  at = each (rowTests t r) e
+row-ranges t r e =
+    let o = offer (notOffering r) refl in
+    record {
+      id = leb-true 1 (r .id) (at 0 (lit< tt));
+      kind-low = within-low 1 3 (r .kind) (at 1 (lit< tt));
+      kind-high = within-high 1 3 (r .kind) (at 1 (lit< tt));
+      capacity-low = within-low 1 2000 (r .capacity) (at 2 (lit< tt));
+      capacity-high = within-high 1 2000 (r .capacity) (at 2 (lit< tt));
+      metered = leb-true (r .metered .0) (r .capacity * 275) (at 3 (lit< tt));
+      status = leb-true (r .status) 3 (left-true (leb (r .status) 3) _ (at 4 (lit< tt)));
+      offered = o .offered;
+      minimum = o .minimum;
+      bid1 = o .bid1;
+      bid2 = o .bid2;
+      idle = o .idle;
+      offers = o .offers;
+    }
+  where
+    at : (i : ℕ) → i < 6 → getD (rowTests t r) i true ≡ true
+    at = each (rowTests t r) e
 
-  most-of : (o : r .offered ≤ 1) (m : r .minimum .0 ≤ baseline t (r .capacity)) (a : r .bid1 .0 ≤ t .highest1 .0) (b : r .bid2 .0 ≤ t .highest2 .0)
-      (i : r .offered ≡ 0 → Idle r) (f : r .offered ≡ 1 → Offers t r) → RowRanges t r
-  most-of o m a b i f =
-      record {
-        id = leb-true 1 (r .id) (at 0 (lit< tt));
-        kind-low = within-low 1 3 (r .kind) (at 1 (lit< tt));
-        kind-high = within-high 1 3 (r .kind) (at 1 (lit< tt));
-        capacity-low = within-low 1 2000 (r .capacity) (at 2 (lit< tt));
-        capacity-high = within-high 1 2000 (r .capacity) (at 2 (lit< tt));
-        metered = leb-true (r .metered .0) (r .capacity * 275) (at 3 (lit< tt));
-        status = leb-true (r .status) 3 (left-true (leb (r .status) 3) (eqb (r .kind) 1 || (eqb (r .status) 0 || eqb (r .status) 3)) (at 4 (lit< tt)));
-        offered = o;
-        minimum = m;
-        bid1 = a;
-        bid2 = b;
-        idle = i;
-        offers = f;
-      }
-
-  go : (b : Bool) → notOffering r ≡ b → RowRanges t r
-  go true q =
-      let z = idle-of r q in
-      most-of (omega (arith, z .offered)) (omega (arith, z .minimum)) (omega (arith, z .bid1)) (omega (arith, z .bid2)) (λ p. z) (λ p. absurd (omega (arith, z .offered)))
-  go false q =
-      let f = offers-of t r (rw q at (at 5 (lit< tt))) in
-      most-of (omega (arith, f .offered)) (f .minimum) (f .bid1-high) (f .bid2-high) (λ p. absurd (omega (arith, f .offered))) (λ p. f)
+    offer : (b : Bool) → notOffering r ≡ b → Offer t r
+    offer true q =
+        let z = idle-of r q in
+        record {
+          offered = omega (arith, z .offered);
+          minimum = omega (arith, z .minimum);
+          bid1 = omega (arith, z .bid1);
+          bid2 = omega (arith, z .bid2);
+          idle = λ p. z;
+          offers = λ p. absurd (omega (arith, z .offered));
+        }
+    offer false q =
+        let f = offers-of t r (rw q at (at 5 (lit< tt))) in
+        record {
+          offered = omega (arith, f .offered);
+          minimum = f .minimum;
+          bid1 = f .bid1-high;
+          bid2 = f .bid2-high;
+          idle = λ p. absurd (omega (arith, f .offered));
+          offers = λ p. f;
+        }
 
 -- the terms of document 01 are sound, and so are those of any file
 pub sound-01 : Sound terms01

@@ -5,7 +5,7 @@
 --   Sourced                                       how far the column of sources has come; sourced-none, -next, -ends: its steps
 --   own-source, their-source, source-in           the row that counts, by its source
 use mathlib.Core.Path.{_≡_, refl, sym, _∙_}
-use mathlib.Core.Logic.{⊎-elim}
+use mathlib.Core.Logic.{_⊎_, inl, inr, ⊎-elim}
 use Prim.Native.Nat.{ℕ, _+_, _-_, _*_, _≤_, _<_}
 use mathlib.Core.Bool.{Bool, true, false, not, cond, _&&_}
 use mathlib.Core.List.{List, [], _∷_}
@@ -28,7 +28,7 @@ use Rattle.files.specs.declared.Verdict.{Verdict}
 use Rattle.files.specs.declared.Verdict.the-variants.{Accepted, Refused}
 use Rattle.files.proofs.Answer.{refused-of}
 use Rattle.files.proofs.Found.{has, found-yes, found-no}
-use Rattle.files.proofs.Accepted.{accepted-passes, accepted-count, accepted-few, accepted-rows, accepted-corrected, accepted-theirs}
+use Rattle.files.proofs.Accepted.{accepted-passes, accepted-count, accepted-few, accepted-rows, accepted-corrected}
 
 pub none-there : (k : List ℕ) (m : ℕ) → Rows k correctionHeadSize m → length k < correctionHeadSize → 0 ≡ m
 none-there k m r l = ⊎-elim (λ (p : 0 < m). absurd (omega (arith, r .inside 0 p))) (λ (p : m ≤ 0). omega arith) (lt-or-le 0 m)
@@ -42,23 +42,34 @@ is-there n i id f x l e = rw (lt-ltb i n l, e)
 pub part-is : (s : List ℕ) (at : ℕ) → take (at + rowSize - at) (drop at s) ≡ part s at
 part-is s at = let e : at + rowSize - at ≡ rowSize = omega arith in rw e
 
-pub theirs-of : (s k : List ℕ) (n m : ℕ) → verdictOf s k ≡ Accepted n → m ≡ correctionCount k → Rows k correctionHeadSize m
-theirs-of s k n m h e = rw e (accepted-theirs s k n h)
+-- what an accepted pair gives a walk over the correction
+module _ (s k : List ℕ) (n m : ℕ) (h : verdictOf s k ≡ Accepted n) (count : m ≡ correctionCount k) where
+  pub theirs-of : Rows k correctionHeadSize m
+  theirs-of = rw count (accepted-corrected s k n h .rows)
 
-pub few-of : (s k : List ℕ) (n m : ℕ) → verdictOf s k ≡ Accepted n → m ≡ correctionCount k → m ≤ 256
-few-of s k n m h e = rw e (accepted-corrected s k n h .few)
+  pub few-of : m ≤ 256
+  few-of = rw count (accepted-corrected s k n h .few)
 
 pub under-none : (s : List ℕ) (start id : ℕ) → Under s start 0 id
 under-none s start id x l = absurd (omega arith)
 
-pub has-below : (s : List ℕ) (start n r id : ℕ) (b : Bool) → b ≡ has s start n r id → b ≡ true → r < n
-has-below s start n r id b e h = ltb-true r n (left-true (ltb r n) (eqb (idOf s start r) id) (sym e ∙ h))
+-- a test that row r is there and has the id
+module _ (s : List ℕ) (start n r id : ℕ) (b : Bool) (told : b ≡ has s start n r id) where
+  pub has-below : b ≡ true → r < n
+  has-below e = ltb-true r n (left-true (ltb r n) (eqb (idOf s start r) id) (sym told ∙ e))
 
-pub has-in : (s : List ℕ) (start n r id : ℕ) (b : Bool) → Rows s start n → b ≡ has s start n r id → b ≡ true → start + r * rowSize + rowSize ≤ length s
-has-in s start n r id b rows e h = rows .inside r (has-below s start n r id b e h)
+  pub has-told : not b ≡ false → r < n
+  has-told e = has-below (not-false b e)
+
+  pub has-small : n ≤ 256 → b ≡ true → r < 256
+  has-small few e = omega (arith, has-below e)
+
+  pub has-in : Rows s start n → b ≡ true → start + r * rowSize + rowSize ≤ length s
+  has-in rows e = rows .inside r (has-below e)
 
 -- the search's answer, by a test of the row where the walk stopped
-module _ (s : List ℕ) (start n id r : ℕ) (b : Bool) (rows : Rows s start n) (w : Sought s start n id r) (told : b ≡ has s start n r id) where
+module _ (s : List ℕ) (start n id r : ℕ) (b : Bool) (rows : Rows s start n) (w : Sought s start n id r)
+    (told : b ≡ has s start n r id) where
   at-row : b ≡ true → (findId s start n id ≡ r) × (ltb r n ≡ true)
   at-row e = (found-yes s start n id r rows w (sym told ∙ e), lt-ltb r n (has-below s start n r id b told e))
 
@@ -87,19 +98,21 @@ module _ (s k : List ℕ) (n m id j : ℕ) (b : Bool) (r : List ℕ) (h : verdic
     named-none e f p =
         rw (not-theirs e, ← accepted-count s k n h, at-none s headSize n id i d (accepted-rows s k n h) v said f) p
 
-pub counting-named : (s k : List ℕ) (id n : ℕ) (v : Verdict) (r : List ℕ) → v ≡ verdictOf s k → v ≡ Accepted n → r ≡ named s k id → r ≡ countingBytes s k id
-unfolding countingBytes
-counting-named s k id n v r e h p = rw (accepted-passes s k n (sym e ∙ h)) p
+module _ (s k : List ℕ) (id : ℕ) (v : Verdict) (e : v ≡ verdictOf s k) where
+  pub counting-named : (n : ℕ) (r : List ℕ) → v ≡ Accepted n → r ≡ named s k id → r ≡ countingBytes s k id
+  unfolding countingBytes
+  counting-named n r h p = rw (accepted-passes s k n (sym e ∙ h)) p
 
-pub counting-none : (s k : List ℕ) (id a p : ℕ) (v : Verdict) → v ≡ verdictOf s k → v ≡ Refused a p → [] ≡ countingBytes s k id
-unfolding countingBytes verdictOf
-counting-none s k id a p v e h = rw (refused-of (rowCount s) a p (fileFault s k) (sym e ∙ h))
+  pub counting-none : (a p : ℕ) → v ≡ Refused a p → [] ≡ countingBytes s k id
+  unfolding countingBytes verdictOf
+  counting-none a p h = rw (refused-of (rowCount s) a p (fileFault s k) (sym e ∙ h))
 
 pub source-is : (s k : List ℕ) (m i j id v : ℕ) → Rows k correctionHeadSize m → m ≡ correctionCount k → Sought k correctionHeadSize m id j
     → id ≡ idOf s headSize i → v ≡ cond (has k correctionHeadSize m j id) (j + 1) 0 → v ≡ sourceOf s k i
 unfolding sourceOf
 source-is s k m i j id v rows count w e p = rw (← count, ← e) (go (has k correctionHeadSize m j id) refl) where
-  go : (t : Bool) → t ≡ has k correctionHeadSize m j id → v ≡ cond (ltb (findId k correctionHeadSize m id) m) (findId k correctionHeadSize m id + 1) 0
+  go : (t : Bool) → t ≡ has k correctionHeadSize m j id
+      → v ≡ cond (ltb (findId k correctionHeadSize m id) m) (findId k correctionHeadSize m id + 1) 0
   go true q = let is = at-row k correctionHeadSize m id j true rows w q refl in rw (is .0, is .1) (rw (← q) at p)
   go false q = rw (at-none k correctionHeadSize m id j false rows w q refl) (rw (← q) at p)
 
@@ -114,78 +127,75 @@ unfolding table
 sourced-none s k n m out =
     record { short = omega arith; within = omega arith; next = λ l x o. absurd (omega arith); is = sym (put-none out 0) }
 
-pub under-sourced : (s k : List ℕ) (n m : ℕ) (out₀ out : List ℕ) (i j id : ℕ) → Sourced s k n m out₀ out i j → i < n → id ≡ idOf s headSize i → Under k correctionHeadSize j id
-under-sourced s k n m out₀ out i j id t l e = rw e (t .next l)
-
 -- one store more in front of what is still as it was
-store-next : (out₀ out : List ℕ) (i v : ℕ) (f : ℕ → ℕ) → out ≡ put out₀ 0 (table i f) → i < length out₀ → v ≡ f i → set out i v ≡ put out₀ 0 (table (i + 1) f)
+store-next : (out₀ out : List ℕ) (i v : ℕ) (f : ℕ → ℕ) → out ≡ put out₀ 0 (table i f) → i < length out₀ → v ≡ f i
+    → set out i v ≡ put out₀ 0 (table (i + 1) f)
 store-next out₀ out i v f e l p =
     let n : length (table i f) ≡ i = table-length i f in
     let keeps : length (put out₀ 0 (table i f)) ≡ length out₀ = put-length out₀ 0 (table i f) (omega arith) in
     rw (e, p, table-next i f)
     (set-put (put out₀ 0 (table i f)) i (f i) (omega arith) ∙ put-put out₀ 0 i (table i f) (f i ∷ []) (omega arith) (omega arith))
 
-pub sourced-next : (s k : List ℕ) (n m : ℕ) (out₀ out : List ℕ) (i j r id v : ℕ) → verdictOf s k ≡ Accepted n → m ≡ correctionCount k
-    → length out₀ ≡ 256 → Sourced s k n m out₀ out i j → i < n → id ≡ idOf s headSize i → Sought k correctionHeadSize m id r
-    → v ≡ cond (has k correctionHeadSize m r id) (r + 1) 0 → Sourced s k n m out₀ (set out i v) (i + 1) r
-sourced-next s k n m out₀ out i j r id v h count long t l e w p =
-    record {
-      short = omega arith;
-      within = w .short;
-      next = λ o x q. omega (arith, w .under x q, accepted-rows s k n h .rising i (i + 1) (omega arith) o);
-      is = store-next out₀ out i v (sourceOf s k) (t .is) (omega (arith, accepted-few s k n h)) (source-is s k m i r id v (theirs-of s k n m h count) count w e p);
-    }
+module _ (s k : List ℕ) (n m : ℕ) (out₀ out : List ℕ) (i j : ℕ) (t : Sourced s k n m out₀ out i j) where
+  pub under-sourced : (id : ℕ) → i < n → id ≡ idOf s headSize i → Under k correctionHeadSize j id
+  under-sourced id l e = rw e (t .next l)
 
-pub sourced-ends : (s k : List ℕ) (n m : ℕ) (out₀ out : List ℕ) (i j : ℕ) → Sourced s k n m out₀ out i j → n ≤ i → out ≡ put out₀ 0 (table n (sourceOf s k))
-sourced-ends s k n m out₀ out i j t l = let e : i ≡ n = omega (arith, t .short) in rw e at (t .is)
+  pub sourced-next : (r id v : ℕ) → verdictOf s k ≡ Accepted n → m ≡ correctionCount k → length out₀ ≡ 256 → i < n
+      → id ≡ idOf s headSize i → Sought k correctionHeadSize m id r
+      → v ≡ cond (has k correctionHeadSize m r id) (r + 1) 0 → Sourced s k n m out₀ (set out i v) (i + 1) r
+  sourced-next r id v h count long l e w p =
+      let is = source-is s k m i r id v (theirs-of s k n m h count) count w e p in
+      record {
+        short = omega arith;
+        within = w .short;
+        next = λ o x q. omega (arith, w .under x q, accepted-rows s k n h .rising i (i + 1) (omega arith) o);
+        is = store-next out₀ out i v (sourceOf s k) (t .is) (omega (arith, accepted-few s k n h)) is;
+      }
 
--- where the correction names row i of the interval: a row of its own, or none
+  pub sourced-ends : n ≤ i → out ≡ put out₀ 0 (table n (sourceOf s k))
+  sourced-ends l = let e : i ≡ n = omega (arith, t .short) in rw e at (t .is)
+
+-- ---- the row that counts, by its source
+
 module _ (s k : List ℕ) (i v : ℕ) (e : v ≡ sourceOf s k i) where
-  j : ℕ
+  abbrev j : ℕ
   j = inCorrection k (idOf s headSize i)
 
-  unfoldable their : v ≡ cond (ltb j (correctionCount k)) (j + 1) 0
-  unfolding sourceOf j
-  their = e
+  abbrev Unnamed : Type 0
+  Unnamed = (ltb j (correctionCount k) ≡ false) × (v ≡ 0)
+
+  abbrev Named : Type 0
+  Named = (ltb j (correctionCount k) ≡ true) × (v ≡ j + 1)
+
+  -- the correction does not name row i, or it does so in a row of its own
+  either : Unnamed ⊎ Named
+  unfolding sourceOf
+  either = go (ltb j (correctionCount k)) refl where
+    go : (t : Bool) → ltb j (correctionCount k) ≡ t → Unnamed ⊎ Named
+    go true q = inr (q, e ∙ rw q)
+    go false q = inl (q, e ∙ rw q)
 
   pub own-source : (r : Row) → v ≡ 0 → r ≡ rowAt s (rowStart i) → r ≡ countingRow s k i
-  unfolding countingRow j
-  own-source r z p = go (ltb j (correctionCount k)) refl where
-    go : (t : Bool) → ltb j (correctionCount k) ≡ t → r ≡ cond (ltb j (correctionCount k)) (rowAt k (correctionStart j)) (rowAt s (rowStart i))
-    go true q = let f : v ≡ j + 1 = their ∙ rw q in absurd (omega arith)
-    go false q = rw q p
+  unfolding countingRow
+  own-source r z p = ⊎-elim (λ (w : Unnamed). rw (w .0) p) (λ (w : Named). absurd (omega (arith, w .1))) either
 
-  pub source-in : (v ≡ 0 → ⊥) → v - 1 < correctionCount k
-  unfolding j
-  source-in z = go (ltb j (correctionCount k)) refl where
-    go : (t : Bool) → ltb j (correctionCount k) ≡ t → v - 1 < correctionCount k
-    go true q = let f : v ≡ j + 1 = their ∙ rw q in omega (arith, ltb-true j (correctionCount k) q)
-    go false q = absurd (z (their ∙ rw q))
+  module _ (named : v ≡ 0 → ⊥) where
+    source-in : v - 1 < correctionCount k
+    source-in =
+        ⊎-elim (λ (w : Unnamed). absurd (named (w .1))) (λ (w : Named). omega (arith, w .1, ltb-true j (correctionCount k) (w .0))) either
 
-  pub their-source : (r : Row) → (v ≡ 0 → ⊥) → r ≡ rowAt k (correctionStart (v - 1)) → r ≡ countingRow s k i
-  unfolding countingRow j
-  their-source r z p = go (ltb j (correctionCount k)) refl where
-    go : (t : Bool) → ltb j (correctionCount k) ≡ t → r ≡ cond (ltb j (correctionCount k)) (rowAt k (correctionStart j)) (rowAt s (rowStart i))
-    go true q = let f : v ≡ j + 1 = their ∙ rw q in let g : v - 1 ≡ j = omega arith in rw (q, ← g) p
-    go false q = absurd (z (their ∙ rw q))
+    pub their-in : (n : ℕ) → verdictOf s k ≡ Accepted n → correctionStart (v - 1) + rowSize ≤ length k
+    their-in n h = accepted-corrected s k n h .rows .inside (v - 1) source-in
 
-pub own-in : (s k : List ℕ) (n i : ℕ) → verdictOf s k ≡ Accepted n → i < n → rowStart i + rowSize ≤ length s
-own-in s k n i h l = accepted-rows s k n h .inside i l
+    pub their-source : (r : Row) → r ≡ rowAt k (correctionStart (v - 1)) → r ≡ countingRow s k i
+    unfolding countingRow
+    their-source r p =
+        ⊎-elim (λ (w : Unnamed). absurd (named (w .1)))
+        (λ (w : Named). let g : v - 1 ≡ j = omega (arith, w .1) in rw (w .0, ← g) p) either
 
-pub their-in : (s k : List ℕ) (n i v : ℕ) → verdictOf s k ≡ Accepted n → v ≡ sourceOf s k i → (v ≡ 0 → ⊥) → correctionStart (v - 1) + rowSize ≤ length k
-their-in s k n i v h e z = accepted-theirs s k n h .inside (v - 1) (source-in s k i v e z)
+module _ (s k : List ℕ) (n i : ℕ) (h : verdictOf s k ≡ Accepted n) (l : i < n) where
+  pub own-in : rowStart i + rowSize ≤ length s
+  own-in = accepted-rows s k n h .inside i l
 
-pub own-small : (s k : List ℕ) (n i : ℕ) → verdictOf s k ≡ Accepted n → i < n → i < 256
-own-small s k n i h l = omega (arith, accepted-few s k n h)
-
-pub has-own : (s k : List ℕ) (n i id : ℕ) (b : Bool) → verdictOf s k ≡ Accepted n → b ≡ has s headSize n i id → b ≡ true → i < 256
-has-own s k n i id b h e t = omega (arith, accepted-few s k n h, has-below s headSize n i id b e t)
-
-pub has-theirs : (s k : List ℕ) (n m j id : ℕ) (b : Bool) → verdictOf s k ≡ Accepted n → m ≡ correctionCount k → b ≡ has k correctionHeadSize m j id → b ≡ true → j < 256
-has-theirs s k n m j id b h c e t = omega (arith, few-of s k n m h c, has-below k correctionHeadSize m j id b e t)
-
-pub has-told : (k : List ℕ) (m j id : ℕ) (b : Bool) → b ≡ has k correctionHeadSize m j id → not b ≡ false → j < m
-has-told k m j id b e t = has-below k correctionHeadSize m j id b e (not-false b t)
-
-pub has-in-own : (s k : List ℕ) (n i id : ℕ) (b : Bool) → verdictOf s k ≡ Accepted n → b ≡ has s headSize n i id → b ≡ true → rowStart i + rowSize ≤ length s
-has-in-own s k n i id b h e t = has-in s headSize n i id b (accepted-rows s k n h) e t
+  pub own-small : i < 256
+  own-small = omega (arith, accepted-few s k n h)

@@ -1,22 +1,23 @@
 -- The checks of one file, as the code makes them: the head's, a row's, and the walk over rows.
 --   ranged, unranged      the head's ranges, tested on a head that was read
 --   long, not-long        the length, tested by a count that was read
---   checks-told           6 and 7, made of a row that was read
+--   checks-told           6 and 7, made of a row that was read; marked-row: they decide where the mark is right
 --   Walked                how far the walk over rows has come; walk-none, -next, -stops, -ends: its steps
 --   interval-refused, interval-rows      1 to 4 first, then the rows
-use mathlib.Core.Path.{_≡_, refl, sym, ap, _∙_}
+use mathlib.Core.Path.{_≡_, sym, ap, _∙_}
 use Prim.Native.Nat.{ℕ, _+_, _*_, _≤_, _<_}
 use mathlib.Core.Bool.{Bool, true, false, not}
 use mathlib.Core.List.{List}
-use native.Mathlib.Numerals.{add-one}
 use native.Mathlib.Omega.{arith}
 use lib.Dec.{eqb}
 use lib.ListN.{length}
 use Rattle.columns.specs.Test.{firstOf}
 use Rattle.columns.specs.Checks.{Refusal, firstRefusal, placed, previous}
-use Rattle.columns.proofs.Checks.{Passes, append-first, append-next, placed-told, placed-passes, rows-none, rows-next, rows-stop, answer-no, answer-yes}
+use Rattle.columns.proofs.Checks.{previous-none, previous-next, Passes, append-first, append-next, placed-told, placed-passes}
+use Rattle.columns.proofs.Checks.{rows-none, rows-next, rows-stop, answer-no, answer-yes}
 use Rattle.columns.proofs.Choice.{differ, agree}
-use Rattle.files.specs.Layout.{headSize, rowSize, rowStart, headAt, rowAt, rowCount}
+use Rattle.records.specs.Record.{marked}
+use Rattle.files.specs.Layout.{headSize, rowSize, rowStart, letterR, headAt, rowAt, rowCount}
 use Rattle.files.specs.Terms.{termsOf}
 use Rattle.files.specs.Range.{headOk}
 use Rattle.files.specs.Walk.{idOf}
@@ -43,14 +44,20 @@ long s n e h = rw (← e) (agree (length s) (rowStart n) h)
 pub checks-told : (t : Terms) (f last : ℕ) (r q : Row) → r ≡ q → f ≡ firstOf (rowChecks t r last) → f ≡ firstOf (rowChecks t q last)
 checks-told t f last r q e h = rw (← e) h
 
+-- of a row whose mark is right, 6 and 7 decide
+pub marked-row : (t : Terms) (s : List ℕ) (start i : ℕ) → marked s (start + i * rowSize) letterR ≡ true
+    → firstOf (rowChecksOf t s start i) ≡ firstOf (rowChecks t (rowAt s (start + i * rowSize)) (previous (idOf s start) i))
+unfolding rowChecksOf rowChecksAt
+marked-row t s start i e = rw e
+
 pub record Walked (t : Terms) (s : List ℕ) (start count last i : ℕ) : Type 0 where
   pub short : i ≤ count
   pub before : last ≡ previous (idOf s start) i
   pub passes : Passes (rowsOrder t s start i)
 
 pub walk-none : (t : Terms) (s : List ℕ) (start count : ℕ) → Walked t s start count 0 0
-unfolding previous
-walk-none t s start count = record { short = omega arith; before = refl; passes = rows-none (rowChecksOf t s start) }
+walk-none t s start count =
+    record { short = omega arith; before = sym (previous-none (idOf s start)); passes = rows-none (rowChecksOf t s start) }
 
 module _ (t : Terms) (s : List ℕ) (start count last i f : ℕ) (w : Walked t s start count last i) (l : i < count)
     (told : f ≡ firstOf (rowChecksAt t s (start + i * rowSize) last)) where
@@ -60,11 +67,11 @@ module _ (t : Terms) (s : List ℕ) (start count last i f : ℕ) (w : Walked t s
   row-told = rw (← w .before) told
 
   pub walk-next : (id : ℕ) → f ≡ 0 → id ≡ rowAt s (start + i * rowSize) .id → Walked t s start count id (i + 1)
-  unfolding previous rowChecksOf rowChecksAt rowChecks
+  unfolding rowChecksOf rowChecksAt rowChecks
   walk-next id z e =
       record {
         short = omega arith;
-        before = rw (add-one i) e;
+        before = e ∙ sym (previous-next (idOf s start) i);
         passes = rows-next (rowChecksOf t s start) i tt (w .passes) (sym row-told ∙ z);
       }
 
@@ -83,7 +90,8 @@ head-there s f e z = head-passed s (sym e ∙ z) .long
 pub rows-there : (s : List ℕ) (f n : ℕ) → f ≡ firstOf (headChecks s) → f ≡ 0 → n ≡ rowCount s → rowStart n ≤ length s
 rows-there s f n e z h = omega (arith, head-passed s (sym e ∙ z) .fits)
 
-pub interval-refused : (s : List ℕ) (f : ℕ) → f ≡ firstOf (headChecks s) → (f ≡ 0 → ⊥) → Refused f 0 ≡ verdict (rowCount s) (intervalFault s)
+pub interval-refused : (s : List ℕ) (f : ℕ) → f ≡ firstOf (headChecks s) → (f ≡ 0 → ⊥)
+    → Refused f 0 ≡ verdict (rowCount s) (intervalFault s)
 unfolding intervalOrder
 interval-refused s f e z =
     let is = placed-told 0 f (headChecks s) e z in
@@ -94,4 +102,5 @@ pub interval-rows : (t : Terms) (s : List ℕ) (f n : ℕ) (v : Verdict) → f �
     → v ≡ verdict n (firstRefusal (rowsOrder t s headSize n)) → v ≡ verdict (rowCount s) (intervalFault s)
 unfolding intervalOrder headChecks
 interval-rows t s f n v e z o h p =
-    rw (append-next (placed 0 (headChecks s)) (rowsOrder (termsOf s) s headSize (rowCount s)) (placed-passes 0 (headChecks s) tt (sym e ∙ z)), ← h, ← o) p
+    let passes = placed-passes 0 (headChecks s) tt (sym e ∙ z) in
+    rw (append-next (placed 0 (headChecks s)) (rowsOrder (termsOf s) s headSize (rowCount s)) passes, ← h, ← o) p

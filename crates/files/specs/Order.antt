@@ -7,7 +7,8 @@ use lib.ListN.{length}
 use Rattle.columns.specs.Test.{Check}
 use Rattle.columns.specs.Checks.{Refusal, check, refusal, firstRefusal, placed, rowByRow, previous, renumbered, answerBy}
 use Rattle.records.specs.Record.{marked}
-use Rattle.files.specs.Layout.{headSize, rowSize, correctionHeadSize, rowStart, correctionStart, letterH, letterR, letterK, headAt, rowAt, correctionHeadAt, rowCount, correctionCount}
+use Rattle.files.specs.Layout.{headSize, rowSize, correctionHeadSize, rowStart, correctionStart, letterH, letterR}
+use Rattle.files.specs.Layout.{letterK, headAt, rowAt, correctionHeadAt, rowCount, correctionCount}
 use Rattle.files.specs.Terms.{termsOf}
 use Rattle.files.specs.Range.{headOk, correctionHeadOk, rowOk}
 use Rattle.files.specs.Walk.{idOf, inInterval}
@@ -58,17 +59,17 @@ unfoldable pub sameTime : List ℕ → List ℕ → Bool
 sameTime s k =
     eqb (correctionHeadAt k .day) (headAt s .day) && eqb (correctionHeadAt k .quarter) (headAt s .quarter)
 
--- two rows differ at most in metered and status
-unfoldable pub sameTerms : Row → Row → Bool
-sameTerms a b =
+-- two rows are alike: they differ at most in metered and status
+unfoldable pub alike : Row → Row → Bool
+alike a b =
     eqb (a .id) (b .id) && eqb (a .kind) (b .kind) && eqb (a .capacity) (b .capacity) && eqb (a .offered) (b .offered)
     && eqb (a .minimum .0) (b .minimum .0) && eqb (a .bid1 .0) (b .bid1 .0) && eqb (a .bid2 .0) (b .bid2 .0)
 
--- the interval has a row of this id, with the same terms
+-- the interval has a row of this id, and both are alike
 unfoldable pub corrects : List ℕ → Row → Bool
 corrects s r =
     let i = inInterval s (r .id) in
-    ltb i (rowCount s) && sameTerms (rowAt s (rowStart i)) r
+    ltb i (rowCount s) && alike (rowAt s (rowStart i)) r
 
 -- 10 of row j of a correction: it corrects no row
 unfoldable pub nameChecks : List ℕ → List ℕ → ℕ → List Check
@@ -100,7 +101,7 @@ verdict n f = answerBy Refused (Accepted n) f
 unfoldable pub verdictOf : List ℕ → List ℕ → Verdict
 verdictOf s k = verdict (rowCount s) (fileFault s k)
 
--- the paper's number and value for each answer: 0 and the count, or the refusal's number and its place
+-- number and value of an answer: 0 and the count, or the refusal's number and its place
 abbrev pub numberOf : Verdict → ℕ
 numberOf (Accepted n) = 0
 numberOf (Refused number place) = number

@@ -18,34 +18,43 @@ dayOk d = leb d 36524
 abbrev pub quarterOk : ℕ → Bool
 quarterOk q = leb q 95
 
+-- the tests that an interval head's fields have to pass
+unfoldable pub headTests : Head → List Bool
+headTests h =
+    dayOk (h .day) ∷ quarterOk (h .quarter) ∷ within 1 10000 (h .tariff .0) ∷ leb (h .need .0) 64000000 ∷ leb (h .rows) 256 ∷ []
+
 -- every field of an interval head is in its range
 unfoldable pub headOk : Head → Bool
-headOk h =
-    allOf
-    (dayOk (h .day) ∷ quarterOk (h .quarter) ∷ within 1 10000 (h .tariff .0) ∷ leb (h .need .0) 64000000
-    ∷ leb (h .rows) 256 ∷ [])
+headOk h = allOf (headTests h)
 
--- every field of a correction head is in its range
+-- the same for a correction head
+unfoldable pub correctionTests : CorrectionHead → List Bool
+correctionTests h = dayOk (h .day) ∷ quarterOk (h .quarter) ∷ within 1 256 (h .rows) ∷ []
+
 unfoldable pub correctionHeadOk : CorrectionHead → Bool
-correctionHeadOk h = allOf (dayOk (h .day) ∷ quarterOk (h .quarter) ∷ within 1 256 (h .rows) ∷ [])
+correctionHeadOk h = allOf (correctionTests h)
 
 -- status: 0 to 3 for thermal, 0 or 3 otherwise
 unfoldable pub statusOk : Row → Bool
 statusOk r = leb (r .status) 3 && (eqb (r .kind) 1 || (eqb (r .status) 0 || eqb (r .status) 3))
 
 -- a row that offers nothing states no minimum and no bid
+unfoldable pub idleTests : Row → List Bool
+idleTests r = eqb (r .offered) 0 ∷ eqb (r .minimum .0) 0 ∷ eqb (r .bid1 .0) 0 ∷ eqb (r .bid2 .0) 0 ∷ []
+
 unfoldable pub notOffering : Row → Bool
-notOffering r =
-    allOf (eqb (r .offered) 0 ∷ eqb (r .minimum .0) 0 ∷ eqb (r .bid1 .0) 0 ∷ eqb (r .bid2 .0) 0 ∷ [])
+notOffering r = allOf (idleTests r)
 
 -- a row that offers is thermal, with a minimum of at most the baseline and bids within the limits of its terms
-unfoldable pub offering : Terms → Row → Bool
-offering t r =
-    allOf
-    (eqb (r .offered) 1 ∷ eqb (r .kind) 1 ∷ leb (r .minimum .0) (baseline t (r .capacity))
-    ∷ within (t .lowest1 .0) (t .highest1 .0) (r .bid1 .0) ∷ within (t .lowest2 .0) (t .highest2 .0) (r .bid2 .0) ∷ [])
+unfoldable pub offerTests : Terms → Row → List Bool
+offerTests t r =
+    eqb (r .offered) 1 ∷ eqb (r .kind) 1 ∷ leb (r .minimum .0) (baseline t (r .capacity))
+    ∷ within (t .lowest1 .0) (t .highest1 .0) (r .bid1 .0) ∷ within (t .lowest2 .0) (t .highest2 .0) (r .bid2 .0) ∷ []
 
--- the tests that a row's fields have to pass
+unfoldable pub offering : Terms → Row → Bool
+offering t r = allOf (offerTests t r)
+
+-- the tests that a row's fields have to pass under its terms
 unfoldable pub rowTests : Terms → Row → List Bool
 rowTests t r =
     leb 1 (r .id) ∷ within 1 3 (r .kind) ∷ within 1 2000 (r .capacity) ∷ leb (r .metered .0) (most (r .capacity))

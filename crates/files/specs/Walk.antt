@@ -33,17 +33,17 @@ pub record Rows (s : List ℕ) (start n : ℕ) : Type 0 where
   pub rising : (i j : ℕ) → i < j → j < n → idOf s start i < idOf s start j
 
 -- a file whose head announces n rows, and they are there
-pub record Standing (s : List ℕ) (start count n : ℕ) : Type 0 where
+pub record Holds (s : List ℕ) (start count n : ℕ) : Type 0 where
   pub long : start ≤ length s
   pub told : n ≡ count
   pub rows : Rows s start n
 
 -- an interval of n rows that passed 1 to 7, a correction of m rows that passed 8
 abbrev pub Own : List ℕ → ℕ → Type 0
-Own s n = Standing s headSize (rowCount s) n
+Own s n = Holds s headSize (rowCount s) n
 
 abbrev pub Theirs : List ℕ → ℕ → Type 0
-Theirs k m = Standing k correctionHeadSize (correctionCount k) m
+Theirs k m = Holds k correctionHeadSize (correctionCount k) m
 
 -- the first i rows have ids below this one
 abbrev pub Under : List ℕ → ℕ → ℕ → ℕ → Type 0

@@ -23,7 +23,7 @@ ghost use Rattle.columns.specs.Test.{firstOf};
 ghost use Rattle.columns.specs.Checks.{firstRefusal, rowByRow};
 ghost use Rattle.files.specs.Layout.{headSize, rowSize, correctionHeadSize, rowStart, rowAt, rowCount, correctionCount};
 ghost use Rattle.files.specs.Walk.{Rows, Own, Theirs, Under, Sought};
-ghost use Rattle.files.specs.Order.{headChecks, rowChecksAt, rowsOrder, intervalFault, correctionStarts, sameTime, sameTerms, nameChecks, besideOrder, presentOrder, verdict, verdictOf};
+ghost use Rattle.files.specs.Order.{headChecks, rowChecksAt, rowsOrder, intervalFault, correctionStarts, sameTime, alike, nameChecks, besideOrder, presentOrder, verdict, verdictOf};
 
 // How many rows an interval file announces.
 pub fn row_count(s: &[u8]) -> usize
@@ -124,9 +124,9 @@ fn same_time(interval: &[u8], correction: &[u8]) -> bool
     (k.day == h.day) & (k.quarter == h.quarter)
 }
 
-// Two rows differ at most in metered and status.
-fn same_terms(a: Row, b: Row) -> bool
-    ensures { λ t. ⌜ t ≡ sameTerms a b ⌝ }
+// Two rows that differ at most in metered and status.
+fn alike(a: Row, b: Row) -> bool
+    ensures { λ t. ⌜ t ≡ alike a b ⌝ }
 {
     (a.id == b.id)
         & (a.kind == b.kind)
@@ -152,15 +152,15 @@ pub fn seek(s: &[u8], start: usize, from: usize, n: usize, id: u16) -> usize
     i
 }
 
-// Row i of the interval is there and has this row's terms.
+// Row i of the interval is there and like this row.
 fn matches_row(s: &[u8], n: usize, i: usize, r: Row) -> bool
     requires { ⌜ Rows (now s) headSize n ⌝ }
-    ensures { λ t. ⌜ t ≡ (ltb i n && sameTerms (rowAt (now (s .entry)) (rowStart i)) r) ⌝ }
+    ensures { λ t. ⌜ t ≡ (ltb i n && alike (rowAt (now (s .entry)) (rowStart i)) r) ⌝ }
 {
     if n <= i {
         return false;
     }
-    same_terms(row_at(s, HEAD + i * ROW), r)
+    alike(row_at(s, HEAD + i * ROW), r)
 }
 
 // 10: both files side by side, since ids rise in both.

@@ -9,7 +9,7 @@ use Rattle.records.specs.Number.{numberAt}
 use Rattle.records.specs.Record.{fieldsAt, recordAt}
 use Rattle.files.specs.Layout.{headAt, rowAt}
 use Rattle.files.specs.Terms.{termsOf}
-use Rattle.files.specs.Range.{headOk, statusOk, notOffering, offering, rowTests, rowOk}
+use Rattle.files.specs.Range.{headTests, headOk, statusOk, idleTests, notOffering, offerTests, offering, rowTests, rowOk}
 use Rattle.files.specs.Order.{headChecks, rowChecks, rowChecksAt, rowChecksOf, intervalOrder, fileOrder, verdictOf}
 use Rattle.files_try.specs.Tried.{answerOf}
 
@@ -22,7 +22,8 @@ pub record Figures : Type 0 where
   pub bid-321 : answerOf 100 321 ≡ 6
 
 pub figures : Figures
-unfolding answerOf verdictOf firstRefusal fileOrder intervalOrder rowByRow previous rowChecksOf rowChecksAt rowChecks headChecks rowOk rowTests offering notOffering statusOk headOk termsOf headAt rowAt recordAt fieldsAt numberAt
+unfolding answerOf verdictOf fileOrder intervalOrder headChecks rowChecksOf rowChecksAt rowChecks firstRefusal rowByRow previous
+    termsOf headOk headTests rowOk rowTests statusOk notOffering idleTests offering offerTests headAt rowAt recordAt fieldsAt numberAt
 figures =
     record {
       capacity-2000 = refl;

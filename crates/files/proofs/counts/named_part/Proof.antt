@@ -1,8 +1,8 @@
 -- `files::counts::named_part` meets its contract.
 use Prim.Native.Nat.{_<_}
 use borrow.Author.Needs.{needs}
-use Rattle.files.proofs.Accepted.{accepted-rows, accepted-theirs}
-use Rattle.files.proofs.Sourced.{has-in-own, theirs-of, under-none, has-theirs, has-own, has-in, named-theirs, named-own, named-none}
+use Rattle.files.proofs.Accepted.{accepted-few, accepted-rows, accepted-theirs}
+use Rattle.files.proofs.Sourced.{theirs-of, few-of, under-none, has-below, has-small, has-in, own-in, named-theirs, named-own, named-none}
 use Rattle.files.proofs.counts.named_part.Statement.{statement}
 use Rattle.files.proofs.counts.named_part.Tie as tie
 
@@ -16,10 +16,10 @@ is-row-requires : tie.Need-is-row-requires
 is-row-requires c κs = search theirs-of
 
 mul-part-at : tie.Need-mul-part-at
-mul-part-at c = let l : c .before .before .seek .result < 256 = search has-theirs in search needs
+mul-part-at c = let l : c .before .before .seek .result < 256 = search (has-small, few-of) in search needs
 
 add-part-at : tie.Need-add-part-at
-add-part-at c = let l : c .before .before .seek .result < 256 = search has-theirs in search needs
+add-part-at c = let l : c .before .before .seek .result < 256 = search (has-small, few-of) in search needs
 
 part-at-requires : tie.Need-part-at-requires
 part-at-requires c κs = search (has-in, theirs-of)
@@ -34,13 +34,13 @@ is-row-requires-2 : tie.Need-is-row-requires-2
 is-row-requires-2 c κs = search accepted-rows
 
 mul-part-at-2 : tie.Need-mul-part-at-2
-mul-part-at-2 c = let l : c .before .before .seek2 .result < 256 = search has-own in search needs
+mul-part-at-2 c = let l : c .before .before .seek2 .result < 256 = search (has-small, accepted-few) in search needs
 
 add-part-at-2 : tie.Need-add-part-at-2
-add-part-at-2 c = let l : c .before .before .seek2 .result < 256 = search has-own in search needs
+add-part-at-2 c = let l : c .before .before .seek2 .result < 256 = search (has-small, accepted-few) in search needs
 
 part-at-requires-2 : tie.Need-part-at-requires-2
-part-at-requires-2 c κs = search has-in-own
+part-at-requires-2 c κs = search (own-in, has-below)
 
 returns-2 : tie.Need-returns-2
 returns-2 c = search named-own

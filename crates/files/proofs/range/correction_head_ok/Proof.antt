@@ -1,6 +1,6 @@
 -- `files::range::correction_head_ok` meets its contract.
 use borrow.Author.Needs.{needs}
-use Rattle.files.specs.Range.{correctionHeadOk}
+use Rattle.files.specs.Range.{correctionHeadOk, correctionTests}
 use Rattle.files.proofs.range.correction_head_ok.Statement.{statement}
 use Rattle.files.proofs.range.correction_head_ok.Tie as tie
 
@@ -14,7 +14,7 @@ within-requires : tie.Need-within-requires
 within-requires c κs = search needs
 
 returns : tie.Need-returns
-unfolding correctionHeadOk
+unfolding correctionHeadOk correctionTests
 returns c = cc
 
 pub correction-head-ok-spec : {M : Type 1} → statement M

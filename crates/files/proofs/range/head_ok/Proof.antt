@@ -1,6 +1,6 @@
 -- `files::range::head_ok` meets its contract.
 use borrow.Author.Needs.{needs}
-use Rattle.files.specs.Range.{headOk}
+use Rattle.files.specs.Range.{headOk, headTests}
 use Rattle.files.proofs.range.head_ok.Statement.{statement}
 use Rattle.files.proofs.range.head_ok.Tie as tie
 
@@ -11,7 +11,7 @@ within-requires : tie.Need-within-requires
 within-requires c κs = search needs
 
 returns : tie.Need-returns
-unfolding headOk
+unfolding headOk headTests
 returns c = cc
 
 pub head-ok-spec : {M : Type 1} → statement M

@@ -1,6 +1,6 @@
 -- `files::range::offering` meets its contract.
 use borrow.Author.Needs.{needs}
-use Rattle.files.specs.Range.{offering}
+use Rattle.files.specs.Range.{offering, offerTests}
 use Rattle.files.proofs.range.offering.Statement.{statement}
 use Rattle.files.proofs.range.offering.Tie as tie
 
@@ -14,7 +14,7 @@ within-requires-2 : tie.Need-within-requires-2
 within-requires-2 c κs = search needs
 
 returns : tie.Need-returns
-unfolding offering
+unfolding offering offerTests
 returns c = cc
 
 pub offering-spec : {M : Type 1} → statement M

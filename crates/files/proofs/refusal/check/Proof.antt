@@ -1,6 +1,6 @@
 -- `files::refusal::check` meets its contract.
 use borrow.Author.Needs.{needs}
-use Rattle.files.proofs.Named.{own-standing, own-refused, alone, paired}
+use Rattle.files.proofs.Named.{own-accepted, own-refused, alone, paired}
 use Rattle.files.proofs.refusal.check.Statement.{statement}
 use Rattle.files.proofs.refusal.check.Tie as tie
 
@@ -17,7 +17,7 @@ returns : tie.Need-returns
 returns c = search alone
 
 present-verdict-requires : tie.Need-present-verdict-requires
-present-verdict-requires c κs = search own-standing
+present-verdict-requires c κs = search own-accepted
 
 returns-2 : tie.Need-returns-2
 returns-2 c = search own-refused

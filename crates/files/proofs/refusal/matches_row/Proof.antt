@@ -17,8 +17,8 @@ add-row-at c = let l = row-in _ _ _ (c .before .before .args .i) (c .before .bef
 row-at-requires : tie.Need-row-at-requires
 row-at-requires c κs = search row-in
 
-same-terms-requires : tie.Need-same-terms-requires
-same-terms-requires c κs = search needs
+alike-requires : tie.Need-alike-requires
+alike-requires c κs = search needs
 
 returns-2 : tie.Need-returns-2
 returns-2 c = search match-told
@@ -26,4 +26,4 @@ returns-2 c = search match-told
 pub matches-row-spec : {M : Type 1} → statement M
 matches-row-spec =
     tie.close
-    (tie.spec returns mul-row-at add-row-at row-at-requires same-terms-requires returns-2)
+    (tie.spec returns mul-row-at add-row-at row-at-requires alike-requires returns-2)

@@ -1,4 +1,5 @@
--- `files::refusal::names_verdict` meets its contract: the fault of all of the correction's rows is that of its rows from j on, and the rows passed in the interval lie below its next id.
+-- `files::refusal::names_verdict` meets its contract: the correction's rows before j refuse nothing, and the rows passed in the
+-- interval lie below its next id.
 use Prim.Native.Nat.{_+_, _-_, _≤_}
 use lib.ListN.{length}
 use borrow.Author.Needs.{needs}
@@ -18,10 +19,16 @@ loop-holds : tie.Need-loop-holds Inv-loop μ-loop
 loop-holds c = search beside-none
 
 mul-row-at : tie.Need-mul-row-at Inv-loop μ-loop
-mul-row-at c = let l : correctionStart (c .before .loop .j) + rowSize ≤ length (c .before .before .before .before .args .correction .now) = search row-in in search needs
+mul-row-at c =
+    let a = c .before .before .before .before .args in
+    let l : correctionStart (c .before .loop .j) + rowSize ≤ length (a .correction .now) = search row-in in
+    search needs
 
 add-row-at : tie.Need-add-row-at Inv-loop μ-loop
-add-row-at c = let l : correctionStart (c .before .loop .j) + rowSize ≤ length (c .before .before .before .before .args .correction .now) = search row-in in search needs
+add-row-at c =
+    let a = c .before .before .before .before .args in
+    let l : correctionStart (c .before .loop .j) + rowSize ≤ length (a .correction .now) = search row-in in
+    search needs
 
 row-at-requires : tie.Need-row-at-requires Inv-loop μ-loop
 row-at-requires c κs = search row-in

@@ -1,4 +1,4 @@
--- `files::refusal::rows_verdict` meets its contract: the fault of all rows is that of the rows from i on.
+-- `files::refusal::rows_verdict` meets its contract: the rows before i refuse nothing, and `last` is the id before row i.
 use Prim.Native.Nat.{_-_}
 use borrow.Author.Needs.{needs}
 use Rattle.files.proofs.Walked.{Walked, walk-none, walk-next, walk-stops, walk-ends}

@@ -20,10 +20,16 @@ loop-holds : tie.Need-loop-holds Inv-loop μ-loop
 loop-holds c = search needs
 
 mul-id-at : tie.Need-mul-id-at Inv-loop μ-loop
-mul-id-at c = let a = c .before .before .before .args in let l : a .start + c .before .loop .i * rowSize + rowSize ≤ length (a .s .now) = search row-in in search needs
+mul-id-at c =
+    let a = c .before .before .before .args in
+    let l : a .start + c .before .loop .i * rowSize + rowSize ≤ length (a .s .now) = search row-in in
+    search needs
 
 add-id-at : tie.Need-add-id-at Inv-loop μ-loop
-add-id-at c = let a = c .before .before .before .args in let l : a .start + c .before .loop .i * rowSize + rowSize ≤ length (a .s .now) = search row-in in search needs
+add-id-at c =
+    let a = c .before .before .before .args in
+    let l : a .start + c .before .loop .i * rowSize + rowSize ≤ length (a .s .now) = search row-in in
+    search needs
 
 id-at-requires : tie.Need-id-at-requires Inv-loop μ-loop
 id-at-requires c κs = search row-in
