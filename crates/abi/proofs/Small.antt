@@ -7,19 +7,19 @@ use mathlib.Core.Path.{_≡_, refl}
 use mathlib.Core.Bool.{Bool, true, false, not, cond, _&&_}
 use mathlib.Core.List.{List, [], _∷_, _++_}
 use native.Mathlib.Omega.{arith}
-use lib.Dec.{leb, ltb, eqb, lit<, lit≤}
+use lib.Dec.{leb, ltb, eqb, lit≤}
 use lib.ListN.{length, drop, length-take}
-use borrow.Author.Tests.{leb-true, not-false}
-use Rattle.columns.specs.Test.{Check, within}
-use Rattle.columns.specs.Checks.{Refusal, refusal, none, firstRefusal, orElse, placed, rowByRow, renumbered, answerBy, numbersIn}
+use borrow.Author.Tests.{not-false}
+use Rattle.columns.specs.Test.{Check}
+use Rattle.columns.specs.Checks.{Refusal, refusal, firstRefusal, orElse, placed, rowByRow, renumbered, answerBy, numbersIn}
 use Rattle.columns.proofs.Checks.{Passes, first-append, passes-none, passes-placed, cons-passes, append-passes}
 use Rattle.columns.proofs.Checks.{first-number, numbers-append, numbers-wider, renumbered-told, renumbered-passes}
-use Rattle.columns.proofs.First.{left-true, right-true, each}
+use Rattle.columns.proofs.First.{left-true, right-true}
 use Rattle.records.specs.Record.{marked}
 use Rattle.files.specs.Layout.{headSize, correctionHeadSize, letterK, rowStart, correctionStart}
 use Rattle.files.specs.Layout.{headAt, correctionHeadAt, rowCount, correctionCount}
 use Rattle.files.specs.Terms.{termsOf}
-use Rattle.files.specs.Range.{dayOk, quarterOk, headOk, correctionHeadOk}
+use Rattle.files.specs.Range.{headOk, correctionHeadOk}
 use Rattle.files.specs.Walk.{inCorrection, inInterval}
 use Rattle.files.specs.Order.{headChecks, rowChecksOf, rowsOrder, intervalOrder, fileOrder, fileFault}
 use Rattle.files.specs.Order.{correctionStarts, correctionOrder, sameTime, nameChecks, besideOrder, presentOrder}
@@ -29,6 +29,7 @@ use Rattle.files.specs.declared.Terms.{Terms}
 use Rattle.files.specs.declared.Verdict.the-variants as Verdict
 use Rattle.files.proofs.Answer.{interval-numbers, file-numbers}
 use Rattle.files.proofs.Passed.{head-passed}
+use Rattle.files.proofs.Ranges.{correction-few}
 use Rattle.contents.specs.Content.{readingOf, rowChecksIn, termsIn, writerOrder, writtenOf}
 use Rattle.contents.specs.Content as write
 use Rattle.contents.specs.declared.Contents.{Contents}
@@ -92,15 +93,12 @@ interval-near s =
     (λ e. rows-near (rowCount s) (rowChecksOf (termsOf s) s headSize) (head-few s e))
 
 starts-few : (k : List ℕ) → correctionStarts k ≡ true → correctionCount k ≤ 256
-unfolding correctionStarts correctionHeadOk
+unfolding correctionStarts
 starts-few k e =
-    let h = correctionHeadAt k in
     let start = leb correctionHeadSize (length k) && marked k 0 letterK in
+    let ok = correctionHeadOk (correctionHeadAt k) in
     let long = eqb (length k) (correctionStart (correctionCount k)) in
-    let ok = right-true start (correctionHeadOk h) (left-true (start && correctionHeadOk h) long e) in
-    leb-true (h .rows) 256
-    (right-true (leb 1 (h .rows)) (leb (h .rows) 256)
-    (each (dayOk (h .day) ∷ quarterOk (h .quarter) ∷ within 1 256 (h .rows) ∷ []) ok 2 (lit< tt)))
+    correction-few (correctionHeadAt k) (right-true start ok (left-true (start && ok) long e))
 
 begun : (k : List ℕ) → Passes (refusal (not (correctionStarts k)) 8 0 ∷ []) → correctionStarts k ≡ true
 begun k e = not-false (correctionStarts k) (cons-passes (refusal (not (correctionStarts k)) 8 0) [] e .0)
@@ -113,9 +111,9 @@ correction-near t k =
     (λ e. renumbered-near 8 rows (rows-near (correctionCount k) (rowChecksOf t k correctionHeadSize) (starts-few k (begun k e))))
 
 -- a correction that passed by itself: at most 256 rows
-correction-few : (t : Terms) (k : List ℕ) → Passes (correctionOrder t k) → correctionCount k ≤ 256
+passed-few : (t : Terms) (k : List ℕ) → Passes (correctionOrder t k) → correctionCount k ≤ 256
 unfolding correctionOrder
-correction-few t k e =
+passed-few t k e =
     let first = refusal (not (correctionStarts k)) 8 0 in
     let rows = renumbered 8 (rowsOrder t k correctionHeadSize (correctionCount k)) in
     starts-few k (begun k (append-passes (first ∷ []) rows e .0))
@@ -126,7 +124,7 @@ present-near s k =
     let names = rowByRow (correctionCount k) (nameChecks s k) in
     append-near (correctionOrder (termsOf s) k) (refusal (not (sameTime s k)) 9 0 ∷ names) (correction-near (termsOf s) k)
     (λ e. append-near (refusal (not (sameTime s k)) 9 0 ∷ []) names (one-near (not (sameTime s k)) 9)
-    (λ f. rows-near (correctionCount k) (nameChecks s k) (correction-few (termsOf s) k e)))
+    (λ f. rows-near (correctionCount k) (nameChecks s k) (passed-few (termsOf s) k e)))
 
 pub file-near : (s k : List ℕ) → Near (fileOrder s k)
 unfolding fileOrder

@@ -19,7 +19,6 @@ use Rattle.files.specs.Layout.{rowCount}
 use Rattle.files.specs.Order.{intervalOrder, intervalFault}
 use Rattle.files.specs.Order as read
 use Rattle.files.proofs.Answer.{refused-of, interval-numbers}
-use Rattle.files.specs.declared.Verdict.{Verdict}
 use Rattle.files.specs.declared.Verdict.the-variants.{Accepted, Refused}
 use Rattle.contents.specs.Content.{readingOf, writtenOf, writtenBuffer}
 use Rattle.contents.specs.Content as write

@@ -2,7 +2,7 @@
 --   settle-unique, row-unique, rewrite-unique      of wheatrudder_settle, wheatrudder_row, wheatrudder_rewrite
 use mathlib.Core.Path.{_≡_, sym, _∙_}
 use denote.Ref.{now}
-use Rattle.contents.proofs.Unique.{Leaves-one}
+use Rattle.files.proofs.Unique.{Leaves-one}
 use Rattle.abi.proofs.wheatrudder_settle.Kinds as settle-kinds
 use Rattle.abi.proofs.wheatrudder_settle.Reads as settle
 use Rattle.abi.proofs.wheatrudder_row.Kinds as row-kinds

@@ -7,14 +7,14 @@
 --   rows-then-head        the rows, then the head in front of them, are the file
 --   read-few, read-long   at most 256 rows, all of them there, in a file that is accepted
 --   read-refused, read-done     the reader's result, by the file's answer
-use mathlib.Core.Path.{_≡_, sym, ap, _∙_}
+use mathlib.Core.Path.{_≡_, sym, _∙_}
 use mathlib.Core.Bool.{Bool, true, false, not}
 use mathlib.Core.List.{List}
-use Prim.Native.Nat.{ℕ, _+_, _*_, _≤_, _<_}
+use Prim.Native.Nat.{ℕ, _≤_, _<_}
 use native.Mathlib.Omega.{arith}
 use borrow.Author.Tests.{not-true, not-false, lt-ltb, le-ltb}
 use lib.ListN.{length}
-use Rattle.columns.specs.Checks.{Refusal, firstRefusal}
+use Rattle.columns.specs.Checks.{firstRefusal}
 use Rattle.columns.proofs.Checks.{Passes}
 use Rattle.records.specs.Buffer.{put}
 use Rattle.records.specs.Record.{recordBytes}
@@ -27,7 +27,7 @@ use Rattle.files.specs.declared.Verdict.{Verdict}
 use Rattle.files.specs.declared.Verdict.the-variants.{Accepted, Refused}
 use Rattle.files.proofs.Answer.{accepted-of, refused-of}
 use Rattle.contents.specs.Content.{zeroContents, contentsOf, readingOf, fieldsIn, contentsBytes, withRows}
-use Rattle.contents.specs.Content.{rowsOrder, writerFault, writtenOf, writtenBuffer}
+use Rattle.contents.specs.Content.{rowsOrder, writtenOf, writtenBuffer}
 use Rattle.contents.specs.declared.Contents.{Contents}
 use Rattle.contents.specs.declared.Reading.{Reading}
 use Rattle.contents.specs.declared.Written.{Written}

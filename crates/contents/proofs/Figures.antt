@@ -13,7 +13,7 @@ use Rattle.records.specs.Record.{fieldsAt, recordAt, recordBytes, recordsBytes}
 use Rattle.files.specs.Layout.{headAt, headBytes, rowAt}
 use Rattle.columns.specs.Checks.{none, firstRefusal, rowByRow, previous}
 use Rattle.files.specs.Terms.{termsOf}
-use Rattle.files.specs.Range.{headOk, statusOk, notOffering, offering, rowTests, rowOk}
+use Rattle.files.specs.Range.{headTests, headOk, statusOk, idleTests, notOffering, offerTests, offering, rowTests, rowOk}
 use Rattle.files.specs.Order.{headChecks, rowChecks, rowChecksAt, rowChecksOf, intervalOrder, intervalFault}
 use Rattle.files.specs.declared.Row.{Row}
 use Rattle.contents.specs.Content.{zeroRow, contentsOf, contentsBytes, termsIn, rowChecksIn, writerOrder, writtenOf}
@@ -65,7 +65,7 @@ said rows =
 
 pub x-accepted : intervalFault file ≡ none
 unfolding intervalOrder headChecks rowByRow rowChecksOf rowChecksAt rowChecks previous firstRefusal termsOf
-    headAt rowAt recordAt fieldsAt numberAt headOk rowOk rowTests statusOk notOffering offering
+    headAt rowAt recordAt fieldsAt numberAt headOk headTests rowOk rowTests statusOk notOffering idleTests offering offerTests
 x-accepted = refl
 
 pub x-said : contentsBytes (said (first ∷ plain 2 1 20000 ∷ plain 3 2 5000 ∷ [])) ≡ file
@@ -80,5 +80,5 @@ pub x-refused :
     (writtenOf (said (first ∷ plain 3 2 5000 ∷ plain 2 1 20000 ∷ [])) 78 ≡ Refused 7 3)
     × (writtenOf (said (first ∷ plain 2 1 20000 ∷ plain 3 2 5000 ∷ [])) 77 ≡ Refused 11 0)
 unfolding writtenOf writerOrder rowByRow rowChecksIn rowChecks previous firstRefusal termsIn
-    headOk rowOk rowTests statusOk notOffering offering table
+    headOk headTests rowOk rowTests statusOk notOffering idleTests offering offerTests table
 x-refused = (refl, refl)

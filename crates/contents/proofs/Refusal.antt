@@ -5,10 +5,10 @@
 --   head-refuses, rows-refuse, room-decides      what refuses, as far as the checks have come
 --   writer-passed, in-range-passes     contents that nothing refuses: what that gives, and contents in range are such
 --   unwritten-of, written-of           what an answer says of the list
-use mathlib.Core.Path.{_≡_, refl, sym, ap, _∙_}
+use mathlib.Core.Path.{_≡_, refl, ap, _∙_}
 use mathlib.Core.Bool.{true, false, not}
 use mathlib.Core.List.{List, [], _∷_, _++_}
-use Prim.Native.Nat.{ℕ, zero, suc, _+_, _≤_, _<_}
+use Prim.Native.Nat.{ℕ, zero, suc, _≤_, _<_}
 use native.Mathlib.Numerals.{add-one}
 use native.Mathlib.Omega.{arith}
 use borrow.Author.Tests.{not-false, le-ltb, lt-leb, ltb-false}

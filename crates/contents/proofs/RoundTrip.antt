@@ -10,17 +10,17 @@ use mathlib.Core.Path.{_≡_, refl, sym, ap, _∙_}
 use mathlib.Core.Bool.{Bool, true, false}
 use mathlib.Core.Logic.{⊎-elim}
 use mathlib.Core.List.{List}
-use Prim.Native.Nat.{ℕ, zero, suc, _*_, _≤_, _<_}
+use Prim.Native.Nat.{ℕ, _*_, _≤_, _<_}
 use native.Mathlib.Omega.{arith}
 use borrow.Author.Tests.{lt-ltb, le-ltb, eq-eqb}
 use lib.ListN.{length, getD, take}
 use lib.Seq.{take-add, take-all}
-use Rattle.columns.specs.Table.{table, Below}
+use Rattle.columns.specs.Table.{table}
 use Rattle.columns.specs.Test.{firstOf}
 use Rattle.columns.specs.Checks.{none, firstRefusal, placed, previous}
 use Rattle.columns.proofs.Sum.{lt-or-le}
 use Rattle.columns.proofs.Table.{table-at, table-same, table-is}
-use Rattle.columns.proofs.Checks.{Passes, append-passes, append-next, passes-placed, placed-passes, first-number}
+use Rattle.columns.proofs.Checks.{Passes, previous-same, append-passes, append-next, passes-placed, placed-passes, first-number}
 use Rattle.records.specs.Buffer.{put}
 use Rattle.records.specs.Record.{recordAt}
 use Rattle.records.proofs.Buffer.{put-taken}
@@ -51,12 +51,6 @@ use Rattle.contents.proofs.Refusal.{Writable, passed-writer, rows-all, 
 file-terms : (s : List ℕ) → termsIn (headAt s) ≡ termsOf s
 unfolding termsIn termsOf
 file-terms s = refl
-
--- two lists that agree have the same number just before each position
-same-previous : (f g : ℕ → ℕ) (n : ℕ) → Below n (λ j. f j ≡ g j) → (i : ℕ) → i < n → previous f i ≡ previous g i
-unfolding previous
-same-previous f g n h zero l = refl
-same-previous f g n h (suc i) l = h i (omega arith)
 
 -- ---- from bytes
 
@@ -97,7 +91,7 @@ module _ (s : List ℕ) (accepted : Passes (intervalOrder s)) where
   rises : (j : ℕ) → j < rowCount s → previous (idIn (table 256 (fileRow s))) j < idIn (table 256 (fileRow s)) j
   rises j l =
       let before =
-      same-previous (idIn (table 256 (fileRow s))) (idOf s headSize) (rowCount s) (λ k q. ap (λ (r : Row). r .id) (kept k q)) j l in
+      previous-same (idIn (table 256 (fileRow s))) (idOf s headSize) j (λ k q. ap (λ (r : Row). r .id) (kept k (omega arith))) in
       let here : idIn (table 256 (fileRow s)) j ≡ idOf s headSize j = ap (λ (r : Row). r .id) (kept j l) in
       omega (arith, before, here, passed j l .above)
 
@@ -159,8 +153,8 @@ module _ (c : Contents) (c-in : InRange c) where
   made-row k l = contents-row c k l (row-fits (c .head) (getD (c .rows) k zeroRow) (c-in .rows k l) (c-in .ids k))
 
   made-previous : (k : ℕ) → k < c .head .rows → previous (idOf (contentsBytes c) headSize) k ≡ previous (idIn (c .rows)) k
-  made-previous =
-      same-previous (idOf (contentsBytes c) headSize) (idIn (c .rows)) (c .head .rows) (λ k l. ap (λ (r : Row). r .id) (made-row k l))
+  made-previous k l =
+      previous-same (idOf (contentsBytes c) headSize) (idIn (c .rows)) k (λ j q. ap (λ (r : Row). r .id) (made-row j (omega arith)))
 
   row-made : (k : ℕ) → k < c .head .rows → firstOf (rowChecksOf (termsIn (c .head)) (contentsBytes c) headSize k) ≡ 0
   unfolding rowChecksOf rowChecksAt

@@ -19,8 +19,7 @@ use Rattle.records.specs.Record.{marked, recordSize, recordAt, recordBytes, rec
 use Rattle.records.proofs.Record.{record-length, record-read, record-write}
 use Rattle.records.proofs.Sheet.{records-joined, lines-length, lines-read}
 use Rattle.files.specs.Layout.{letterH, letterR, headWidths, rowWidths, headSize, rowStart}
-use Rattle.files.specs.Layout.{headAt, headOf, headBytes, headFields, rowAt, rowOf, rowFields}
-use Rattle.files.specs.declared.Row.{Row}
+use Rattle.files.specs.Layout.{headAt, headOf, headBytes, headFields, rowAt, rowOf}
 use Rattle.contents.specs.Content.{zeroRow, fieldsIn, contentsBytes}
 use Rattle.contents.specs.declared.Contents.{Contents}
 

@@ -7,7 +7,6 @@ use mathlib.Core.Bool.{cond}
 use mathlib.Core.Logic.{⊎-elim}
 use mathlib.Core.List.{List}
 use Prim.Native.Nat.{ℕ, _+_, _≤_, _<_}
-use native.Mathlib.Numerals.{add-one}
 use native.Mathlib.Omega.{arith}
 use lib.Dec.{ltb}
 use lib.ListN.{length, getD, set, length-set}
@@ -19,7 +18,7 @@ use Rattle.columns.specs.Checks.{firstRefusal, rowByRow, previous}
 use Rattle.columns.proofs.Sum.{lt-or-le}
 use Rattle.columns.proofs.Table.{table-length, table-at, table-past, table-is}
 use Rattle.columns.proofs.Table as tables
-use Rattle.columns.proofs.Checks.{Passes, rows-none, rows-next, rows-stop}
+use Rattle.columns.proofs.Checks.{Passes, previous-none, previous-next, rows-none, rows-next, rows-stop}
 use Rattle.records.specs.Buffer.{put}
 use Rattle.records.specs.Record.{recordBytes}
 use Rattle.records.specs.Sheet.{sheet}
@@ -39,8 +38,8 @@ pub record Checked (c : Contents) (last i : ℕ) : Type 0 where
   pub passes : Passes (rowByRow i (rowChecksIn (termsIn (c .head)) (c .rows)))
 
 pub check-start : (c : Contents) → Checked c 0 0
-unfolding previous
-check-start c = record { short = omega arith; before = refl; passes = rows-none (rowChecksIn (termsIn (c .head)) (c .rows)) }
+check-start c =
+    record { short = omega arith; before = sym (previous-none (idIn (c .rows))); passes = rows-none (rowChecksIn (termsIn (c .head)) (c .rows)) }
 
 module _ (c : Contents) (last i f : ℕ) (t : Terms) (w : Checked c last i) (l : i < c .head .rows) (e : t ≡ termsIn (c .head))
     (told : f ≡ firstOf (rowChecks t (getD (c .rows) i zeroRow) last)) where
@@ -50,11 +49,11 @@ module _ (c : Contents) (last i f : ℕ) (t : Terms) (w : Checked c last i) (l :
   row-told = rw (← e, ← w .before) told
 
   pub check-next : f ≡ 0 → Checked c (idIn (c .rows) i) (i + 1)
-  unfolding previous rowChecksIn rowChecks
+  unfolding rowChecksIn rowChecks
   check-next z =
       record {
         short = omega arith;
-        before = rw (add-one i);
+        before = sym (previous-next (idIn (c .rows)) i);
         passes = rows-next (rowChecksIn (termsIn (c .head)) (c .rows)) i tt (w .passes) (sym row-told ∙ z);
       }
 
