@@ -36,7 +36,7 @@ use Rattle.contents.specs.declared.Contents.{Contents}
 use Rattle.contents.specs.declared.Written.the-variants as Written
 use Rattle.contents.proofs.Record.{rows-few}
 use Rattle.contents.proofs.Refusal.{writer-passed, writer-numbers}
-use Rattle.contents.proofs.RoundTrip.{few}
+use Rattle.contents.proofs.Said.{few}
 use Rattle.statement.specs.Statement.{lineStart}
 use Rattle.settle.specs.Answer.{settleOrder, answerOf, numberOf, valueOf}
 use Rattle.settle.specs.declared.Answer.the-variants as Answer

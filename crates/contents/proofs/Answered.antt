@@ -35,7 +35,7 @@ use Rattle.contents.specs.declared.Written.the-variants as written
 use Rattle.contents.proofs.Record.{rows-few}
 use Rattle.contents.proofs.Rows.{head-length}
 use Rattle.contents.proofs.Refusal.{Writable, head-refuses, rows-refuse, room-decides, writer-passed, unwritten-of, written-of}
-use Rattle.contents.proofs.RoundTrip.{head-of, few}
+use Rattle.contents.proofs.Said.{head-of, few}
 
 pub rows-few-told : (h : Head) (b : Bool) → b ≡ headOk h → not b ≡ false → h .rows ≤ 256
 rows-few-told h b e t = rows-few h (sym e ∙ not-false b t)
