@@ -139,7 +139,7 @@ pub writer-near : (c : Contents) (room : ℕ) → Near (writerOrder c room)
 unfolding writerOrder
 writer-near c room =
     let first = refusal (not (headOk (c .head))) 3 0 in
-    let rows = write.rowsOrder c in
+    let rows = write.heldOrder c in
     append-near (first ∷ rows) (refusal (ltb room (rowStart (c .head .rows))) 11 0 ∷ [])
     (append-near (first ∷ []) rows (one-near (not (headOk (c .head))) 3)
     (λ e. rows-near (c .head .rows) (rowChecksIn (termsIn (c .head)) (c .rows))

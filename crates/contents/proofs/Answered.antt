@@ -27,7 +27,7 @@ use Rattle.files.specs.declared.Verdict.{Verdict}
 use Rattle.files.specs.declared.Verdict.the-variants.{Accepted, Refused}
 use Rattle.files.proofs.Answer.{accepted-of, refused-of}
 use Rattle.contents.specs.Content.{zeroContents, contentsOf, readingOf, fieldsIn, contentsBytes, withRows}
-use Rattle.contents.specs.Content.{rowsOrder, writtenOf, writtenBuffer}
+use Rattle.contents.specs.Content.{heldOrder, writtenOf, writtenBuffer}
 use Rattle.contents.specs.declared.Contents.{Contents}
 use Rattle.contents.specs.declared.Reading.{Reading}
 use Rattle.contents.specs.declared.Written.{Written}
@@ -45,18 +45,18 @@ unfolding writtenOf
 answer-3 c room b e t = rw (head-refuses c room (sym e ∙ not-true b t))
 
 module _ (c : Contents) (b : Bool) (v : Verdict) (e : b ≡ headOk (c .head)) (t : not b ≡ false)
-    (p : v ≡ verdict (c .head .rows) (firstRefusal (rowsOrder c))) where
+    (p : v ≡ verdict (c .head .rows) (firstRefusal (heldOrder c))) where
   ok : headOk (c .head) ≡ true
   ok = sym e ∙ not-false b t
 
   pub answer-6-7 : (room number place : ℕ) → v ≡ Refused number place → written.Refused number place ≡ writtenOf c room
   unfolding writtenOf
   answer-6-7 room number place q =
-      rw (rows-refuse c room ok number place (refused-of (c .head .rows) number place (firstRefusal (rowsOrder c)) (sym p ∙ q)))
+      rw (rows-refuse c room ok number place (refused-of (c .head .rows) number place (firstRefusal (heldOrder c)) (sym p ∙ q)))
 
   module _ (count : ℕ) (q : v ≡ Accepted count) where
-    passed : Passes (rowsOrder c) × (c .head .rows ≡ count)
-    passed = accepted-of (c .head .rows) count (firstRefusal (rowsOrder c)) (sym p ∙ q)
+    passed : Passes (heldOrder c) × (c .head .rows ≡ count)
+    passed = accepted-of (c .head .rows) count (firstRefusal (heldOrder c)) (sym p ∙ q)
 
     pub count-few : count ≤ 256
     count-few = omega (arith, rows-few (c .head) ok, passed .1)

@@ -25,7 +25,7 @@ use Rattle.files.specs.Order.{rowChecks}
 use Rattle.files.specs.declared.Row.{Row}
 use Rattle.files.specs.declared.Terms.{Terms}
 use Rattle.files.proofs.Ranges.{row-ranges}
-use Rattle.contents.specs.Content.{zeroRow, idIn, termsIn, rowChecksIn, rowsOrder}
+use Rattle.contents.specs.Content.{zeroRow, idIn, termsIn, rowChecksIn, heldOrder}
 use Rattle.contents.specs.Content.{writerOrder, writerFault, writtenOf, numberOf, valueOf}
 use Rattle.contents.specs.InRange.{InRange}
 use Rattle.contents.specs.declared.Contents.{Contents}
@@ -43,29 +43,29 @@ unfolding writerOrder firstRefusal
 head-refuses c room e = rw e
 
 module _ (c : Contents) (room : ℕ) (ok : headOk (c .head) ≡ true) where
-  rows-next-told : writerFault c room ≡ firstRefusal (rowsOrder c ++ eleven c room)
+  rows-next-told : writerFault c room ≡ firstRefusal (heldOrder c ++ eleven c room)
   unfolding writerOrder firstRefusal
   rows-next-told = rw ok
 
-  pub rows-refuse : (a p : ℕ) → firstRefusal (rowsOrder c) ≡ refusal true a p → writerFault c room ≡ refusal true a p
-  rows-refuse a p e = rows-next-told ∙ append-first (rowsOrder c) (eleven c room) (ap (λ (r : Refusal). r .applies) e) ∙ e
+  pub rows-refuse : (a p : ℕ) → firstRefusal (heldOrder c) ≡ refusal true a p → writerFault c room ≡ refusal true a p
+  rows-refuse a p e = rows-next-told ∙ append-first (heldOrder c) (eleven c room) (ap (λ (r : Refusal). r .applies) e) ∙ e
 
-  pub room-decides : Passes (rowsOrder c) → writerFault c room ≡ firstRefusal (eleven c room)
-  room-decides e = rows-next-told ∙ append-next (rowsOrder c) (eleven c room) e
+  pub room-decides : Passes (heldOrder c) → writerFault c room ≡ firstRefusal (eleven c room)
+  room-decides e = rows-next-told ∙ append-next (heldOrder c) (eleven c room) e
 
 -- ---- contents that nothing refuses
 
 pub record Writable (c : Contents) (room : ℕ) : Type 0 where
   pub head : headOk (c .head) ≡ true
-  pub rows : Passes (rowsOrder c)
+  pub rows : Passes (heldOrder c)
   pub roomy : rowStart (c .head .rows) ≤ room
 
 pub writer-passed : (c : Contents) (room : ℕ) → Passes (writerOrder c room) → Writable c room
 unfolding writerOrder
 writer-passed c room h =
     let first = refusal (not (headOk (c .head))) 3 0 in
-    let both = append-passes (first ∷ rowsOrder c) (eleven c room) h in
-    let front = cons-passes first (rowsOrder c) (both .0) in
+    let both = append-passes (first ∷ heldOrder c) (eleven c room) h in
+    let front = cons-passes first (heldOrder c) (both .0) in
     record {
       head = not-false (headOk (c .head)) (front .0);
       rows = front .1;
@@ -125,7 +125,7 @@ module _ (c : Contents) (room : ℕ) where
   pub writer-numbers : numbersIn 1 11 (writerOrder c room) ≡ true
   unfolding writerOrder rowChecksIn rowChecks
   writer-numbers =
-      checks.numbers-append 1 11 (refusal (not (headOk (c .head))) 3 0 ∷ rowsOrder c) (eleven c room)
+      checks.numbers-append 1 11 (refusal (not (headOk (c .head))) 3 0 ∷ heldOrder c) (eleven c room)
       (checks.numbers-rows 1 11 (c .head .rows) (rowChecksIn (termsIn (c .head)) (c .rows)) (λ i. refl)) refl
 
   pub number-zero : numberOf (writtenOf c room) ≡ 0 → NoneApplies (writerOrder c room)

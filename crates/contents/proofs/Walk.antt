@@ -29,7 +29,7 @@ use Rattle.files.specs.declared.Head.{Head}
 use Rattle.files.specs.declared.Row.{Row}
 use Rattle.files.specs.declared.Terms.{Terms}
 use Rattle.files.specs.declared.Verdict.the-variants.{Accepted, Refused}
-use Rattle.contents.specs.Content.{zeroRow, contentsOf, fieldsIn, idIn, termsIn, rowChecksIn, rowsOrder}
+use Rattle.contents.specs.Content.{zeroRow, contentsOf, fieldsIn, idIn, termsIn, rowChecksIn, heldOrder}
 use Rattle.contents.specs.declared.Contents.{Contents}
 
 pub record Checked (c : Contents) (last i : ℕ) : Type 0 where
@@ -57,12 +57,12 @@ module _ (c : Contents) (last i f : ℕ) (t : Terms) (w : Checked c last i) (l :
         passes = rows-next (rowChecksIn (termsIn (c .head)) (c .rows)) i tt (w .passes) (sym row-told ∙ z);
       }
 
-  pub check-stops : (f ≡ 0 → ⊥) → Refused f (i + 1) ≡ verdict (c .head .rows) (firstRefusal (rowsOrder c))
+  pub check-stops : (f ≡ 0 → ⊥) → Refused f (i + 1) ≡ verdict (c .head .rows) (firstRefusal (heldOrder c))
   check-stops z =
       rw (rows-stop (rowChecksIn (termsIn (c .head)) (c .rows)) (c .head .rows) i f l (w .passes) row-told z)
 
 pub check-ends : (c : Contents) (last i : ℕ) → Checked c last i → c .head .rows ≤ i
-    → Accepted (c .head .rows) ≡ verdict (c .head .rows) (firstRefusal (rowsOrder c))
+    → Accepted (c .head .rows) ≡ verdict (c .head .rows) (firstRefusal (heldOrder c))
 check-ends c last i w l =
     let e : i ≡ c .head .rows = omega (arith, w .short) in
     rw (rw e at (w .passes))

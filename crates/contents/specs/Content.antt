@@ -82,13 +82,13 @@ unfoldable pub rowChecksIn : Terms → List Row → ℕ → List Check
 rowChecksIn t rs i = rowChecks t (getD rs i zeroRow) (previous (idIn rs) i)
 
 -- 6 and 7 of each of the rows of contents in turn
-abbrev pub rowsOrder : Contents → List Refusal
-rowsOrder c = rowByRow (c .head .rows) (rowChecksIn (termsIn (c .head)) (c .rows))
+abbrev pub heldOrder : Contents → List Refusal
+heldOrder c = rowByRow (c .head .rows) (rowChecksIn (termsIn (c .head)) (c .rows))
 
 -- 3, then 6 and 7 row by row, then 11: contents, and the length of the buffer that they are to go into
 unfoldable pub writerOrder : Contents → ℕ → List Refusal
 writerOrder c room =
-    (refusal (not (headOk (c .head))) 3 0 ∷ rowsOrder c) ++ (refusal (ltb room (rowStart (c .head .rows))) 11 0 ∷ [])
+    (refusal (not (headOk (c .head))) 3 0 ∷ heldOrder c) ++ (refusal (ltb room (rowStart (c .head .rows))) 11 0 ∷ [])
 
 -- what refuses them: the first check that applies
 abbrev pub writerFault : Contents → ℕ → Refusal

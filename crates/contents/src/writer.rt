@@ -20,7 +20,7 @@ ghost use Rattle.columns.specs.Checks.{firstRefusal};
 ghost use Rattle.records.specs.Buffer.{put};
 ghost use Rattle.files.specs.Layout.{rowStart, headFields, rowFields};
 ghost use Rattle.files.specs.Order.{verdict};
-ghost use Rattle.contents.specs.Content.{contentsBytes, withRows, termsIn, rowsOrder, writtenOf, writtenBuffer};
+ghost use Rattle.contents.specs.Content.{contentsBytes, withRows, termsIn, heldOrder, writtenOf, writtenBuffer};
 
 // A head and a row as their fields, in the order of their tables.
 fn head_fields(h: Head) -> [u64; 5]
@@ -61,7 +61,7 @@ fn terms_in(h: Head) -> Terms
 // 6 and 7, row by row.
 fn rows_verdict(contents: Contents) -> Verdict
     requires { ⌜ contents .head .rows ≤ 256 ⌝ }
-    ensures { λ v. ⌜ v ≡ verdict (contents .head .rows) (firstRefusal (rowsOrder contents)) ⌝ }
+    ensures { λ v. ⌜ v ≡ verdict (contents .head .rows) (firstRefusal (heldOrder contents)) ⌝ }
 {
     let h = contents.head;
     let terms = terms_in(h);
