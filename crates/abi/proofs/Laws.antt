@@ -3,21 +3,21 @@
 --   settled-number, settled-value       the engine's number and value, from its word
 --   copied-short, copied-whole          the row that counts, by the room there is
 --   accepted-rewritten, accepted-buffer     an accepted file with room for it: 0 and its length, and its own bytes in front
---   settled-unique, copied-unique, rewritten-unique (Unique.antt)    two words and two buffers that one contract allows are equal
+--   settle-unique, row-unique, rewrite-unique (Unique.antt)      the contracts leave one word and one buffer
 use Prim.Native.Nat.{ℕ, _/_, _%_, _≤_, _<_}
 use mathlib.Core.Path.{_≡_}
 use mathlib.Core.List.{List}
 use native.Mathlib.Omega.{arith}
 use lib.ListN.{length, getD}
-use borrow.Author.Tests.{lt-ltb, le-ltb, eq-eqb}
+use borrow.Author.Tests.{lt-ltb, le-ltb}
 use Rattle.records.specs.Buffer.{put}
-use Rattle.files.specs.Fault.{intervalFault}
+use Rattle.files.specs.Order as read
 use Rattle.files.specs.Counting.{countingBytes}
-use Rattle.contents.specs.Content.{contentsOf, readingOf}
-use Rattle.contents.proofs.RoundTrip.{file-rewritten}
+use Rattle.contents.specs.Content.{readingOf}
+use Rattle.contents.proofs.RoundTrip.{file-rewritten, file-buffer}
 use Rattle.settle.specs.Answer.{answerOf, numberOf, valueOf}
-use Rattle.abi.specs.Packed.{packed, settled, copied, rewritten, rewrittenBuffer}
-use Rattle.abi.proofs.Small.{answer-fits}
+use Rattle.abi.specs.Packed.{packed, settled, copied, written, rewritten, rewrittenBuffer}
+use Rattle.abi.proofs.Small.{answer-packs}
 
 pub number-back : (number value : ℕ) → value < 4294967296 → packed number value / 4294967296 ≡ number
 number-back number value l = omega arith
@@ -28,11 +28,11 @@ value-back number value l = omega arith
 module _ (s k : List ℕ) (room : ℕ) where
   pub settled-number : settled s k room / 4294967296 ≡ numberOf (answerOf s k room)
   unfolding settled
-  settled-number = number-back (numberOf (answerOf s k room)) (valueOf (answerOf s k room)) (answer-fits s k room .value-fits)
+  settled-number = number-back (numberOf (answerOf s k room)) (valueOf (answerOf s k room)) (answer-packs s k room .value-fits)
 
   pub settled-value : settled s k room % 4294967296 ≡ valueOf (answerOf s k room)
   unfolding settled
-  settled-value = value-back (numberOf (answerOf s k room)) (valueOf (answerOf s k room)) (answer-fits s k room .value-fits)
+  settled-value = value-back (numberOf (answerOf s k room)) (valueOf (answerOf s k room)) (answer-packs s k room .value-fits)
 
 module _ (s k : List ℕ) (id room : ℕ) where
   pub copied-short : room < length (countingBytes s k id) → copied s k id room ≡ packed 11 0
@@ -43,16 +43,12 @@ module _ (s k : List ℕ) (id room : ℕ) where
   unfolding copied
   copied-whole l = rw (le-ltb room (length (countingBytes s k id)) l)
 
-module _ (s : List ℕ) (sound : intervalFault s .number ≡ 0) where
-  reading : readingOf s ≡ record { number = 0; place = 0; contents = contentsOf s }
-  unfolding readingOf
-  reading = rw (eq-eqb (intervalFault s .number) 0 sound)
+module _ (s : List ℕ) (accepted : read.numberOf (readingOf s .verdict) ≡ 0) (bytes : (i : ℕ) → getD s i 0 < 256)
+    (out : List ℕ) (room : length s ≤ length out) where
+  pub accepted-rewritten : rewritten s (length out) ≡ packed 0 (length s)
+  unfolding rewritten written
+  accepted-rewritten = rw (accepted, file-rewritten s accepted bytes out room)
 
-  module _ (bytes : (i : ℕ) → getD s i 0 < 256) (out : List ℕ) (room : length s ≤ length out) where
-    pub accepted-rewritten : rewritten s (length out) ≡ packed 0 (length s)
-    unfolding rewritten
-    accepted-rewritten = rw (reading, file-rewritten s sound bytes out room .0)
-
-    pub accepted-buffer : rewrittenBuffer s out ≡ put out 0 s
-    unfolding rewrittenBuffer
-    accepted-buffer = rw reading (file-rewritten s sound bytes out room .1)
+  pub accepted-buffer : rewrittenBuffer s out ≡ put out 0 s
+  unfolding rewrittenBuffer
+  accepted-buffer = rw accepted (file-buffer s accepted bytes out room)

@@ -1,231 +1,203 @@
--- Every answer fits its word: a refusal's number is at most 11 and its place at most 256, and counts of bytes are small.
---   interval-small, file-small, writer-small     the faults of an interval file, of a pair of files, of contents and their buffer
---   answer-fits, reading-fits, written-fits      number and value of the engine's answer, of the reader's, of the writer's
+-- Every answer fits its word: numbers of refusal end at 11, places at 256, and counts of bytes are small.
+--   interval-near, file-near, writer-near        places of refusals: of an interval file, of a pair of files, of contents and their buffer
+--   answer-packs, reading-packs, written-packs   number and value of the engine's answer, of the reader's, of the writer's
 --   part-short                                   the bytes that count for a row are at most 21
-use Prim.Native.Nat.{ℕ, zero, suc, _+_, _≤_, _<_, zero-le}
+use Prim.Native.Nat.{ℕ, zero, suc, _≤_, _<_, zero-le}
 use mathlib.Core.Path.{_≡_, refl}
-use mathlib.Core.Bool.{Bool, true, false, cond, _&&_}
-use mathlib.Core.List.{List, [], _∷_}
+use mathlib.Core.Bool.{Bool, true, false, not, cond, _&&_}
+use mathlib.Core.List.{List, [], _∷_, _++_}
 use native.Mathlib.Omega.{arith}
-use lib.Dec.{leb, ltb, eqb, lit<}
-use lib.ListN.{length, getD, drop, length-take}
-use borrow.Author.Tests.{leb-true, eqb-true}
-use Rattle.columns.specs.Test.{Check, firstOf, within}
-use Rattle.columns.proofs.First.{left-true, right-true, each}
-use Rattle.files.specs.Layout.{marked, letterK, headAt, rowAt, rowStart, correctionStart, correctionHeadAt, rowCount, correctionCount}
-use Rattle.files.specs.Range.{dayOk, quarterOk, headOk, correctionHeadOk}
-use Rattle.files.specs.Fault.{Fault, fault, none, orElse, headChecks, headFault, rowChecks, rowChecksAt, rowFault, rowsFault, intervalFault, correctionStarts, asEight, correctionFault, sameTime, timeFault, corrects, namesFault, presentFault, pairFault, fileFault}
-use Rattle.files.specs.Counting.{part, inCorrection, inInterval, named, countingBytes}
-use Rattle.files.proofs.Answer.{or-none}
-use Rattle.files.proofs.Ranges.{head-ranges}
-use Rattle.files.specs.declared.Row.{Row}
-use Rattle.contents.specs.Content.{zeroRow, zeroContents, contentsOf, readingOf, listFault, contentsFault, writerFault, writtenOf}
+use lib.Dec.{leb, ltb, eqb, lit≤}
+use lib.ListN.{length, drop, length-take}
+use borrow.Author.Tests.{not-false}
+use Rattle.columns.specs.Test.{Check}
+use Rattle.columns.specs.Checks.{Refusal, refusal, firstRefusal, orElse, placed, rowByRow, renumbered, answerBy, numbersIn}
+use Rattle.columns.proofs.Checks.{Passes, first-append, passes-none, passes-placed, cons-passes, append-passes}
+use Rattle.columns.proofs.Checks.{first-number, numbers-append, numbers-wider, renumbered-told, renumbered-passes}
+use Rattle.columns.proofs.First.{left-true, right-true}
+use Rattle.records.specs.Record.{marked}
+use Rattle.files.specs.Layout.{headSize, correctionHeadSize, letterK, rowStart, correctionStart}
+use Rattle.files.specs.Layout.{headAt, correctionHeadAt, rowCount, correctionCount}
+use Rattle.files.specs.Terms.{termsOf}
+use Rattle.files.specs.Range.{headOk, correctionHeadOk}
+use Rattle.files.specs.Walk.{inCorrection, inInterval}
+use Rattle.files.specs.Order.{headChecks, rowChecksOf, rowsOrder, intervalOrder, fileOrder, fileFault}
+use Rattle.files.specs.Order.{correctionStarts, correctionOrder, sameTime, nameChecks, besideOrder, presentOrder}
+use Rattle.files.specs.Order as read
+use Rattle.files.specs.Counting.{part, named, countingBytes}
+use Rattle.files.specs.declared.Terms.{Terms}
+use Rattle.files.specs.declared.Verdict.the-variants as Verdict
+use Rattle.files.proofs.Answer.{interval-numbers, file-numbers}
+use Rattle.files.proofs.Passed.{head-passed}
+use Rattle.files.proofs.Ranges.{correction-few}
+use Rattle.contents.specs.Content.{readingOf, rowChecksIn, termsIn, writerOrder, writtenOf}
+use Rattle.contents.specs.Content as write
 use Rattle.contents.specs.declared.Contents.{Contents}
-use Rattle.contents.specs.declared.Reading.{Reading}
-use Rattle.contents.specs.declared.Written.the-variants as written
-use Rattle.contents.proofs.Refusal.{head-none}
+use Rattle.contents.specs.declared.Written.the-variants as Written
 use Rattle.contents.proofs.Record.{rows-few}
-use Rattle.contents.proofs.RoundTrip.{contents-none}
-use Rattle.abi.specs.Packed.{writtenNumber, writtenValue}
+use Rattle.contents.proofs.Refusal.{writer-passed, writer-numbers}
+use Rattle.contents.proofs.Said.{few}
 use Rattle.statement.specs.Statement.{lineStart}
-use Rattle.settle.specs.Answer.{settleFault, answerOf, numberOf, valueOf}
-use Rattle.settle.specs.declared.Answer.the-variants.{Settled, Refused}
+use Rattle.settle.specs.Answer.{settleOrder, answerOf, numberOf, valueOf}
+use Rattle.settle.specs.declared.Answer.the-variants as Answer
+use Rattle.abi.specs.Packed.{Packs}
 
--- ---- faults
+-- ---- places
 
-pub record Small (f : Fault) : Type 0 where
-  pub number : f .number ≤ 11
-  pub place : f .place ≤ 256
+-- what a list of checks refuses is at most 256 rows away
+abbrev pub Near : List Refusal → Type 0
+Near rs = firstRefusal rs .place ≤ 256
 
-small : (n p : ℕ) → n ≤ 11 → p ≤ 256 → Small (fault n p)
-small n p a b = record { number = a; place = b }
-
-none-small : Small none
-none-small = small 0 0 zero-le zero-le
-
-or-small : (f g : Fault) → Small f → (f .number ≡ 0 → Small g) → Small (orElse f g)
+append-near : (xs ys : List Refusal) → Near xs → (Passes xs → Near ys) → Near (xs ++ ys)
 unfolding orElse
-or-small f g a b = go (eqb (f .number) 0) refl where
-  go : (t : Bool) → eqb (f .number) 0 ≡ t → Small (cond t g f)
-  go true e = b (eqb-true (f .number) 0 e)
-  go false e = a
-
-if-small : (t : Bool) (f g : Fault) → (t ≡ true → Small f) → (t ≡ false → Small g) → Small (cond t f g)
-if-small true f g a b = a refl
-if-small false f g a b = b refl
-
--- the first of checks whose numbers are at most 11
-abbrev low : List Check → Bool
-low [] = true
-low (c ∷ cs) = leb (c .number) 11 && low cs
-
-first-low : (cs : List Check) → low cs ≡ true → firstOf cs ≤ 11
-first-low [] e = zero-le
-first-low (c ∷ cs) e =
-    either (c .applies) (leb-true (c .number) 11 (left-true (leb (c .number) 11) (low cs) e))
-    (first-low cs (right-true (leb (c .number) 11) (low cs) e))
+append-near xs ys a b = rw (first-append xs ys) (go (firstRefusal xs .applies) refl)
   where
-    either : (t : Bool) → c .number ≤ 11 → firstOf cs ≤ 11 → cond t (c .number) (firstOf cs) ≤ 11
-    either true a b = a
-    either false a b = b
+    go : (t : Bool) → firstRefusal xs .applies ≡ t → cond t (firstRefusal xs) (firstRefusal ys) .place ≤ 256
+    go true e = a
+    go false e = b e
 
-rows-small : (left : ℕ) (s : List ℕ) (k place last : ℕ) → place + left ≤ 257 → Small (rowsFault s k left place last)
-unfolding rowsFault rowFault
-rows-small zero s k place last l = none-small
-rows-small (suc left) s k place last l =
-    or-small (fault (rowFault s k last) place) (rowsFault s (k + 21) left (place + 1) (rowAt s k .id))
-    (small (rowFault s k last) place (first-low (rowChecksAt s k last) refl) (omega arith))
-    (λ z. rows-small left s (k + 21) (place + 1) (rowAt s k .id) (omega arith))
+placed-near : (p : ℕ) (cs : List Check) → p ≤ 256 → Near (placed p cs)
+unfolding firstRefusal
+placed-near p [] l = zero-le
+placed-near p (c ∷ cs) l = go (c .applies) (placed-near p cs l)
+  where
+    go : (t : Bool) → Near (placed p cs) → cond t (refusal (c .applies) (c .number) p) (firstRefusal (placed p cs)) .place ≤ 256
+    go true h = l
+    go false h = h
 
-names-small : (left : ℕ) (s c : List ℕ) (k place : ℕ) → place + left ≤ 257 → Small (namesFault s c k left place)
-unfolding namesFault
-names-small zero s c k place l = none-small
-names-small (suc left) s c k place l =
-    if-small (corrects s (rowAt c k)) (namesFault s c (k + 21) left (place + 1)) (fault 10 place)
-    (λ z. names-small left s c (k + 21) (place + 1) (omega arith)) (λ z. small 10 place (lit< tt) (omega arith))
+one-near : (b : Bool) (n : ℕ) → Near (refusal b n 0 ∷ [])
+unfolding firstRefusal
+one-near true n = zero-le
+one-near false n = zero-le
 
-pub interval-small : (s : List ℕ) → Small (intervalFault s)
-unfolding intervalFault headFault
-interval-small s =
-    or-small (fault (headFault s) 0) (rowsFault s (rowStart 0) (rowCount s) 1 0)
-    (small (headFault s) 0 (first-low (headChecks s) refl) zero-le)
-    (λ z. rows-small (rowCount s) s (rowStart 0) 1 0 (omega (arith, head-ranges (headAt s) (head-none s z .ok) .rows)))
+rows-near : (n : ℕ) (f : ℕ → List Check) → n ≤ 256 → Near (rowByRow n f)
+unfolding rowByRow firstRefusal
+rows-near zero f l = zero-le
+rows-near (suc n) f l = append-near (rowByRow n f) (placed (suc n) (f n)) (rows-near n f (omega arith)) (λ e. placed-near (suc n) (f n) l)
+
+renumbered-near : (k : ℕ) (rs : List Refusal) → Near rs → Near (renumbered k rs)
+renumbered-near k rs h = go (firstRefusal rs .applies) refl
+  where
+    go : (t : Bool) → firstRefusal rs .applies ≡ t → Near (renumbered k rs)
+    go true e = rw (renumbered-told k (firstRefusal rs .number) (firstRefusal rs .place) rs (rw (← e))) h
+    go false e = rw (passes-none (renumbered k rs) (renumbered-passes k rs e)) zero-le
+
+-- a head that passed: at most 256 rows
+head-few : (s : List ℕ) → Passes (placed 0 (headChecks s)) → rowCount s ≤ 256
+head-few s e = rows-few (headAt s) (head-passed s (passes-placed 0 (headChecks s) e) .ok)
+
+pub interval-near : (s : List ℕ) → Near (intervalOrder s)
+unfolding intervalOrder
+interval-near s =
+    append-near (placed 0 (headChecks s)) (rowsOrder (termsOf s) s headSize (rowCount s)) (placed-near 0 (headChecks s) zero-le)
+    (λ e. rows-near (rowCount s) (rowChecksOf (termsOf s) s headSize) (head-few s e))
 
 starts-few : (k : List ℕ) → correctionStarts k ≡ true → correctionCount k ≤ 256
-unfolding correctionStarts correctionHeadOk
+unfolding correctionStarts
 starts-few k e =
-    let h = correctionHeadAt k in
-    let start = leb 9 (length k) && marked k 0 letterK in
-    let ok = right-true start (correctionHeadOk h) (left-true (start && correctionHeadOk h) (eqb (length k) (correctionStart (correctionCount k))) e) in
-    leb-true (h .rows) 256
-    (right-true (leb 1 (h .rows)) (leb (h .rows) 256) (each (dayOk (h .day) ∷ quarterOk (h .quarter) ∷ within 1 256 (h .rows) ∷ []) ok 2 (lit< tt)))
+    let start = leb correctionHeadSize (length k) && marked k 0 letterK in
+    let ok = correctionHeadOk (correctionHeadAt k) in
+    let long = eqb (length k) (correctionStart (correctionCount k)) in
+    correction-few (correctionHeadAt k) (right-true start ok (left-true (start && ok) long e))
 
-eight-small : (f : Fault) → Small f → Small (asEight f)
-unfolding asEight
-eight-small f a =
-    if-small (eqb (f .number) 0) none (fault 8 (f .place)) (λ z. none-small) (λ z. small 8 (f .place) (lit< tt) (a .place))
+begun : (k : List ℕ) → Passes (refusal (not (correctionStarts k)) 8 0 ∷ []) → correctionStarts k ≡ true
+begun k e = not-false (correctionStarts k) (cons-passes (refusal (not (correctionStarts k)) 8 0) [] e .0)
 
-correction-small : (k : List ℕ) → Small (correctionFault k)
-unfolding correctionFault
-correction-small k =
-    if-small (correctionStarts k) (asEight (rowsFault k (correctionStart 0) (correctionCount k) 1 0)) (fault 8 0)
-    (λ z. eight-small (rowsFault k (correctionStart 0) (correctionCount k) 1 0) (rows-small (correctionCount k) k (correctionStart 0) 1 0 (omega (arith, starts-few k z))))
-    (λ z. small 8 0 (lit< tt) zero-le)
+correction-near : (t : Terms) (k : List ℕ) → Near (correctionOrder t k)
+unfolding correctionOrder
+correction-near t k =
+    let rows = rowsOrder t k correctionHeadSize (correctionCount k) in
+    append-near (refusal (not (correctionStarts k)) 8 0 ∷ []) (renumbered 8 rows) (one-near (not (correctionStarts k)) 8)
+    (λ e. renumbered-near 8 rows (rows-near (correctionCount k) (rowChecksOf t k correctionHeadSize) (starts-few k (begun k e))))
 
--- no fault of a correction by itself: its start is right
-starts : (k : List ℕ) → correctionFault k .number ≡ 0 → correctionStarts k ≡ true
-unfolding correctionFault
-starts k e = go (correctionStarts k) refl where
-  go : (t : Bool) → correctionStarts k ≡ t → correctionStarts k ≡ true
-  go true q = q
-  go false q = let z : _≡_ {A = ℕ} 8 0 = rw q at e in absurd (omega arith)
+-- a correction that passed by itself: at most 256 rows
+passed-few : (t : Terms) (k : List ℕ) → Passes (correctionOrder t k) → correctionCount k ≤ 256
+unfolding correctionOrder
+passed-few t k e =
+    let first = refusal (not (correctionStarts k)) 8 0 in
+    let rows = renumbered 8 (rowsOrder t k correctionHeadSize (correctionCount k)) in
+    starts-few k (begun k (append-passes (first ∷ []) rows e .0))
 
-present-small : (s k : List ℕ) → Small (presentFault s k)
-unfolding presentFault timeFault
-present-small s k =
-    or-small (correctionFault k) (orElse (timeFault s k) (namesFault s k (correctionStart 0) (correctionCount k) 1)) (correction-small k)
-    (λ z. or-small (timeFault s k) (namesFault s k (correctionStart 0) (correctionCount k) 1)
-    (if-small (sameTime s k) none (fault 9 0) (λ y. none-small) (λ y. small 9 0 (lit< tt) zero-le))
-    (λ y. names-small (correctionCount k) s k (correctionStart 0) 1 (omega (arith, starts-few k (starts k z)))))
+present-near : (s k : List ℕ) → Near (presentOrder s k)
+unfolding presentOrder besideOrder
+present-near s k =
+    let names = rowByRow (correctionCount k) (nameChecks s k) in
+    append-near (correctionOrder (termsOf s) k) (refusal (not (sameTime s k)) 9 0 ∷ names) (correction-near (termsOf s) k)
+    (λ e. append-near (refusal (not (sameTime s k)) 9 0 ∷ []) names (one-near (not (sameTime s k)) 9)
+    (λ f. rows-near (correctionCount k) (nameChecks s k) (passed-few (termsOf s) k e)))
 
-pub file-small : (s k : List ℕ) → Small (fileFault s k)
-unfolding fileFault pairFault
-file-small s k =
-    or-small (intervalFault s) (pairFault s k) (interval-small s)
-    (λ z. if-small (eqb (length k) 0) none (presentFault s k) (λ y. none-small) (λ y. present-small s k))
+pub file-near : (s k : List ℕ) → Near (fileOrder s k)
+unfolding fileOrder
+file-near s k =
+    append-near (intervalOrder s) (cond (eqb (length k) 0) [] (presentOrder s k)) (interval-near s) (λ e. go (eqb (length k) 0))
+  where
+    go : (b : Bool) → Near (cond b [] (presentOrder s k))
+    go true = unfold firstRefusal in zero-le
+    go false = present-near s k
 
--- 11 of a buffer, or nothing
-room-small : (t : Bool) → Small (cond t (fault 11 0) none)
-room-small true = small 11 0 (lit< tt) zero-le
-room-small false = none-small
+pub writer-near : (c : Contents) (room : ℕ) → Near (writerOrder c room)
+unfolding writerOrder
+writer-near c room =
+    let first = refusal (not (headOk (c .head))) 3 0 in
+    let rows = write.heldOrder c in
+    append-near (first ∷ rows) (refusal (ltb room (rowStart (c .head .rows))) 11 0 ∷ [])
+    (append-near (first ∷ []) rows (one-near (not (headOk (c .head))) 3)
+    (λ e. rows-near (c .head .rows) (rowChecksIn (termsIn (c .head)) (c .rows))
+    (rows-few (c .head) (not-false (headOk (c .head)) (cons-passes first [] e .0)))))
+    (λ e. one-near (ltb room (rowStart (c .head .rows))) 11)
 
-list-small : (left : ℕ) (rs : List Row) (i last : ℕ) → i + left ≤ 256 → Small (listFault rs i left last)
-unfolding listFault
-list-small zero rs i last l = none-small
-list-small (suc left) rs i last l =
-    let r = getD rs i zeroRow in
-    or-small (fault (firstOf (rowChecks r last)) (i + 1)) (listFault rs (i + 1) left (r .id))
-    (small (firstOf (rowChecks r last)) (i + 1) (first-low (rowChecks r last) refl) (omega arith))
-    (λ z. list-small left rs (i + 1) (r .id) (omega arith))
+settle-near : (s k : List ℕ) (room : ℕ) → Near (settleOrder s k room)
+unfolding settleOrder
+settle-near s k room =
+    append-near (fileOrder s k) (refusal (ltb room (lineStart (rowCount s))) 11 0 ∷ []) (file-near s k)
+    (λ e. one-near (ltb room (lineStart (rowCount s))) 11)
 
-pub writer-small : (c : Contents) (room : ℕ) → Small (writerFault c room)
-unfolding writerFault contentsFault
-writer-small c room =
-    or-small (contentsFault c) (cond (ltb room (rowStart (c .head .rows))) (fault 11 0) none)
-    (if-small (headOk (c .head)) (listFault (c .rows) 0 (c .head .rows) 0) (fault 3 0)
-    (λ z. list-small (c .head .rows) (c .rows) 0 0 (omega (arith, head-ranges (c .head) z .rows))) (λ z. small 3 0 (lit< tt) zero-le))
-    (λ z. room-small (ltb room (rowStart (c .head .rows))))
+settle-numbers : (s k : List ℕ) (room : ℕ) → numbersIn 1 11 (settleOrder s k room) ≡ true
+unfolding settleOrder
+settle-numbers s k room =
+    numbers-append 1 11 (fileOrder s k) (refusal (ltb room (lineStart (rowCount s))) 11 0 ∷ [])
+    (numbers-wider 1 10 11 (fileOrder s k) (lit≤ tt) (file-numbers s k)) refl
 
--- ---- the engine's answer
+-- a pair of files that nothing refuses: at most 256 rows
+settled-few : (s k : List ℕ) (room : ℕ) → Passes (settleOrder s k room) → rowCount s ≤ 256
+unfolding settleOrder fileOrder
+settled-few s k room e =
+    let files = append-passes (fileOrder s k) (refusal (ltb room (lineStart (rowCount s))) 11 0 ∷ []) e .0 in
+    few s (append-passes (intervalOrder s) (cond (eqb (length k) 0) [] (presentOrder s k)) files .0)
 
-fault-small : (s k : List ℕ) (room : ℕ) → Small (settleFault s k room)
-unfolding settleFault
-fault-small s k room =
-    or-small (fileFault s k) (cond (ltb room (lineStart (rowCount s))) (fault 11 0) none) (file-small s k)
-    (λ z. room-small (ltb room (lineStart (rowCount s))))
+-- ---- numbers and values
 
--- an interval whose fault is none has at most 256 rows
-own-few : (s : List ℕ) → intervalFault s .number ≡ 0 → rowCount s ≤ 256
-unfolding intervalFault
-own-few s z =
-    head-ranges (headAt s) (head-none s (or-none (fault (headFault s) 0) (rowsFault s (rowStart 0) (rowCount s) 1 0) z .0) .ok) .rows
+-- an answer by a list of checks fits its word, if its value fits where nothing refuses
+module _ {A : Type 0} (refuse : ℕ → ℕ → A) (done : A) (number value : A → ℕ) (given : number done ≡ 0)
+    (numbers : (a p : ℕ) → number (refuse a p) ≡ a) (places : (a p : ℕ) → value (refuse a p) ≡ p) where
+  by-list : (rs : List Refusal) → numbersIn 1 11 rs ≡ true → Near rs → (Passes rs → value done < 4294967296)
+      → Packs (number (answerBy refuse done (firstRefusal rs))) (value (answerBy refuse done (firstRefusal rs)))
+  by-list rs bound near fits = go (firstRefusal rs .applies) refl
+    where
+      go : (b : Bool) → firstRefusal rs .applies ≡ b
+          → Packs (number (answerBy refuse done (firstRefusal rs))) (value (answerBy refuse done (firstRefusal rs)))
+      go true e = rw (e, numbers, places) (record { number-fits = first-number 1 11 rs bound e .1; value-fits = omega (arith, near) })
+      go false e = rw (e, given) (record { number-fits = zero-le; value-fits = fits e })
 
-settled-few : (s k : List ℕ) (room : ℕ) → settleFault s k room .number ≡ 0 → rowCount s ≤ 256
-unfolding settleFault fileFault
-settled-few s k room z =
-    own-few s (or-none (intervalFault s) (pairFault s k) (or-none (fileFault s k) (cond (ltb room (lineStart (rowCount s))) (fault 11 0) none) z .0) .0)
-
-pub record Fits (number value : ℕ) : Type 0 where
-  pub number-fits : number ≤ 11
-  pub value-fits : value < 4294967296
-
-pub answer-fits : (s k : List ℕ) (room : ℕ) → Fits (numberOf (answerOf s k room)) (valueOf (answerOf s k room))
+pub answer-packs : (s k : List ℕ) (room : ℕ) → Packs (numberOf (answerOf s k room)) (valueOf (answerOf s k room))
 unfolding answerOf
-answer-fits s k room = go (eqb (settleFault s k room .number) 0) refl
-  where
-    go : (t : Bool) → eqb (settleFault s k room .number) 0 ≡ t
-        → Fits (numberOf (cond t (Settled (lineStart (rowCount s))) (Refused (settleFault s k room .number) (settleFault s k room .place))))
-        (valueOf (cond t (Settled (lineStart (rowCount s))) (Refused (settleFault s k room .number) (settleFault s k room .place))))
-    go true e =
-        record {
-          number-fits = zero-le;
-          value-fits = omega (arith, settled-few s k room (eqb-true (settleFault s k room .number) 0 e));
-        }
-    go false e =
-        record {
-          number-fits = fault-small s k room .number;
-          value-fits = omega (arith, fault-small s k room .place);
-        }
+answer-packs s k room =
+    by-list Answer.Refused (Answer.Settled (lineStart (rowCount s))) numberOf valueOf refl (λ a p. refl) (λ a p. refl)
+    (settleOrder s k room) (settle-numbers s k room) (settle-near s k room) (λ e. omega (arith, settled-few s k room e))
 
--- ---- reader and writer of contents
-
-if-fits : (t : Bool) (q r : Reading) → Fits (q .number) (q .place) → Fits (r .number) (r .place) → Fits (cond t q r .number) (cond t q r .place)
-if-fits true q r a b = a
-if-fits false q r a b = b
-
-pub reading-fits : (s : List ℕ) → Fits (readingOf s .number) (readingOf s .place)
+pub reading-packs : (s : List ℕ) → Packs (read.numberOf (readingOf s .verdict)) (read.valueOf (readingOf s .verdict))
 unfolding readingOf
-reading-fits s =
-    if-fits (eqb (intervalFault s .number) 0) (record { number = 0; place = 0; contents = contentsOf s })
-    (record { number = intervalFault s .number; place = intervalFault s .place; contents = zeroContents })
-    (record { number-fits = zero-le; value-fits = lit< tt })
-    (record { number-fits = interval-small s .number; value-fits = omega (arith, interval-small s .place) })
+reading-packs s =
+    by-list Verdict.Refused (Verdict.Accepted (rowCount s)) read.numberOf read.valueOf refl (λ a p. refl) (λ a p. refl)
+    (intervalOrder s) (numbers-wider 1 7 11 (intervalOrder s) (lit≤ tt) (interval-numbers s)) (interval-near s)
+    (λ e. omega (arith, few s e))
 
-written-few : (c : Contents) (room : ℕ) → writerFault c room .number ≡ 0 → c .head .rows ≤ 256
-unfolding writerFault
-written-few c room z =
-    rows-few (c .head) (contents-none c (or-none (contentsFault c) (cond (ltb room (rowStart (c .head .rows))) (fault 11 0) none) z .0) .0)
-
-pub written-fits : (c : Contents) (room : ℕ) → Fits (writtenNumber (writtenOf c room)) (writtenValue (writtenOf c room))
+pub written-packs : (c : Contents) (room : ℕ) → Packs (write.numberOf (writtenOf c room)) (write.valueOf (writtenOf c room))
 unfolding writtenOf
-written-fits c room = go (eqb (writerFault c room .number) 0) refl
-  where
-    go : (t : Bool) → eqb (writerFault c room .number) 0 ≡ t
-        → Fits (writtenNumber (cond t (written.Bytes (rowStart (c .head .rows))) (written.Refused (writerFault c room .number) (writerFault c room .place))))
-        (writtenValue (cond t (written.Bytes (rowStart (c .head .rows))) (written.Refused (writerFault c room .number) (writerFault c room .place))))
-    go true e =
-        record { number-fits = zero-le; value-fits = omega (arith, written-few c room (eqb-true (writerFault c room .number) 0 e)) }
-    go false e = record { number-fits = writer-small c room .number; value-fits = omega (arith, writer-small c room .place) }
+written-packs c room =
+    by-list Written.Refused (Written.Bytes (rowStart (c .head .rows))) write.numberOf write.valueOf refl (λ a p. refl) (λ a p. refl)
+    (writerOrder c room) (writer-numbers c room) (writer-near c room)
+    (λ e. omega (arith, rows-few (c .head) (writer-passed c room e .head)))
 
 -- ---- the row that counts
 
@@ -236,11 +208,15 @@ if-short : (t : Bool) (a b : List ℕ) → length a ≤ 21 → length b ≤ 21 �
 if-short true a b l m = l
 if-short false a b l m = m
 
+named-short : (s k : List ℕ) (id : ℕ) → length (named s k id) ≤ 21
+unfolding named
+named-short s k id =
+    if-short (ltb (inCorrection k id) (correctionCount k)) (part k (correctionStart (inCorrection k id)))
+    (cond (ltb (inInterval s id) (rowCount s)) (part s (rowStart (inInterval s id))) [])
+    (taken-short k (correctionStart (inCorrection k id)))
+    (if-short (ltb (inInterval s id) (rowCount s)) (part s (rowStart (inInterval s id))) []
+    (taken-short s (rowStart (inInterval s id))) zero-le)
+
 pub part-short : (s k : List ℕ) (id : ℕ) → length (countingBytes s k id) ≤ 21
-unfolding countingBytes named
-part-short s k id =
-    if-short (eqb (fileFault s k .number) 0) (named s k id) []
-    (if-short (ltb (inCorrection k id) (correctionCount k)) (part k (correctionStart (inCorrection k id)))
-    (cond (ltb (inInterval s id) (rowCount s)) (part s (rowStart (inInterval s id))) []) (taken-short k (correctionStart (inCorrection k id)))
-    (if-short (ltb (inInterval s id) (rowCount s)) (part s (rowStart (inInterval s id))) [] (taken-short s (rowStart (inInterval s id))) zero-le))
-    zero-le
+unfolding countingBytes
+part-short s k id = if-short (fileFault s k .applies) [] (named s k id) zero-le (named-short s k id)

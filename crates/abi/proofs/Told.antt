@@ -1,100 +1,112 @@
 -- What the exported functions answer, in the shape in which their code has it.
---   count-fits, number-fits, place-fits, and the same of reader and writer    number and value fit their word, case by case
---   part-fits                                                             so does the length of a row
---   settled-told, refused-told, bytes-told, unwritten-told                the word is that of the answer
---   unread-told, unread-buffer, read-told, read-buffer                    a file that is refused, and one that is accepted
---   short-told, short-buffer, copied-told, copied-made                    no room for the row, and room
-use Prim.Native.Nat.{ℕ, _≤_, _<_}
-use mathlib.Core.Path.{_≡_}
+--   settled-packs, refused-packs, and the same of reader and writer     number and value fit their word, case by case
+--   part-packs                                                          so does the length of a row
+--   settled-told, refused-told, bytes-told, unwritten-told              the word is that of the answer
+--   unread-told, unread-buffer, read-told, read-buffer                  a file that is refused, and one that is accepted
+--   short-told, short-buffer, copied-told, copied-made                  no room for the row, and room
+use Prim.Native.Nat.{ℕ, _≤_, _<_, zero-le}
+use mathlib.Core.Path.{_≡_, sym, ap, _∙_}
+use mathlib.Core.Bool.{true}
 use mathlib.Core.List.{List}
 use native.Mathlib.Omega.{arith}
 use lib.ListN.{length}
-use borrow.Author.Tests.{lt-ltb, le-ltb, eq-eqb, ne-eqb}
+use borrow.Author.Tests.{lt-ltb, le-ltb, ne-eqb}
+use Rattle.columns.specs.Checks.{Refusal, refusal}
+use Rattle.columns.proofs.Checks.{first-number}
 use Rattle.records.specs.Buffer.{put}
 use Rattle.files.specs.Counting.{countingBytes}
+use Rattle.files.specs.Layout.{rowCount}
+use Rattle.files.specs.Order.{intervalOrder, intervalFault}
+use Rattle.files.specs.Order as read
+use Rattle.files.proofs.Answer.{refused-of, interval-numbers}
+use Rattle.files.specs.declared.Verdict.the-variants.{Accepted, Refused}
 use Rattle.contents.specs.Content.{readingOf, writtenOf, writtenBuffer}
+use Rattle.contents.specs.Content as write
 use Rattle.contents.specs.declared.Contents.{Contents}
 use Rattle.contents.specs.declared.Reading.{Reading}
 use Rattle.contents.specs.declared.Written.{Written}
 use Rattle.contents.specs.declared.Written.the-variants as written
 use Rattle.settle.specs.Answer.{answerOf, numberOf, valueOf}
 use Rattle.settle.specs.declared.Answer.{Answer}
-use Rattle.settle.specs.declared.Answer.the-variants.{Settled, Refused}
-use Rattle.abi.specs.Packed.{packed, settled, copied, copiedBuffer, writtenNumber, writtenValue, rewritten, rewrittenBuffer}
-use Rattle.abi.proofs.Small.{Fits, answer-fits, reading-fits, written-fits, part-short}
+use Rattle.settle.specs.declared.Answer.the-variants as answer
+use Rattle.abi.specs.Packed.{packed, Packs, settled, copied, copiedBuffer, written, rewritten, rewrittenBuffer}
+use Rattle.abi.proofs.Small.{answer-packs, reading-packs, written-packs, part-short}
 
 module _ (s k : List ℕ) (room : ℕ) (a : Answer) (is : a ≡ answerOf s k room) where
-  fit : Fits (numberOf a) (valueOf a)
-  fit = rw is (answer-fits s k room)
+  packs : Packs (numberOf a) (valueOf a)
+  packs = rw is (answer-packs s k room)
 
-  pub count-fits : (count : ℕ) → a ≡ Settled count → count < 4294967296
-  count-fits count e = let f : Fits 0 count = rw e at fit in f .value-fits
+  pub settled-packs : (count : ℕ) → a ≡ answer.Settled count → Packs 0 count
+  settled-packs count e = rw e at packs
 
-  pub number-fits : (number place : ℕ) → a ≡ Refused number place → number ≤ 11
-  number-fits number place e = let f : Fits number place = rw e at fit in f .number-fits
+  pub refused-packs : (number place : ℕ) → a ≡ answer.Refused number place → Packs number place
+  refused-packs number place e = rw e at packs
 
-  pub place-fits : (number place : ℕ) → a ≡ Refused number place → place < 4294967296
-  place-fits number place e = let f : Fits number place = rw e at fit in f .value-fits
-
-  pub settled-told : (count r : ℕ) → a ≡ Settled count → r ≡ packed 0 count → r ≡ settled s k room
+  pub settled-told : (count r : ℕ) → a ≡ answer.Settled count → r ≡ packed 0 count → r ≡ settled s k room
   unfolding settled
   settled-told count r e p = rw (← is, e) p
 
-  pub refused-told : (number place r : ℕ) → a ≡ Refused number place → r ≡ packed number place → r ≡ settled s k room
+  pub refused-told : (number place r : ℕ) → a ≡ answer.Refused number place → r ≡ packed number place → r ≡ settled s k room
   unfolding settled
   refused-told number place r e p = rw (← is, e) p
 
 module _ (c : Contents) (room : ℕ) (w : Written) (is : w ≡ writtenOf c room) where
-  fit-written : Fits (writtenNumber w) (writtenValue w)
-  fit-written = rw is (written-fits c room)
+  packs-written : Packs (write.numberOf w) (write.valueOf w)
+  packs-written = rw is (written-packs c room)
 
-  pub written-count-fits : (count : ℕ) → w ≡ written.Bytes count → count < 4294967296
-  written-count-fits count e = let f : Fits 0 count = rw e at fit-written in f .value-fits
+  pub bytes-packs : (count : ℕ) → w ≡ written.Bytes count → Packs 0 count
+  bytes-packs count e = rw e at packs-written
 
-  pub written-number-fits : (number place : ℕ) → w ≡ written.Refused number place → number ≤ 11
-  written-number-fits number place e = let f : Fits number place = rw e at fit-written in f .number-fits
+  pub unwritten-packs : (number place : ℕ) → w ≡ written.Refused number place → Packs number place
+  unwritten-packs number place e = rw e at packs-written
 
-  pub written-place-fits : (number place : ℕ) → w ≡ written.Refused number place → place < 4294967296
-  written-place-fits number place e = let f : Fits number place = rw e at fit-written in f .value-fits
-
-  pub bytes-told : (count r : ℕ) → w ≡ written.Bytes count → r ≡ packed 0 count
-      → r ≡ packed (writtenNumber (writtenOf c room)) (writtenValue (writtenOf c room))
+  pub bytes-told : (count r : ℕ) → w ≡ written.Bytes count → r ≡ packed 0 count → r ≡ written c room
+  unfolding written
   bytes-told count r e p = rw (← is, e) p
 
-  pub unwritten-told : (number place r : ℕ) → w ≡ written.Refused number place → r ≡ packed number place
-      → r ≡ packed (writtenNumber (writtenOf c room)) (writtenValue (writtenOf c room))
+  pub unwritten-told : (number place r : ℕ) → w ≡ written.Refused number place → r ≡ packed number place → r ≡ written c room
+  unfolding written
   unwritten-told number place r e p = rw (← is, e) p
 
+-- a file's reading, and its verdict
 module _ (s : List ℕ) (q : Reading) (is : q ≡ readingOf s) where
-  fit-read : Fits (q .number) (q .place)
-  fit-read = rw is (reading-fits s)
+  packs-read : Packs (read.numberOf (q .verdict)) (read.valueOf (q .verdict))
+  packs-read = rw is (reading-packs s)
 
-  pub read-number-fits : q .number ≤ 11
-  read-number-fits = fit-read .number-fits
+  pub unread-packs : (number place : ℕ) → q .verdict ≡ Refused number place → Packs number place
+  unread-packs number place e = rw e at packs-read
 
-  pub read-place-fits : q .place < 4294967296
-  read-place-fits = fit-read .value-fits
+  pub unread-number : (number place : ℕ) → q .verdict ≡ Refused number place → number ≤ 11
+  unread-number number place e = unread-packs number place e .number-fits
 
-  pub unread-told : (room r : ℕ) → (q .number ≡ 0 → ⊥) → r ≡ packed (q .number) (q .place) → r ≡ rewritten s room
+  not-zero : (number place : ℕ) → q .verdict ≡ Refused number place → number ≡ 0 → ⊥
+  unfolding readingOf
+  not-zero number place e z =
+      let f : intervalFault s ≡ refusal true number place =
+      refused-of (rowCount s) number place (intervalFault s) (ap (λ (x : Reading). x .verdict) (sym is) ∙ e) in
+      let low = first-number 1 7 (intervalOrder s) (interval-numbers s) (ap (λ (r : Refusal). r .applies) f) .0 in
+      omega (arith, rw f at low)
+
+  pub unread-told : (number place room r : ℕ) → q .verdict ≡ Refused number place → r ≡ packed number place → r ≡ rewritten s room
   unfolding rewritten
-  unread-told room r bad p = rw (← is, ne-eqb (q .number) 0 bad) p
+  unread-told number place room r e p = rw (← is, e, ne-eqb number 0 (not-zero number place e)) p
 
-  pub unread-buffer : (out : List ℕ) → (q .number ≡ 0 → ⊥) → out ≡ rewrittenBuffer s out
+  pub unread-buffer : (number place : ℕ) (out : List ℕ) → q .verdict ≡ Refused number place → out ≡ rewrittenBuffer s out
   unfolding rewrittenBuffer
-  unread-buffer out bad = rw (← is, ne-eqb (q .number) 0 bad)
+  unread-buffer number place out e = rw (← is, e, ne-eqb number 0 (not-zero number place e))
 
-  pub read-told : (room r : ℕ) → q .number ≡ 0 → r ≡ packed (writtenNumber (writtenOf (q .contents) room)) (writtenValue (writtenOf (q .contents) room))
-      → r ≡ rewritten s room
+  pub read-told : (n room r : ℕ) → q .verdict ≡ Accepted n → r ≡ written (q .contents) room → r ≡ rewritten s room
   unfolding rewritten
-  read-told room r good p = rw (← is, eq-eqb (q .number) 0 good) p
+  read-told n room r e p = rw (← is, e) p
 
-  pub read-buffer : (out made : List ℕ) → q .number ≡ 0 → made ≡ writtenBuffer (q .contents) out → made ≡ rewrittenBuffer s out
+  pub read-buffer : (n : ℕ) (out made : List ℕ) → q .verdict ≡ Accepted n → made ≡ writtenBuffer (q .contents) out
+      → made ≡ rewrittenBuffer s out
   unfolding rewrittenBuffer
-  read-buffer out made good p = rw (← is, eq-eqb (q .number) 0 good) p
+  read-buffer n out made e p = rw (← is, e) p
 
 module _ (s k : List ℕ) (id : ℕ) (bytes : List ℕ) (is : bytes ≡ countingBytes s k id) where
-  pub part-fits : length bytes < 4294967296
-  part-fits = rw is (omega (arith, part-short s k id))
+  pub part-packs : Packs 0 (length bytes)
+  part-packs = rw is (record { number-fits = zero-le; value-fits = omega (arith, part-short s k id) })
 
   pub short-told : (room r : ℕ) → room < length bytes → r ≡ packed 11 0 → r ≡ copied s k id room
   unfolding copied

@@ -1,22 +1,23 @@
--- Two results that one contract of the library allows are equal: the word and the buffer at exit.
---   settled-unique, copied-unique, rewritten-unique      of wheatrudder_settle, wheatrudder_row, wheatrudder_rewrite
-use mathlib.Core.Path.{_≡_}
-use mathlib.Core.List.{List}
-use Prim.Native.Nat.{ℕ}
-use lib.ListN.{length}
-use Rattle.columns.proofs.Unique.{unique}
-use Rattle.settle.specs.Answer.{bufferAfter}
-use Rattle.abi.specs.Packed.{settled, copied, copiedBuffer, rewritten, rewrittenBuffer}
+-- The contracts of the library leave one answer: the word and the buffer at exit. Each line is of the contract itself.
+--   settle-unique, row-unique, rewrite-unique      of wheatrudder_settle, wheatrudder_row, wheatrudder_rewrite
+use mathlib.Core.Path.{_≡_, sym, _∙_}
+use denote.Ref.{now}
+use Rattle.files.proofs.Unique.{Leaves-one}
+use Rattle.abi.proofs.wheatrudder_settle.Kinds as settle-kinds
+use Rattle.abi.proofs.wheatrudder_settle.Reads as settle
+use Rattle.abi.proofs.wheatrudder_row.Kinds as row-kinds
+use Rattle.abi.proofs.wheatrudder_row.Reads as row
+use Rattle.abi.proofs.wheatrudder_rewrite.Kinds as rewrite-kinds
+use Rattle.abi.proofs.wheatrudder_rewrite.Reads as rewrite
 
-pub settled-unique : (s k out : List ℕ) (x y : ℕ) (b c : List ℕ) → x ≡ settled s k (length out) → b ≡ bufferAfter s k out
-    → y ≡ settled s k (length out) → c ≡ bufferAfter s k out → (x ≡ y) × (b ≡ c)
-settled-unique s k out x y b c e f g h = (unique (settled s k (length out)) x y e g, unique (bufferAfter s k out) b c f h)
+pub settle-unique : Leaves-one 3 settle-kinds.ps settle-kinds.r settle.Learnt
+    (λ κs x y e f. (x ≡ y) × (now (e .1 .1 .0) ≡ now (f .1 .1 .0)))
+settle-unique κs a x y e f p q = (p .0 ∙ sym (q .0), p .1 ∙ sym (q .1))
 
-pub copied-unique : (s k : List ℕ) (id : ℕ) (out : List ℕ) (x y : ℕ) (b c : List ℕ) → x ≡ copied s k id (length out)
-    → b ≡ copiedBuffer s k id out → y ≡ copied s k id (length out) → c ≡ copiedBuffer s k id out → (x ≡ y) × (b ≡ c)
-copied-unique s k id out x y b c e f g h =
-    (unique (copied s k id (length out)) x y e g, unique (copiedBuffer s k id out) b c f h)
+pub row-unique : Leaves-one 2 row-kinds.ps row-kinds.r row.Learnt
+    (λ κs x y e f. (x ≡ y) × (now (e .1 .1 .1 .0) ≡ now (f .1 .1 .1 .0)))
+row-unique κs a x y e f p q = (p .0 ∙ sym (q .0), p .1 ∙ sym (q .1))
 
-pub rewritten-unique : (s out : List ℕ) (x y : ℕ) (b c : List ℕ) → x ≡ rewritten s (length out) → b ≡ rewrittenBuffer s out
-    → y ≡ rewritten s (length out) → c ≡ rewrittenBuffer s out → (x ≡ y) × (b ≡ c)
-rewritten-unique s out x y b c e f g h = (unique (rewritten s (length out)) x y e g, unique (rewrittenBuffer s out) b c f h)
+pub rewrite-unique : Leaves-one 2 rewrite-kinds.ps rewrite-kinds.r rewrite.Learnt
+    (λ κs x y e f. (x ≡ y) × (now (e .1 .0) ≡ now (f .1 .0)))
+rewrite-unique κs a x y e f p q = (p .0 ∙ sym (q .0), p .1 ∙ sym (q .1))

@@ -1,19 +1,25 @@
 -- The library's answers to C: a number and a value in one word of 64 bits, and the buffers afterwards (01, The files; Numbers of refusal).
-use Prim.Native.Nat.{ℕ, _+_, _*_}
+use Prim.Native.Nat.{ℕ, _+_, _*_, _≤_, _<_}
 use mathlib.Core.Bool.{cond}
 use mathlib.Core.List.{List}
 use lib.Dec.{ltb, eqb}
 use lib.ListN.{length}
 use Rattle.records.specs.Buffer.{put}
 use Rattle.files.specs.Counting.{countingBytes}
+use Rattle.files.specs.Order as reading
 use Rattle.contents.specs.Content.{readingOf, writtenOf, writtenBuffer}
-use Rattle.contents.specs.declared.Written.{Written}
-use Rattle.contents.specs.declared.Written.the-variants.{Bytes, Refused}
+use Rattle.contents.specs.Content as writing
+use Rattle.contents.specs.declared.Contents.{Contents}
 use Rattle.settle.specs.Answer.{answerOf, numberOf, valueOf}
 
 -- the number in the upper 32 bits, the value in the lower
 abbrev pub packed : ℕ → ℕ → ℕ
 packed number value = number * 4294967296 + value
+
+-- what fits such a word: the numbers of refusal end at 11
+pub record Packs (number value : ℕ) : Type 0 where
+  pub number-fits : number ≤ 11
+  pub value-fits : value < 4294967296
 
 -- the engine's answer: 0 and the count of bytes, or the refusal's number and place
 unfoldable pub settled : List ℕ → List ℕ → ℕ → ℕ
@@ -32,23 +38,20 @@ copiedBuffer s k id out =
     let part = countingBytes s k id in
     cond (ltb (length out) (length part)) out (put out 0 part)
 
--- the writer's number and value: 0 and the count of bytes, or the refusal's number and place
-abbrev pub writtenNumber : Written → ℕ
-writtenNumber (Bytes count) = 0
-writtenNumber (Refused number place) = number
-
-abbrev pub writtenValue : Written → ℕ
-writtenValue (Bytes count) = count
-writtenValue (Refused number place) = place
+-- the writer's answer: 0 and the count of bytes, or the refusal's number and place
+unfoldable pub written : Contents → ℕ → ℕ
+written c room =
+    let w = writtenOf c room in
+    packed (writing.numberOf w) (writing.valueOf w)
 
 -- contents read, then written: the reader's refusal if there is one, else the writer's answer
 unfoldable pub rewritten : List ℕ → ℕ → ℕ
 rewritten s room =
     let r = readingOf s in
-    let w = writtenOf (r .contents) room in
-    cond (eqb (r .number) 0) (packed (writtenNumber w) (writtenValue w)) (packed (r .number) (r .place))
+    let v = r .verdict in
+    cond (eqb (reading.numberOf v) 0) (written (r .contents) room) (packed (reading.numberOf v) (reading.valueOf v))
 
 unfoldable pub rewrittenBuffer : List ℕ → List ℕ → List ℕ
 rewrittenBuffer s out =
     let r = readingOf s in
-    cond (eqb (r .number) 0) (writtenBuffer (r .contents) out) out
+    cond (eqb (reading.numberOf (r .verdict)) 0) (writtenBuffer (r .contents) out) out

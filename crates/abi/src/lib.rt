@@ -3,18 +3,18 @@
 // refusal, and the value is its place (01, Numbers of refusal).
 use contents::Contents;
 use contents::Written;
+use files::Verdict;
 use records::put_bytes;
 use settle::Answer;
 ghost use mathlib.Core.Path.{_≡_};
-ghost use Prim.Native.Nat.{_≤_, _<_};
 ghost use lib.ListN.{length};
 ghost use Rattle.settle.specs.Answer.{bufferAfter};
-ghost use Rattle.contents.specs.Content.{writtenOf, writtenBuffer};
-ghost use Rattle.abi.specs.Packed.{packed, settled, copied, copiedBuffer, writtenNumber, writtenValue, rewritten, rewrittenBuffer};
+ghost use Rattle.contents.specs.Content.{writtenBuffer};
+ghost use Rattle.abi.specs.Packed.{packed, Packs, settled, copied, copiedBuffer, written, rewritten, rewrittenBuffer};
 
 // Number and value in one word.
 fn pack(number: usize, value: usize) -> u64
-    requires { ⌜ (number ≤ 11) × (value < 4294967296) ⌝ }
+    requires { ⌜ Packs number value ⌝ }
     ensures { λ r. ⌜ r ≡ packed number value ⌝ }
 {
     (number as u64) * 4294967296 + (value as u64)
@@ -58,7 +58,7 @@ pub extern "C" fn wheatrudder_row<'a>(
 
 // Contents written, answered in one word.
 fn write(contents: Contents, out: &mut [u8]) -> u64
-    ensures { λ r. ⌜ r ≡ packed (writtenNumber (writtenOf contents (length (now (out .entry))))) (writtenValue (writtenOf contents (length (now (out .entry))))) ⌝ }
+    ensures { λ r. ⌜ r ≡ written contents (length (now (out .entry))) ⌝ }
     ensures { λ r. ⌜ now (out .exit) ≡ writtenBuffer contents (now (out .entry)) ⌝ }
 {
     let written = contents::write(contents, out);
@@ -75,8 +75,9 @@ pub extern "C" fn wheatrudder_rewrite(interval: &[u8], out: &mut [u8]) -> u64
     ensures { λ r. ⌜ now (out .exit) ≡ rewrittenBuffer (now (interval .entry)) (now (out .entry)) ⌝ }
 {
     let reading = contents::read(interval);
-    if reading.number != 0 {
-        return pack(reading.number, reading.place);
+    let verdict = reading.verdict;
+    match verdict {
+        Verdict::Refused(number, place) => pack(number, place),
+        Verdict::Accepted(_) => write(reading.contents, out),
     }
-    write(reading.contents, out)
 }

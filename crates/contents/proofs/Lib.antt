@@ -1,7 +1,10 @@
 pub mod Record
 pub mod Rows
 pub mod Refusal
-pub mod RoundTrip
 pub mod Walk
+pub mod Said
+pub mod Made
+pub mod RoundTrip
 pub mod Answered
 pub mod Figures
+pub mod Unique

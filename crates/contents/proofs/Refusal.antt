@@ -1,82 +1,147 @@
--- The first fault of rows: what it says when there is none, and that a file's rows and a list's rows have the same one.
---   list-valid    a list's rows without fault pass their ranges
---   rows-agree    rows of a file with the right marks have the fault that the same rows have in a list
---   head-none     a head without fault: long enough, marked, within its ranges, and the file as long as it says
-use mathlib.Core.Path.{_≡_, refl, _∙_}
-use mathlib.Core.Bool.{true}
-use mathlib.Core.List.{List}
-use Prim.Native.Nat.{ℕ, zero, suc, _+_, _≤_, _<_}
-use native.Mathlib.Nat.{add-zero}
+-- The writer's refusals: 3, then 6 and 7 row by row, then 11, as one ordered list of checks.
+--   number-zero, zero-number           the answer's number is 0 exactly if no check applies
+--   number-earliest, earliest-number   it is a ≠ 0 with place p exactly if the first check that applies has them
+--   writer-numbers                     every number of the list is from 1 to 11
+--   head-refuses, rows-refuse, room-decides      what refuses, as far as the checks have come
+--   writer-passed, in-range-passes     contents that nothing refuses: what that gives, and contents in range are such
+--   unwritten-of, written-of           what an answer says of the list
+use mathlib.Core.Path.{_≡_, refl, ap, _∙_}
+use mathlib.Core.Bool.{true, false, not}
+use mathlib.Core.List.{List, [], _∷_, _++_}
+use Prim.Native.Nat.{ℕ, zero, suc, _≤_, _<_}
+use native.Mathlib.Numerals.{add-one}
 use native.Mathlib.Omega.{arith}
-use borrow.Author.Tests.{not-false, ltb-false, eqb-true}
-use lib.Dec.{eqb, lit<}
-use lib.ListN.{length, getD}
-use Rattle.columns.specs.Table.{Below}
-use Rattle.columns.specs.Test.{firstOf}
-use Rattle.columns.proofs.First.{none-applies}
-use Rattle.files.specs.Layout.{marked, letterH, letterR, rowStart, headAt, rowAt, rowCount}
+use borrow.Author.Tests.{not-false, le-ltb, lt-leb, ltb-false}
+use lib.Dec.{T, ltb}
+use lib.ListN.{getD}
+use Rattle.columns.specs.Test.{Check, firstOf}
+use Rattle.columns.specs.Checks.{Refusal, refusal, none, firstRefusal, rowByRow, previous, numbersIn, Earliest, NoneApplies, Tells}
+use Rattle.columns.proofs.First.{numbered}
+use Rattle.columns.proofs.Checks.{Passes, cons-passes, append-first, append-next, append-passes, rows-none, rows-next}
+use Rattle.columns.proofs.Checks as checks
+use Rattle.files.specs.Layout.{rowStart}
 use Rattle.files.specs.Range.{headOk, rowOk}
-use Rattle.files.specs.Fault.{fault, headChecks, headFault, rowChecks, rowFault, rowsFault}
+use Rattle.files.specs.Order.{rowChecks}
 use Rattle.files.specs.declared.Row.{Row}
-use Rattle.files.proofs.Answer.{or-none}
-use Rattle.files.proofs.Walked.{noCheck}
-use Rattle.contents.specs.Content.{zeroRow, listFault}
+use Rattle.files.specs.declared.Terms.{Terms}
+use Rattle.files.proofs.Ranges.{row-ranges}
+use Rattle.contents.specs.Content.{zeroRow, idIn, termsIn, rowChecksIn, heldOrder}
+use Rattle.contents.specs.Content.{writerOrder, writerFault, writtenOf, numberOf, valueOf}
+use Rattle.contents.specs.InRange.{InRange}
+use Rattle.contents.specs.declared.Contents.{Contents}
+use Rattle.contents.specs.declared.Written.{Written}
+use Rattle.contents.specs.declared.Written.the-variants.{Bytes, Refused}
 
-pub row-none : (r : Row) (last : ℕ) → firstOf (rowChecks r last) ≡ 0 → rowOk r ≡ true
-row-none r last e = not-false (rowOk r) (none-applies noCheck (rowChecks r last) tt e 0 (lit< tt))
+-- ---- the first check that applies
 
--- a fact of the first position and of each later one
-front : (P : ℕ → Type 0) (n : ℕ) → P 0 → Below n (λ j. P (suc j)) → Below (suc n) P
-front P n first later zero l = first
-front P n first later (suc j) l = later j (omega arith)
+-- 11, the list's end
+abbrev eleven : Contents → ℕ → List Refusal
+eleven c room = refusal (ltb room (rowStart (c .head .rows))) 11 0 ∷ []
 
-pub list-valid : (rs : List Row) (i left last : ℕ) → listFault rs i left last .number ≡ 0
-    → Below left (λ j. rowOk (getD rs (i + j) zeroRow) ≡ true)
-unfolding listFault
-list-valid rs i zero last e = λ j l. absurd (omega arith)
-list-valid rs i (suc left) last e =
-    let r = getD rs i zeroRow in
-    let p = or-none (fault (firstOf (rowChecks r last)) (i + 1)) (listFault rs (i + 1) left (r .id)) e in
-    front (λ j. rowOk (getD rs (i + j) zeroRow) ≡ true) left
-    (rw (add-zero i) (row-none r last (p .0)))
-    (λ j l.
-    let there : i + suc j ≡ i + 1 + j = omega arith in
-    rw there (list-valid rs (i + 1) left (r .id) (p .1) j l))
+pub head-refuses : (c : Contents) (room : ℕ) → headOk (c .head) ≡ false → writerFault c room ≡ refusal true 3 0
+unfolding writerOrder firstRefusal
+head-refuses c room e = rw e
 
-marked-fault : (s : List ℕ) (k last : ℕ) → marked s k letterR ≡ true → rowFault s k last ≡ firstOf (rowChecks (rowAt s k) last)
-unfolding rowFault
-marked-fault s k last m = rw m
+module _ (c : Contents) (room : ℕ) (ok : headOk (c .head) ≡ true) where
+  rows-next-told : writerFault c room ≡ firstRefusal (heldOrder c ++ eleven c room)
+  unfolding writerOrder firstRefusal
+  rows-next-told = rw ok
 
--- row j of a file is row j of a list, with the right mark
-pub record SameRow (s : List ℕ) (rs : List Row) (j : ℕ) : Type 0 where
-  pub mark : marked s (rowStart j) letterR ≡ true
-  pub row : rowAt s (rowStart j) ≡ getD rs j zeroRow
+  pub rows-refuse : (a p : ℕ) → firstRefusal (heldOrder c) ≡ refusal true a p → writerFault c room ≡ refusal true a p
+  rows-refuse a p e = rows-next-told ∙ append-first (heldOrder c) (eleven c room) (ap (λ (r : Refusal). r .applies) e) ∙ e
 
-pub rows-agree : (s : List ℕ) (rs : List Row) (i left last : ℕ)
-    → ((j : ℕ) → i ≤ j → j < i + left → SameRow s rs j)
-    → rowsFault s (rowStart i) left (i + 1) last ≡ listFault rs i left last
-unfolding rowsFault listFault
-rows-agree s rs i zero last same = refl
-rows-agree s rs i (suc left) last same =
-    let here = same i (omega arith) (omega arith) in
-    let next : rowStart i + 21 ≡ rowStart (i + 1) = omega arith in
-    let first : rowFault s (rowStart i) last ≡ firstOf (rowChecks (getD rs i zeroRow) last) =
-    marked-fault s (rowStart i) last (here .mark) ∙ rw (here .row) in
-    rw (first, next, here .row, rows-agree s rs (i + 1) left (getD rs i zeroRow .id) (λ j l m. same j (omega arith) (omega arith)))
+  pub room-decides : Passes (heldOrder c) → writerFault c room ≡ firstRefusal (eleven c room)
+  room-decides e = rows-next-told ∙ append-next (heldOrder c) (eleven c room) e
 
-pub record HeadNone (s : List ℕ) : Type 0 where
-  pub long : 15 ≤ length s
-  pub mark : marked s 0 letterH ≡ true
-  pub ok : headOk (headAt s) ≡ true
-  pub fits : length s ≡ rowStart (rowCount s)
+-- ---- contents that nothing refuses
 
-pub head-none : (s : List ℕ) → headFault s ≡ 0 → HeadNone s
-unfolding headFault
-head-none s e =
-    let p = none-applies noCheck (headChecks s) tt e in
+pub record Writable (c : Contents) (room : ℕ) : Type 0 where
+  pub head : headOk (c .head) ≡ true
+  pub rows : Passes (heldOrder c)
+  pub roomy : rowStart (c .head .rows) ≤ room
+
+pub writer-passed : (c : Contents) (room : ℕ) → Passes (writerOrder c room) → Writable c room
+unfolding writerOrder
+writer-passed c room h =
+    let first = refusal (not (headOk (c .head))) 3 0 in
+    let both = append-passes (first ∷ heldOrder c) (eleven c room) h in
+    let front = cons-passes first (heldOrder c) (both .0) in
     record {
-      long = ltb-false (length s) 15 (p 0 (lit< tt));
-      mark = not-false (marked s 0 letterH) (p 1 (lit< tt));
-      ok = not-false (headOk (headAt s)) (p 2 (lit< tt));
-      fits = eqb-true (length s) (rowStart (rowCount s)) (not-false (eqb (length s) (rowStart (rowCount s))) (p 3 (lit< tt)));
+      head = not-false (headOk (c .head)) (front .0);
+      rows = front .1;
+      roomy = ltb-false room (rowStart (c .head .rows)) (cons-passes (refusal (ltb room (rowStart (c .head .rows))) 11 0) [] (both .1) .0);
     }
+
+pub passed-writer : (c : Contents) (room : ℕ) → Writable c room → writerFault c room ≡ none
+unfolding firstRefusal
+passed-writer c room w = room-decides c room (w .head) (w .rows) ∙ rw (le-ltb room (rowStart (c .head .rows)) (w .roomy))
+
+-- rows of which each passes
+pub rows-all : (f : ℕ → List Check) (n : ℕ) → ((i : ℕ) → T (numbered (f i))) → ((i : ℕ) → i < n → firstOf (f i) ≡ 0) → Passes (rowByRow n f)
+rows-all f zero t h = rows-none f
+rows-all f (suc n) t h = rw (← add-one n) (rows-next f n (t n) (rows-all f n t (λ i l. h i (omega arith))) (h n (omega arith)))
+
+pub row-passes : (t : Terms) (r : Row) (last : ℕ) → rowOk t r ≡ true → last < r .id → firstOf (rowChecks t r last) ≡ 0
+unfolding rowChecks
+row-passes t r last ok rises = rw (ok, lt-leb (r .id) last rises)
+
+pub list-passes : (t : Terms) (rs : List Row) (n : ℕ) → ((i : ℕ) → i < n → rowOk t (getD rs i zeroRow) ≡ true)
+    → ((i : ℕ) → i < n → previous (idIn rs) i < idIn rs i) → Passes (rowByRow n (rowChecksIn t rs))
+unfolding rowChecksIn rowChecks
+list-passes t rs n ok rises =
+    rows-all (rowChecksIn t rs) n (λ i. tt) (λ i l. row-passes t (getD rs i zeroRow) (previous (idIn rs) i) (ok i l) (rises i l))
+
+module _ (c : Contents) (c-in : InRange c) where
+  pub rising-ids : (i : ℕ) → i < c .head .rows → previous (idIn (c .rows)) i < idIn (c .rows) i
+  unfolding previous
+  rising-ids zero l = row-ranges (termsIn (c .head)) (getD (c .rows) 0 zeroRow) (c-in .rows 0 l) .id
+  rising-ids (suc i) l = rw (add-one i) at (c-in .rising i (omega arith))
+
+  pub in-range-writable : (room : ℕ) → rowStart (c .head .rows) ≤ room → Writable c room
+  in-range-writable room h =
+      record { head = c-in .head; rows = list-passes (termsIn (c .head)) (c .rows) (c .head .rows) (c-in .rows) rising-ids; roomy = h }
+
+-- ---- the answer
+
+apart : (n a p : ℕ) → Refused a p ≡ Bytes n → ⊥
+apart n a p e = let z : _≡_ {A = ℕ} 0 1 = cc in omega arith
+
+module _ (c : Contents) (room : ℕ) where
+  -- the answer where nothing refuses
+  abbrev done : Written
+  done = Bytes (rowStart (c .head .rows))
+
+  tells : Tells Refused done numberOf valueOf
+  tells = record { given = refl; numbers = λ a p. refl; places = λ a p. refl; differs = apart (rowStart (c .head .rows)) }
+
+  pub unwritten-of : (a p : ℕ) → writtenOf c room ≡ Refused a p → writerFault c room ≡ refusal true a p
+  unfolding writtenOf
+  unwritten-of = checks.refused-of Refused done numberOf valueOf tells (writerFault c room)
+
+  pub written-of : (n : ℕ) → writtenOf c room ≡ Bytes n → Passes (writerOrder c room)
+  unfolding writtenOf
+  written-of n h = checks.accepted-of Refused done (writerFault c room) (Bytes n) (apart n) h .0
+
+  pub writer-numbers : numbersIn 1 11 (writerOrder c room) ≡ true
+  unfolding writerOrder rowChecksIn rowChecks
+  writer-numbers =
+      checks.numbers-append 1 11 (refusal (not (headOk (c .head))) 3 0 ∷ heldOrder c) (eleven c room)
+      (checks.numbers-rows 1 11 (c .head .rows) (rowChecksIn (termsIn (c .head)) (c .rows)) (λ i. refl)) refl
+
+  pub number-zero : numberOf (writtenOf c room) ≡ 0 → NoneApplies (writerOrder c room)
+  unfolding writtenOf
+  number-zero = checks.zero-none Refused done numberOf valueOf tells (writerOrder c room) 11 writer-numbers
+
+  pub zero-number : NoneApplies (writerOrder c room) → numberOf (writtenOf c room) ≡ 0
+  unfolding writtenOf
+  zero-number = checks.none-zero Refused done numberOf valueOf tells (writerOrder c room) 11 writer-numbers
+
+  pub number-earliest : (a p : ℕ) → (a ≡ 0 → ⊥) → numberOf (writtenOf c room) ≡ a → valueOf (writtenOf c room) ≡ p
+      → Earliest (writerOrder c room) a p
+  unfolding writtenOf
+  number-earliest = checks.number-earliest Refused done numberOf valueOf tells (writerOrder c room) 11 writer-numbers
+
+  pub earliest-number : (a p : ℕ) → Earliest (writerOrder c room) a p
+      → (numberOf (writtenOf c room) ≡ a) × (valueOf (writtenOf c room) ≡ p)
+  unfolding writtenOf
+  earliest-number = checks.earliest-number Refused done numberOf valueOf tells (writerOrder c room) 11 writer-numbers

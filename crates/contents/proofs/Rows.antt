@@ -1,123 +1,114 @@
--- The bytes of rows one after the other, and of whole contents: lengths, and where each row stands.
---   rows-append       the bytes of joined lists are the joined bytes
---   rows-length       21 bytes a row
---   contents-length   contents with enough rows make a file as long as their head says
+-- Records one after the other, and the file that contents make.
+--   records-mark      each of the records has its mark
+--   records-write     records read from bytes, written again, are the same bytes
+--   contents-length   the file that contents make is as long as their head says
 --   contents-head, contents-mark, contents-row, contents-row-mark
---                     the file that contents make has their head and each row at its place, each with its mark
---   rows-write        rows read from a file, written again, are the same bytes of it
+--                     it has their head and each row at its place, each with its mark
 use mathlib.Core.Path.{_≡_, refl, sym, ap, _∙_}
 use mathlib.Core.Bool.{true}
-use mathlib.Core.List.{List, [], _∷_, _++_, append-assoc, append-nil}
+use mathlib.Core.List.{List, [], _∷_, _++_, append-nil}
 use Prim.Native.Nat.{ℕ, zero, suc, _+_, _*_, _≤_, _<_}
+use native.Mathlib.Nat.{add-assoc}
 use native.Mathlib.Omega.{arith}
+use borrow.Author.Tests.{eq-eqb}
 use lib.ListN.{length, getD, take, drop, length-append}
-use lib.Seq.{length-take-le, take-add, drop-drop, drop-at, getD-take}
-use Rattle.records.specs.Number.{numberBytes}
+use lib.Seq.{take-add, drop-drop, drop-at, getD-drop}
 use Rattle.columns.specs.Table.{table, Below}
-use Rattle.files.specs.Layout.{marked, letterH, letterR, rowStart, headAt, headBytes, rowAt, rowBytes}
-use Rattle.files.specs.declared.Row.{Row}
-use Rattle.contents.specs.Content.{zeroRow, rowsBytes, contentsBytes}
+use Rattle.columns.proofs.Table.{table-length, table-at}
+use Rattle.records.specs.Record.{marked, recordSize, recordAt, recordBytes, recordsBytes, Fits}
+use Rattle.records.proofs.Record.{record-length, record-read, record-write}
+use Rattle.records.proofs.Sheet.{records-joined, lines-length, lines-read}
+use Rattle.files.specs.Layout.{letterH, letterR, headWidths, rowWidths, headSize, rowStart}
+use Rattle.files.specs.Layout.{headAt, headOf, headBytes, headFields, rowAt, rowOf}
+use Rattle.contents.specs.Content.{zeroRow, fieldsIn, contentsBytes}
 use Rattle.contents.specs.declared.Contents.{Contents}
-use Rattle.contents.proofs.Record.{HeadFits, RowFits, head-length, row-length, head-read, row-read, row-shift, mark-shift, row-write}
 
-pub rows-append : (rs ts : List Row) → rowsBytes (rs ++ ts) ≡ rowsBytes rs ++ rowsBytes ts
-unfolding rowsBytes
-rows-append [] ts = refl
-rows-append (r ∷ rs) ts = rw (rows-append rs ts, append-assoc)
+-- ---- records
 
-pub rows-length : (rs : List Row) → length (rowsBytes rs) ≡ length rs * 21
-unfolding rowsBytes
-rows-length [] = refl
-rows-length (r ∷ rs) = omega (arith, length-append (rowBytes r) (rowsBytes rs), row-length r, rows-length rs)
+mark-shift : (s : List ℕ) (n k letter : ℕ) → marked (drop n s) k letter ≡ marked s (n + k) letter
+mark-shift s n k letter = rw (getD-drop n s k 0, getD-drop n s (k + 1) 0, add-assoc n k 1)
 
-pub contents-length : (c : Contents) → c .head .rows ≤ length (c .rows) → length (contentsBytes c) ≡ rowStart (c .head .rows)
-unfolding contentsBytes
-contents-length c h =
-    let rs = take (c .head .rows) (c .rows) in
-    omega (
-      arith,
-      length-append (headBytes (c .head)) (rowsBytes rs),
-      head-length (c .head),
-      rows-length rs,
-      length-take-le (c .head .rows) (c .rows) h,
-    )
+-- a mark behind a run of bytes
+mark-behind : (a b : List ℕ) (n k letter : ℕ) → length a ≡ n → marked (a ++ b) (n + k) letter ≡ marked b k letter
+mark-behind a b n k letter e = sym (mark-shift (a ++ b) n k letter) ∙ ap (λ (s : List ℕ). marked s k letter) (drop-at a b n e)
 
--- row k stands 21 bytes after row k - 1, with its mark
-next-start : (k : ℕ) → suc k * 21 ≡ 21 + k * 21
-next-start k = omega arith
+first-mark : (letter : ℕ) (ws xs b : List ℕ) → marked (recordBytes letter ws xs ++ b) 0 letter ≡ true
+unfolding recordBytes
+first-mark letter ws xs b = eq-eqb letter letter refl
 
-rows-at : (rs : List Row) (k : ℕ) → k < length rs → ((i : ℕ) → i < length rs → RowFits (getD rs i zeroRow))
-    → rowAt (rowsBytes rs) (k * 21) ≡ getD rs k zeroRow
-unfolding rowsBytes
-rows-at [] k h fits = absurd (omega arith)
-rows-at (r ∷ rs) zero h fits = row-read r (rowsBytes rs) (fits 0 (omega arith))
-rows-at (r ∷ rs) (suc k) h fits =
-    rw (
-      next-start k,
-      ← row-shift (rowBytes r ++ rowsBytes rs) 21 (k * 21),
-      drop-at (rowBytes r) (rowsBytes rs) 21 (row-length r),
-    )
-    (rows-at rs k (omega arith) (λ i l. fits (suc i) (omega arith)))
+pub records-mark : (letter : ℕ) (ws : List ℕ) (xss : List (List ℕ)) (k : ℕ) → Below (length xss) (λ i. length (getD xss i []) ≡ length ws)
+    → k < length xss → marked (recordsBytes letter ws xss) (k * recordSize ws) letter ≡ true
+unfolding recordsBytes
+records-mark letter ws [] k h l = absurd (omega arith)
+records-mark letter ws (xs ∷ xss) zero h l =
+    let here : 0 * recordSize ws ≡ 0 = omega arith in
+    rw here (first-mark letter ws xs (recordsBytes letter ws xss))
+records-mark letter ws (xs ∷ xss) (suc k) h l =
+    let there : suc k * recordSize ws ≡ recordSize ws + k * recordSize ws = omega arith in
+    rw there
+    (mark-behind (recordBytes letter ws xs) (recordsBytes letter ws xss) (recordSize ws) (k * recordSize ws) letter
+    (record-length letter ws xs (h 0 (omega arith)))
+    ∙ records-mark letter ws xss k (λ i q. h (suc i) (omega arith)) (omega arith))
 
-first-mark : (r : Row) (b : List ℕ) → marked (rowBytes r ++ b) 0 letterR ≡ true
-unfolding rowBytes numberBytes
-first-mark r b = refl
+one-record : (letter : ℕ) (ws xs : List ℕ) → recordsBytes letter ws (xs ∷ []) ≡ recordBytes letter ws xs
+unfolding recordsBytes
+one-record letter ws xs = append-nil (recordBytes letter ws xs)
 
-rows-mark : (rs : List Row) (k : ℕ) → k < length rs → marked (rowsBytes rs) (k * 21) letterR ≡ true
-unfolding rowsBytes
-rows-mark [] k h = absurd (omega arith)
-rows-mark (r ∷ rs) zero h = first-mark r (rowsBytes rs)
-rows-mark (r ∷ rs) (suc k) h =
-    rw (
-      next-start k,
-      ← mark-shift (rowBytes r ++ rowsBytes rs) 21 (k * 21) letterR,
-      drop-at (rowBytes r) (rowsBytes rs) 21 (row-length r),
-    )
-    (rows-mark rs k (omega arith))
+pub records-write : (letter : ℕ) (ws s : List ℕ) (start n : ℕ) → ((i : ℕ) → getD s i 0 < 256) → start + n * recordSize ws ≤ length s
+    → Below n (λ i. marked s (start + i * recordSize ws) letter ≡ true)
+    → recordsBytes letter ws (table n (λ i. recordAt ws s (start + i * recordSize ws))) ≡ take (n * recordSize ws) (drop start s)
+unfolding table
+records-write letter ws s start zero small h marks = let none : 0 * recordSize ws ≡ 0 = omega arith in rw none (unfold recordsBytes in refl)
+records-write letter ws s start (suc n) small h marks =
+    let size = recordSize ws in
+    let last = recordAt ws s (start + n * size) in
+    let front = table n (λ i. recordAt ws s (start + i * size)) in
+    let ih = records-write letter ws s start n small (omega arith) (λ i l. marks i (omega arith)) in
+    let here : recordBytes letter ws last ≡ take size (drop (n * size) (drop start s)) =
+    record-write letter ws s (start + n * size) small (omega arith) (marks n (omega arith))
+    ∙ ap (take size) (sym (drop-drop (n * size) start s)) in
+    let more : suc n * size ≡ n * size + size = omega arith in
+    records-joined letter ws front (last ∷ [])
+    ∙ rw (more, ih, one-record letter ws last, here) (sym (take-add (n * size) size (drop start s)))
 
-pub contents-head : (c : Contents) → HeadFits (c .head) → headAt (contentsBytes c) ≡ c .head
-unfolding contentsBytes
-contents-head c f = head-read (c .head) (rowsBytes (take (c .head .rows) (c .rows))) f
+-- ---- the file that contents make
 
-pub contents-mark : (c : Contents) → marked (contentsBytes c) 0 letterH ≡ true
-unfolding contentsBytes headBytes numberBytes
-contents-mark c = refl
+module _ (c : Contents) where
+  -- its rows
+  abbrev rows : List ℕ
+  rows = recordsBytes letterR rowWidths (table (c .head .rows) (fieldsIn (c .rows)))
 
-module _ (c : Contents) (enough : c .head .rows ≤ length (c .rows)) where
-  taken : length (take (c .head .rows) (c .rows)) ≡ c .head .rows
-  taken = length-take-le (c .head .rows) (c .rows) enough
+  rows-length : length rows ≡ c .head .rows * recordSize rowWidths
+  rows-length = lines-length letterR rowWidths (c .head .rows) (fieldsIn (c .rows)) (λ i. refl)
 
-  rest : drop 15 (contentsBytes c) ≡ rowsBytes (take (c .head .rows) (c .rows))
+  pub head-length : length (headBytes (c .head)) ≡ headSize
+  unfolding headBytes
+  head-length = record-length letterH headWidths (headFields (c .head)) refl
+
+  pub contents-length : length (contentsBytes c) ≡ rowStart (c .head .rows)
   unfolding contentsBytes
-  rest = drop-at (headBytes (c .head)) (rowsBytes (take (c .head .rows) (c .rows))) 15 (head-length (c .head))
+  contents-length = omega (arith, length-append (headBytes (c .head)) rows, head-length, rows-length)
+
+  pub contents-mark : marked (contentsBytes c) 0 letterH ≡ true
+  unfolding contentsBytes headBytes recordBytes
+  contents-mark = refl
+
+  pub contents-head : Fits headWidths (headFields (c .head)) → headAt (contentsBytes c) ≡ c .head
+  unfolding contentsBytes headBytes headAt
+  contents-head f = ap headOf (record-read letterH headWidths (headFields (c .head)) [] rows refl f)
 
   pub contents-row-mark : (k : ℕ) → k < c .head .rows → marked (contentsBytes c) (rowStart k) letterR ≡ true
+  unfolding contentsBytes
   contents-row-mark k l =
-      rw (← mark-shift (contentsBytes c) 15 (k * 21) letterR, rest)
-      (rows-mark (take (c .head .rows) (c .rows)) k (omega (arith, taken)))
+      let long = table-length (c .head .rows) (fieldsIn (c .rows)) in
+      mark-behind (headBytes (c .head)) rows headSize (k * recordSize rowWidths) letterR head-length
+      ∙ records-mark letterR rowWidths (table (c .head .rows) (fieldsIn (c .rows))) k
+      (λ i q. rw (table-at [] (c .head .rows) (fieldsIn (c .rows)) i (omega arith))) (omega arith)
 
-  pub contents-row : ((i : ℕ) → i < c .head .rows → RowFits (getD (c .rows) i zeroRow)) → (k : ℕ) → k < c .head .rows
+  pub contents-row : (k : ℕ) → k < c .head .rows → Fits rowWidths (fieldsIn (c .rows) k)
       → rowAt (contentsBytes c) (rowStart k) ≡ getD (c .rows) k zeroRow
-  contents-row fits k l =
-      rw (← row-shift (contentsBytes c) 15 (k * 21), rest)
-      (rows-at (take (c .head .rows) (c .rows)) k (omega (arith, taken))
-      (λ i q. rw (getD-take (c .head .rows) (c .rows) i zeroRow (omega (arith, taken))) (fits i (omega (arith, taken))))
-      ∙ getD-take (c .head .rows) (c .rows) k zeroRow l)
-
-pub one-row : (r : Row) → rowsBytes (r ∷ []) ≡ rowBytes r
-unfolding rowsBytes
-one-row r = append-nil (rowBytes r)
-
-pub rows-write : (s : List ℕ) (n : ℕ) → ((i : ℕ) → getD s i 0 < 256) → rowStart n ≤ length s
-    → Below n (λ i. marked s (rowStart i) letterR ≡ true)
-    → rowsBytes (table n (λ i. rowAt s (rowStart i))) ≡ take (n * 21) (drop 15 s)
-unfolding table rowsBytes
-rows-write s zero small h marks = refl
-rows-write s (suc n) small h marks =
-    let row = rowAt s (rowStart n) in
-    let ih = rows-write s n small (omega arith) (λ i l. marks i (omega arith)) in
-    let here : rowBytes row ≡ take 21 (drop (n * 21) (drop 15 s)) =
-    row-write s (rowStart n) small (omega arith) (marks n (omega arith)) ∙ ap (take 21) (sym (drop-drop (n * 21) 15 s)) in
-    let more : suc n * 21 ≡ n * 21 + 21 = omega arith in
-    rows-append (table n (λ i. rowAt s (rowStart i))) (row ∷ [])
-    ∙ rw (more, ih, one-row row, here) (sym (take-add (n * 21) 21 (drop 15 s)))
+  unfolding contentsBytes rowAt
+  contents-row k l f =
+      ap rowOf
+      (ap (λ (b : List ℕ). recordAt rowWidths (headBytes (c .head) ++ b) (rowStart k)) (sym (append-nil rows))
+      ∙ lines-read letterR rowWidths (c .head .rows) (fieldsIn (c .rows)) (λ i. refl) (headBytes (c .head)) [] headSize k head-length l f)

@@ -5,93 +5,91 @@
 use mathlib.Core.Path.{_≡_, refl, sym, ap, _∙_}
 use mathlib.Core.Bool.{cond}
 use mathlib.Core.Logic.{⊎-elim}
-use mathlib.Core.List.{List, _++_}
-use Prim.Native.Nat.{ℕ, suc, _+_, _-_, _*_, _≤_, _<_}
-use native.Mathlib.Numerals.{add-one}
+use mathlib.Core.List.{List}
+use Prim.Native.Nat.{ℕ, _+_, _≤_, _<_}
 use native.Mathlib.Omega.{arith}
 use lib.Dec.{ltb}
-use lib.ListN.{length, getD, set, take, length-set}
-use lib.Seq.{length-take-le, take-suc, getD-set-other}
+use lib.ListN.{length, getD, set, length-set}
+use lib.Seq.{getD-set-other}
 use borrow.Author.Tests.{lt-ltb, le-ltb}
 use Rattle.columns.specs.Table.{table, Below}
 use Rattle.columns.specs.Test.{firstOf}
-use Rattle.records.specs.Buffer.{put}
+use Rattle.columns.specs.Checks.{firstRefusal, rowByRow, previous}
 use Rattle.columns.proofs.Sum.{lt-or-le}
 use Rattle.columns.proofs.Table.{table-length, table-at, table-past, table-is}
 use Rattle.columns.proofs.Table as tables
-use Rattle.records.proofs.Buffer.{put-length, put-none, put-put}
-use Rattle.files.specs.Layout.{rowStart, headAt, rowAt, rowBytes, rowCount}
-use Rattle.files.specs.Fault.{Fault, fault, orElse, rowChecks, verdict}
+use Rattle.columns.proofs.Checks.{Passes, previous-none, previous-next, rows-none, rows-next, rows-stop}
+use Rattle.records.specs.Buffer.{put}
+use Rattle.records.specs.Record.{recordBytes}
+use Rattle.records.specs.Sheet.{sheet}
+use Rattle.records.proofs.Sheet.{sheet-none, sheet-next, sheet-length}
+use Rattle.files.specs.Layout.{letterR, rowWidths, headSize, rowStart, headAt, rowAt, rowCount}
+use Rattle.files.specs.Order.{rowChecks, verdict}
 use Rattle.files.specs.declared.Head.{Head}
 use Rattle.files.specs.declared.Row.{Row}
+use Rattle.files.specs.declared.Terms.{Terms}
 use Rattle.files.specs.declared.Verdict.the-variants.{Accepted, Refused}
-use Rattle.files.proofs.Answer.{or-first, or-next, verdict-yes, verdict-no}
-use Rattle.contents.specs.Content.{zeroRow, contentsOf, rowsBytes, listFault}
+use Rattle.contents.specs.Content.{zeroRow, contentsOf, fieldsIn, idIn, termsIn, rowChecksIn, heldOrder}
 use Rattle.contents.specs.declared.Contents.{Contents}
-use Rattle.contents.proofs.Record.{row-length}
-use Rattle.contents.proofs.Rows.{rows-append, rows-length, one-row}
 
-pub record Checked (rs : List Row) (count last i : ℕ) : Type 0 where
-  pub short : i ≤ count
-  pub is : listFault rs 0 count 0 ≡ listFault rs i (count - i) last
+pub record Checked (c : Contents) (last i : ℕ) : Type 0 where
+  pub short : i ≤ c .head .rows
+  pub before : last ≡ previous (idIn (c .rows)) i
+  pub passes : Passes (rowByRow i (rowChecksIn (termsIn (c .head)) (c .rows)))
 
-pub check-start : (rs : List Row) (count : ℕ) → Checked rs count 0 0
-check-start rs count = let all : count - 0 ≡ count = omega arith in record { short = omega arith; is = rw all }
+pub check-start : (c : Contents) → Checked c 0 0
+check-start c =
+    record { short = omega arith; before = sym (previous-none (idIn (c .rows))); passes = rows-none (rowChecksIn (termsIn (c .head)) (c .rows)) }
 
-list-step : (rs : List Row) (count last i : ℕ) → i < count
-    → listFault rs i (count - i) last
-    ≡ orElse (fault (firstOf (rowChecks (getD rs i zeroRow) last)) (i + 1)) (listFault rs (i + 1) (count - (i + 1)) (getD rs i zeroRow .id))
-unfolding listFault
-list-step rs count last i l = let more : count - i ≡ suc (count - (i + 1)) = omega arith in rw more
+module _ (c : Contents) (last i f : ℕ) (t : Terms) (w : Checked c last i) (l : i < c .head .rows) (e : t ≡ termsIn (c .head))
+    (told : f ≡ firstOf (rowChecks t (getD (c .rows) i zeroRow) last)) where
+  -- the number that the code has for row i is that of its checks
+  row-told : f ≡ firstOf (rowChecksIn (termsIn (c .head)) (c .rows) i)
+  unfolding rowChecksIn
+  row-told = rw (← e, ← w .before) told
 
-pub check-next : (rs : List Row) (count last i f : ℕ) → Checked rs count last i → i < count
-    → f ≡ firstOf (rowChecks (getD rs i zeroRow) last) → f ≡ 0 → Checked rs count (getD rs i zeroRow .id) (i + 1)
-check-next rs count last i f w l e z =
-    record { short = omega arith; is = w .is ∙ list-step rs count last i l ∙ or-next _ _ (sym e ∙ z) }
+  pub check-next : f ≡ 0 → Checked c (idIn (c .rows) i) (i + 1)
+  unfolding rowChecksIn rowChecks
+  check-next z =
+      record {
+        short = omega arith;
+        before = sym (previous-next (idIn (c .rows)) i);
+        passes = rows-next (rowChecksIn (termsIn (c .head)) (c .rows)) i tt (w .passes) (sym row-told ∙ z);
+      }
 
-pub check-stops : (rs : List Row) (count last i f : ℕ) → Checked rs count last i → i < count
-    → f ≡ firstOf (rowChecks (getD rs i zeroRow) last) → (f ≡ 0 → ⊥)
-    → Refused f (i + 1) ≡ verdict count (listFault rs 0 count 0)
-check-stops rs count last i f w l e z =
-    let is : listFault rs 0 count 0 ≡ fault f (i + 1) =
-    w .is ∙ list-step rs count last i l ∙ or-first _ _ (λ o. z (e ∙ o)) ∙ ap (λ (x : ℕ). fault x (i + 1)) (sym e) in
-    rw is (sym (verdict-no count (fault f (i + 1)) z))
+  pub check-stops : (f ≡ 0 → ⊥) → Refused f (i + 1) ≡ verdict (c .head .rows) (firstRefusal (heldOrder c))
+  check-stops z =
+      rw (rows-stop (rowChecksIn (termsIn (c .head)) (c .rows)) (c .head .rows) i f l (w .passes) row-told z)
 
-pub check-ends : (rs : List Row) (count last i : ℕ) → Checked rs count last i → count ≤ i
-    → Accepted count ≡ verdict count (listFault rs 0 count 0)
-unfolding listFault
-check-ends rs count last i w l =
-    let none : count - i ≡ 0 = omega arith in
-    let is : listFault rs 0 count 0 .number ≡ 0 = ap (λ (f : Fault). f .number) (w .is) ∙ rw none in
-    sym (verdict-yes count (listFault rs 0 count 0) is)
+pub check-ends : (c : Contents) (last i : ℕ) → Checked c last i → c .head .rows ≤ i
+    → Accepted (c .head .rows) ≡ verdict (c .head .rows) (firstRefusal (heldOrder c))
+check-ends c last i w l =
+    let e : i ≡ c .head .rows = omega (arith, w .short) in
+    rw (rw e at (w .passes))
 
 pub record Placed (l₀ : List ℕ) (rs : List Row) (count : ℕ) (l : List ℕ) (i : ℕ) : Type 0 where
   pub short : i ≤ count
   pub long : length l ≡ length l₀
-  pub is : l ≡ put l₀ 15 (rowsBytes (take i rs))
+  pub is : l ≡ sheet headSize letterR rowWidths l₀ i (fieldsIn rs)
 
 pub place-start : (l₀ : List ℕ) (rs : List Row) (count : ℕ) → Placed l₀ rs count l₀ 0
-unfolding rowsBytes
-place-start l₀ rs count = record { short = omega arith; long = refl; is = sym (put-none l₀ 15) }
+place-start l₀ rs count =
+    record { short = omega arith; long = refl; is = sym (sheet-none headSize letterR rowWidths l₀ (fieldsIn rs)) }
 
-pub place-next : (l₀ : List ℕ) (rs : List Row) (count : ℕ) (l : List ℕ) (i : ℕ) (l′ : List ℕ)
-    → Placed l₀ rs count l i → i < count → count ≤ length rs → rowStart count ≤ length l₀
-    → l′ ≡ put l (rowStart i) (rowBytes (getD rs i zeroRow)) → Placed l₀ rs count l′ (i + 1)
-place-next l₀ rs count l i l′ w h few room p =
-    let row = rowBytes (getD rs i zeroRow) in
-    let n : length (take i rs) ≡ i = length-take-le i rs (omega arith) in
-    let m : length (rowsBytes (take i rs)) ≡ i * 21 = rows-length (take i rs) ∙ ap (λ (x : ℕ). x * 21) n in
-    let width : length row ≡ 21 = row-length (getD rs i zeroRow) in
-    let more : rowsBytes (take (i + 1) rs) ≡ rowsBytes (take i rs) ++ row =
-    rw (add-one i, take-suc rs i zeroRow (omega arith), rows-append, one-row) in
+pub place-next : (l₀ : List ℕ) (rs : List Row) (count : ℕ) (l : List ℕ) (i : ℕ) (l′ xs : List ℕ)
+    → Placed l₀ rs count l i → i < count → rowStart count ≤ length l₀ → xs ≡ fieldsIn rs i
+    → l′ ≡ put l (rowStart i) (recordBytes letterR rowWidths xs) → Placed l₀ rs count l′ (i + 1)
+place-next l₀ rs count l i l′ xs w h room e p =
+    let is : l′ ≡ sheet headSize letterR rowWidths l₀ (i + 1) (fieldsIn rs) =
+    p ∙ rw (e, w .is) (sheet-next headSize letterR rowWidths l₀ i (fieldsIn rs) (λ k. refl) (omega arith)) in
     record {
       short = omega arith;
-      long = rw p (put-length l (rowStart i) row (omega (arith, w .long)) ∙ w .long);
-      is = p ∙ rw (w .is, more) (put-put l₀ 15 (rowStart i) (rowsBytes (take i rs)) row (omega arith) (omega arith));
+      long = rw is (sheet-length headSize letterR rowWidths l₀ (i + 1) (fieldsIn rs) (λ k. refl) (omega arith));
+      is = is;
     }
 
 pub place-ends : (l₀ : List ℕ) (rs : List Row) (count : ℕ) (l : List ℕ) (i : ℕ) → Placed l₀ rs count l i → count ≤ i
-    → l ≡ put l₀ 15 (rowsBytes (take count rs))
+    → l ≡ sheet headSize letterR rowWidths l₀ count (fieldsIn rs)
 place-ends l₀ rs count l i w h =
     let e : i ≡ count = omega (arith, w .short) in
     rw (← e) (w .is)

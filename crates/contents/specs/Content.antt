@@ -1,17 +1,22 @@
 -- The contents of an interval file, and the file that contents make (01, The files; the writer's refusals 3, 6, 7, 11).
-use Prim.Native.Nat.{ℕ, zero, suc, _+_}
-use mathlib.Core.Bool.{cond}
+use Prim.Native.Nat.{ℕ}
+use mathlib.Core.Bool.{cond, not}
 use mathlib.Core.List.{List, [], _∷_, _++_}
-use lib.Dec.{ltb, eqb}
-use lib.ListN.{length, getD, take}
+use lib.Dec.{ltb}
+use lib.ListN.{length, getD}
 use Rattle.columns.specs.Table.{table}
-use Rattle.columns.specs.Test.{firstOf}
+use Rattle.columns.specs.Test.{Check}
+use Rattle.columns.specs.Checks.{Refusal, refusal, firstRefusal, rowByRow, previous, answerBy}
 use Rattle.records.specs.Buffer.{put}
-use Rattle.files.specs.Layout.{rowStart, headAt, headBytes, rowAt, rowBytes, rowCount}
+use Rattle.records.specs.Record.{recordsBytes}
+use Rattle.records.specs.Sheet.{sheet}
+use Rattle.files.specs.Layout.{letterR, rowWidths, headSize, rowStart, headAt, headBytes, rowAt, rowFields, rowCount}
+use Rattle.files.specs.Terms.{terms01}
 use Rattle.files.specs.Range.{headOk}
-use Rattle.files.specs.Fault.{Fault, fault, none, orElse, rowChecks, intervalFault}
+use Rattle.files.specs.Order.{rowChecks, intervalFault, verdict}
 use Rattle.files.specs.declared.Head.{Head}
 use Rattle.files.specs.declared.Row.{Row}
+use Rattle.files.specs.declared.Terms.{Terms}
 use Rattle.contents.specs.declared.Contents.{Contents}
 use Rattle.contents.specs.declared.Reading.{Reading}
 use Rattle.contents.specs.declared.Written.{Written}
@@ -46,47 +51,64 @@ contentsOf s =
       rows = table 256 (λ i. cond (ltb i (rowCount s)) (rowAt s (rowStart i)) zeroRow);
     }
 
--- the answer of the reader of contents, on any bytes
+-- the reader's answer, on any bytes: the file's verdict, and zero contents beside a refusal
 unfoldable pub readingOf : List ℕ → Reading
 readingOf s =
     let f = intervalFault s in
-    cond (eqb (f .number) 0) (record { number = 0; place = 0; contents = contentsOf s })
-    (record { number = f .number; place = f .place; contents = zeroContents })
+    record { verdict = verdict (rowCount s) f; contents = cond (f .applies) zeroContents (contentsOf s) }
 
--- the bytes of rows, one after the other
-unfoldable pub rowsBytes : List Row → List ℕ
-rowsBytes [] = []
-rowsBytes (r ∷ rs) = rowBytes r ++ rowsBytes rs
+-- the fields of row i of a list
+abbrev pub fieldsIn : List Row → ℕ → List ℕ
+fieldsIn rs i = rowFields (getD rs i zeroRow)
 
 -- the file that contents make: the head and as many rows as it says
 unfoldable pub contentsBytes : Contents → List ℕ
-contentsBytes c = headBytes (c .head) ++ rowsBytes (take (c .head .rows) (c .rows))
+contentsBytes c = headBytes (c .head) ++ recordsBytes letterR rowWidths (table (c .head .rows) (fieldsIn (c .rows)))
 
--- 6 and 7, row by row: the first fault of the rows from i on, so many of them left
-unfoldable pub listFault : List Row → ℕ → ℕ → ℕ → Fault
-listFault rs i zero last = none
-listFault rs i (suc left) last =
-    let r = getD rs i zeroRow in
-    let next = listFault rs (i + 1) left (r .id) in
-    orElse (fault (firstOf (rowChecks r last)) (i + 1)) next
+-- a buffer with the rows of contents, behind the place of the head
+abbrev pub withRows : Contents → List ℕ → List ℕ
+withRows c out = sheet headSize letterR rowWidths out (c .head .rows) (fieldsIn (c .rows))
 
--- 3, then 6 and 7 row by row: contents by themselves
-unfoldable pub contentsFault : Contents → Fault
-contentsFault c =
-    let rows = listFault (c .rows) 0 (c .head .rows) 0 in
-    cond (headOk (c .head)) rows (fault 3 0)
+-- the terms that contents with this head are checked against
+unfoldable pub termsIn : Head → Terms
+termsIn h = terms01
 
--- 3, 6, 7, then 11: contents and the length of the buffer that they are to go into
-unfoldable pub writerFault : Contents → ℕ → Fault
-writerFault c room =
-    orElse (contentsFault c) (cond (ltb room (rowStart (c .head .rows))) (fault 11 0) none)
+-- the id of row i of a list
+abbrev pub idIn : List Row → ℕ → ℕ
+idIn rs i = getD rs i zeroRow .id
 
--- the writer's answer, and its buffer afterwards: unchanged by a refusal, and past the bytes written
+-- 6 and 7 of row i of a list
+unfoldable pub rowChecksIn : Terms → List Row → ℕ → List Check
+rowChecksIn t rs i = rowChecks t (getD rs i zeroRow) (previous (idIn rs) i)
+
+-- 6 and 7 of each of the rows of contents in turn
+abbrev pub heldOrder : Contents → List Refusal
+heldOrder c = rowByRow (c .head .rows) (rowChecksIn (termsIn (c .head)) (c .rows))
+
+-- 3, then 6 and 7 row by row, then 11: contents, and the length of the buffer that they are to go into
+unfoldable pub writerOrder : Contents → ℕ → List Refusal
+writerOrder c room =
+    (refusal (not (headOk (c .head))) 3 0 ∷ heldOrder c) ++ (refusal (ltb room (rowStart (c .head .rows))) 11 0 ∷ [])
+
+-- what refuses them: the first check that applies
+abbrev pub writerFault : Contents → ℕ → Refusal
+writerFault c room = firstRefusal (writerOrder c room)
+
+-- the writer's answer: how many bytes it wrote, or the refusal's number and place
 unfoldable pub writtenOf : Contents → ℕ → Written
-writtenOf c room =
-    let f = writerFault c room in
-    cond (eqb (f .number) 0) (Bytes (rowStart (c .head .rows))) (Refused (f .number) (f .place))
+writtenOf c room = answerBy Refused (Bytes (rowStart (c .head .rows))) (writerFault c room)
 
+-- the paper's number and value of that answer: 0 and the count of bytes, or the refusal's number and its place
+abbrev pub numberOf : Written → ℕ
+numberOf (Bytes count) = 0
+numberOf (Refused number place) = number
+
+abbrev pub valueOf : Written → ℕ
+valueOf (Bytes count) = count
+valueOf (Refused number place) = place
+
+-- the writer's buffer afterwards: the file at its front, every byte past it as before; a refusal changes nothing
 unfoldable pub writtenBuffer : Contents → List ℕ → List ℕ
 writtenBuffer c out =
-    cond (eqb (writerFault c (length out) .number) 0) (put out 0 (contentsBytes c)) out
+    let made = put out 0 (contentsBytes c) in
+    cond (writerFault c (length out) .applies) out made

@@ -1,9 +1,9 @@
 // Contents read from the bytes of an interval file.
 use crate::Contents;
-use crate::HEAD;
-use crate::ROW;
 use crate::Reading;
+use files::HEAD;
 use files::Head;
+use files::ROW;
 use files::Row;
 use files::Verdict;
 use files::head_at;
@@ -82,15 +82,14 @@ fn contents_of(s: &[u8]) -> Contents
 pub fn read(s: &[u8]) -> Reading
     ensures { λ r. ⌜ r ≡ readingOf (now (s .entry)) ⌝ }
 {
-    match interval_verdict(s) {
-        Verdict::Refused(number, place) => Reading {
-            number: number,
-            place: place,
+    let verdict = interval_verdict(s);
+    match verdict {
+        Verdict::Refused(_, _) => Reading {
+            verdict: verdict,
             contents: zero_contents(),
         },
-        Verdict::Accepted(count) => Reading {
-            number: 0,
-            place: 0,
+        Verdict::Accepted(_) => Reading {
+            verdict: verdict,
             contents: contents_of(s),
         },
     }

@@ -1,52 +1,44 @@
 // Contents written as an interval file, once the refusals 3, 6, 7 and 11 are ruled out.
 use crate::Contents;
-use crate::HEAD;
-use crate::ROW;
 use crate::Written;
+use files::HEAD;
+use files::HEAD_WIDTHS;
 use files::Head;
+use files::ROW;
+use files::ROW_WIDTHS;
 use files::Row;
+use files::TERMS_01;
+use files::Terms;
 use files::Verdict;
 use files::head_ok;
 use files::row_checks;
-use records::put_fields;
+use records::put_record;
 ghost use mathlib.Core.Path.{_≡_};
-ghost use Prim.Native.Nat.{_+_, _≤_};
-ghost use lib.ListN.{length, take};
+ghost use Prim.Native.Nat.{_≤_};
+ghost use lib.ListN.{length};
+ghost use Rattle.columns.specs.Checks.{firstRefusal};
 ghost use Rattle.records.specs.Buffer.{put};
-ghost use Rattle.files.specs.Layout.{rowStart, headBytes, rowBytes};
-ghost use Rattle.files.specs.Fault.{verdict};
-ghost use Rattle.contents.specs.Content.{rowsBytes, contentsBytes, listFault, writerFault, writtenOf, writtenBuffer};
+ghost use Rattle.files.specs.Layout.{rowStart, headFields, rowFields};
+ghost use Rattle.files.specs.Order.{verdict};
+ghost use Rattle.contents.specs.Content.{contentsBytes, withRows, termsIn, heldOrder, writtenOf, writtenBuffer};
 
-// The widths of a head's fields and of a row's, the mark as two of one byte.
-const HEAD_WIDTHS: [u8; 7] = [1, 1, 4, 1, 2, 4, 2];
-
-const ROW_WIDTHS: [u8; 11] = [1, 1, 2, 1, 2, 4, 1, 1, 4, 2, 2];
-
-// Puts a head's 15 bytes at the front of a buffer.
-fn put_head(out: &mut [u8], h: Head)
-    requires { ⌜ 15 ≤ length (now out) ⌝ }
-    ensures { λ r. ⌜ now (out .exit) ≡ put (now (out .entry)) 0 (headBytes h) ⌝ }
+// A head and a row as their fields, in the order of their tables.
+fn head_fields(h: Head) -> [u64; 5]
+    ensures { λ r. ⌜ r ≡ headFields h ⌝ }
 {
-    let fields = [
-        b'P' as u64,
-        b'H' as u64,
+    [
         h.day as u64,
         h.quarter as u64,
         h.tariff.0 as u64,
         h.need.0 as u64,
         h.rows as u64,
-    ];
-    put_fields(out, 0, &HEAD_WIDTHS, &fields);
+    ]
 }
 
-// Puts a row's 21 bytes into a buffer from a position on.
-fn put_row(out: &mut [u8], at: usize, r: Row)
-    requires { ⌜ at + 21 ≤ length (now out) ⌝ }
-    ensures { λ _. ⌜ now (out .exit) ≡ put (now (out .entry)) at (rowBytes r) ⌝ }
+fn row_fields(r: Row) -> [u64; 9]
+    ensures { λ x. ⌜ x ≡ rowFields r ⌝ }
 {
-    let fields = [
-        b'P' as u64,
-        b'R' as u64,
+    [
         r.id as u64,
         r.kind as u64,
         r.capacity as u64,
@@ -56,21 +48,29 @@ fn put_row(out: &mut [u8], at: usize, r: Row)
         r.minimum.0 as u64,
         r.bid1.0,
         r.bid2.0,
-    ];
-    put_fields(out, at, &ROW_WIDTHS, &fields);
+    ]
+}
+
+// The terms that contents with this head are checked against.
+fn terms_in(h: Head) -> Terms
+    ensures { λ r. ⌜ r ≡ termsIn h ⌝ }
+{
+    TERMS_01
 }
 
 // 6 and 7, row by row.
 fn rows_verdict(contents: Contents) -> Verdict
     requires { ⌜ contents .head .rows ≤ 256 ⌝ }
-    ensures { λ v. ⌜ v ≡ verdict (contents .head .rows) (listFault (contents .rows) 0 (contents .head .rows) 0) ⌝ }
+    ensures { λ v. ⌜ v ≡ verdict (contents .head .rows) (firstRefusal (heldOrder contents)) ⌝ }
 {
-    let count = contents.head.rows as usize;
+    let h = contents.head;
+    let terms = terms_in(h);
+    let count = h.rows as usize;
     let mut last: u16 = 0;
     let mut i = 0;
     while i < count {
         let r = contents.rows[i];
-        let f = row_checks(r, last);
+        let f = row_checks(terms, r, last);
         if f != 0 {
             return Verdict::Refused(f, i + 1);
         }
@@ -80,22 +80,22 @@ fn rows_verdict(contents: Contents) -> Verdict
     Verdict::Accepted(count)
 }
 
-// 3, 6, 7 and 11, the last by the length of the buffer; with none, how many bytes there will be.
-fn writer_verdict(contents: Contents, room: usize) -> Verdict
-    ensures { λ v. ⌜ v ≡ verdict (rowStart (contents .head .rows)) (writerFault contents room) ⌝ }
+// What the writer will answer: 3, then 6 and 7, then 11 by the room that there is; else how many bytes there will be.
+fn answer_for(contents: Contents, room: usize) -> Written
+    ensures { λ w. ⌜ w ≡ writtenOf contents room ⌝ }
 {
     let h = contents.head;
     if !head_ok(h) {
-        return Verdict::Refused(3, 0);
+        return Written::Refused(3, 0);
     }
     match rows_verdict(contents) {
-        Verdict::Refused(number, place) => Verdict::Refused(number, place),
+        Verdict::Refused(number, place) => Written::Refused(number, place),
         Verdict::Accepted(count) => {
             let needed = HEAD + count * ROW;
             if room < needed {
-                return Verdict::Refused(11, 0);
+                return Written::Refused(11, 0);
             }
-            Verdict::Accepted(needed)
+            Written::Bytes(needed)
         }
     }
 }
@@ -103,13 +103,14 @@ fn writer_verdict(contents: Contents, room: usize) -> Verdict
 // The rows of contents, each at its place.
 fn put_rows(contents: Contents, out: &mut [u8])
     requires { ⌜ (contents .head .rows ≤ 256) × (rowStart (contents .head .rows) ≤ length (now out)) ⌝ }
-    ensures { λ r. ⌜ now (out .exit) ≡ put (now (out .entry)) 15 (rowsBytes (take (contents .head .rows) (contents .rows))) ⌝ }
+    ensures { λ r. ⌜ now (out .exit) ≡ withRows contents (now (out .entry)) ⌝ }
 {
     let count = contents.head.rows as usize;
     let mut i = 0;
     while i < count {
         let r = contents.rows[i];
-        put_row(out, HEAD + i * ROW, r);
+        let fields = row_fields(r);
+        put_record(out, HEAD + i * ROW, b'R', &ROW_WIDTHS, &fields);
         i += 1;
     }
 }
@@ -120,19 +121,22 @@ fn put_contents(contents: Contents, out: &mut [u8])
     ensures { λ r. ⌜ now (out .exit) ≡ put (now (out .entry)) 0 (contentsBytes contents) ⌝ }
 {
     let h = contents.head;
-    put_head(out, h);
     put_rows(contents, out);
+    let fields = head_fields(h);
+    put_record(out, 0, b'H', &HEAD_WIDTHS, &fields);
 }
 
 // Writes contents as an interval file to the front of a lent buffer, which a refusal leaves as it is.
 pub fn write(contents: Contents, out: &mut [u8]) -> Written
-    ensures { λ r. ⌜ (r ≡ writtenOf contents (length (now (out .entry)))) × (now (out .exit) ≡ writtenBuffer contents (now (out .entry))) ⌝ }
+    ensures { λ r. ⌜ r ≡ writtenOf contents (length (now (out .entry))) ⌝ }
+    ensures { λ r. ⌜ now (out .exit) ≡ writtenBuffer contents (now (out .entry)) ⌝ }
 {
-    match writer_verdict(contents, out.len()) {
-        Verdict::Refused(number, place) => Written::Refused(number, place),
-        Verdict::Accepted(count) => {
+    let answer = answer_for(contents, out.len());
+    match answer {
+        Written::Refused(_, _) => answer,
+        Written::Bytes(_) => {
             put_contents(contents, out);
-            Written::Bytes(count)
+            answer
         }
     }
 }

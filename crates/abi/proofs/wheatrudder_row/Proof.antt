@@ -1,14 +1,16 @@
 -- `abi::wheatrudder_row` meets its contract, for a buffer that is too short and for one with room.
-use Rattle.abi.proofs.Told.{part-fits, short-told, short-buffer, copied-told, copied-made}
+use Rattle.abi.proofs.Told.{part-packs, short-told, short-buffer, copied-told, copied-made}
 use borrow.Author.Needs.{needs}
 use Rattle.abi.proofs.wheatrudder_row.Statement.{statement}
 use Rattle.abi.proofs.wheatrudder_row.Tie as tie
+
+ruleset fitting = (part-packs, needs)
 
 counting-requires : tie.Need-counting-requires
 counting-requires c κs = search needs
 
 pack-requires : tie.Need-pack-requires
-pack-requires c κs = search needs
+pack-requires c κs = search fitting
 
 returns : tie.Need-returns
 returns c = (search short-told, search short-buffer)
@@ -17,7 +19,7 @@ put-bytes-requires : tie.Need-put-bytes-requires
 put-bytes-requires c κs = search needs
 
 pack-requires-2 : tie.Need-pack-requires-2
-pack-requires-2 c κs = (search needs, search part-fits)
+pack-requires-2 c κs = search fitting
 
 same-length : tie.Need-same-length
 same-length c = search needs

@@ -1,8 +1,10 @@
 -- `abi::wheatrudder_settle` meets its contract, for a statement and for a refusal.
-use Rattle.abi.proofs.Told.{count-fits, number-fits, place-fits, settled-told, refused-told}
+use Rattle.abi.proofs.Told.{settled-packs, refused-packs, settled-told, refused-told}
 use borrow.Author.Needs.{needs}
 use Rattle.abi.proofs.wheatrudder_settle.Statement.{statement}
 use Rattle.abi.proofs.wheatrudder_settle.Tie as tie
+
+ruleset fitting = (settled-packs, refused-packs, needs)
 
 settle-requires : tie.Need-settle-requires
 settle-requires c κs = search needs
@@ -11,13 +13,13 @@ enum-known-answer : tie.Need-enum-known-answer
 enum-known-answer c = search needs
 
 pack-requires : tie.Need-pack-requires
-pack-requires c κs = (search needs, search count-fits)
+pack-requires c κs = search fitting
 
 enum-known-answer-2 : tie.Need-enum-known-answer-2
 enum-known-answer-2 c = search needs
 
 pack-requires-2 : tie.Need-pack-requires-2
-pack-requires-2 c κs = (search number-fits, search place-fits)
+pack-requires-2 c κs = search fitting
 
 same-length : tie.Need-same-length
 same-length c = search needs

@@ -1,8 +1,10 @@
 -- `abi::write` meets its contract, for bytes written and for a refusal.
-use Rattle.abi.proofs.Told.{written-count-fits, written-number-fits, written-place-fits, bytes-told, unwritten-told}
+use Rattle.abi.proofs.Told.{bytes-packs, unwritten-packs, bytes-told, unwritten-told}
 use borrow.Author.Needs.{needs}
 use Rattle.abi.proofs.write.Statement.{statement}
 use Rattle.abi.proofs.write.Tie as tie
+
+ruleset fitting = (bytes-packs, unwritten-packs, needs)
 
 write-requires : tie.Need-write-requires
 write-requires c κs = search needs
@@ -11,13 +13,13 @@ enum-known-written : tie.Need-enum-known-written
 enum-known-written c = search needs
 
 pack-requires : tie.Need-pack-requires
-pack-requires c κs = (search needs, search written-count-fits)
+pack-requires c κs = search fitting
 
 enum-known-written-2 : tie.Need-enum-known-written-2
 enum-known-written-2 c = search needs
 
 pack-requires-2 : tie.Need-pack-requires-2
-pack-requires-2 c κs = (search written-number-fits, search written-place-fits)
+pack-requires-2 c κs = search fitting
 
 same-length : tie.Need-same-length
 same-length c = search needs

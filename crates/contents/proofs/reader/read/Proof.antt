@@ -7,14 +7,14 @@ use Rattle.contents.proofs.reader.read.Tie as tie
 interval-verdict-requires : tie.Need-interval-verdict-requires
 interval-verdict-requires c κs = search needs
 
-enum-known-number : tie.Need-enum-known-number
-enum-known-number c = search needs
+enum-told : tie.Need-enum-told
+enum-told c = search needs
 
 zero-contents-requires : tie.Need-zero-contents-requires
 zero-contents-requires c κs = search needs
 
-enum-known-count : tie.Need-enum-known-count
-enum-known-count c = search needs
+enum-told-2 : tie.Need-enum-told-2
+enum-told-2 c = search needs
 
 contents-of-requires : tie.Need-contents-of-requires
 contents-of-requires c κs = (search read-few, search read-long)
@@ -30,9 +30,9 @@ read-spec =
     tie.close
     (tie.spec
     interval-verdict-requires
-    enum-known-number
+    enum-told
     zero-contents-requires
-    enum-known-count
+    enum-told-2
     contents-of-requires
     returns
     returns-2)

@@ -1,26 +1,21 @@
 -- `contents::writer::put_rows` meets its contract: the rows passed stand in the buffer, nothing else has changed.
-use mathlib.Core.Path.{_≡_, sym, _∙_}
 use Prim.Native.Nat.{_-_}
-use native.Mathlib.Omega.{arith}
 use borrow.Author.Needs.{needs}
-use lib.ListN.{length, length-map}
-use Rattle.contents.proofs.writer.put_rows.Statement.{statement}
 use Rattle.contents.proofs.Walk.{Placed, place-start, place-next, place-ends}
+use Rattle.contents.proofs.writer.put_rows.Statement.{statement}
 use Rattle.contents.proofs.writer.put_rows.Tie as tie
 
 abbrev Inv-loop : tie.InvT-loop
-Inv-loop out₀ contents count i₀ out i =
-    (length (contents .rows) ≡ 256) × Placed out₀ (contents .rows) (contents .head .rows) out i
+Inv-loop out₀ contents count i₀ t8 out i = Placed out₀ (contents .rows) (contents .head .rows) out i
 
 abbrev μ-loop : tie.MeasureT-loop
-μ-loop out₀ contents count i₀ out i = count - i
+μ-loop out₀ contents count i₀ t8 out i = count - i
 
 cast-count : tie.Need-cast-count Inv-loop μ-loop
 cast-count c = search needs
 
 loop-holds : tie.Need-loop-holds Inv-loop μ-loop
-loop-holds c =
-    (sym (length-map (c .before .args .t1 .rows) _) ∙ c .before .good .0 .1 .1 .1 .0 .1 .0 .1, search place-start)
+loop-holds c = search place-start
 
 mul-r : tie.Need-mul-r Inv-loop μ-loop
 mul-r c = search needs
@@ -28,14 +23,23 @@ mul-r c = search needs
 element-copy-out-r : tie.Need-element-copy-out-r Inv-loop μ-loop
 element-copy-out-r c = search needs
 
-mul-put-row : tie.Need-mul-put-row Inv-loop μ-loop
-mul-put-row c = search needs
+row-fields-requires : tie.Need-row-fields-requires Inv-loop μ-loop
+row-fields-requires c κs = search needs
 
-add-put-row : tie.Need-add-put-row Inv-loop μ-loop
-add-put-row c = search needs
+mul-put-record : tie.Need-mul-put-record Inv-loop μ-loop
+mul-put-record c = search needs
 
-put-row-requires : tie.Need-put-row-requires Inv-loop μ-loop
-put-row-requires c κs = search needs
+add-put-record : tie.Need-add-put-record Inv-loop μ-loop
+add-put-record c = search needs
+
+slice-aggregate-put-record : tie.Need-slice-aggregate-put-record Inv-loop μ-loop
+slice-aggregate-put-record c = search needs
+
+slice-aggregate-put-record-2 : tie.Need-slice-aggregate-put-record-2 Inv-loop μ-loop
+slice-aggregate-put-record-2 c = search needs
+
+put-record-requires : tie.Need-put-record-requires Inv-loop μ-loop
+put-record-requires c κs = search needs
 
 add-i : tie.Need-add-i Inv-loop μ-loop
 add-i c = search needs
@@ -44,9 +48,7 @@ loop-less : tie.Need-loop-less Inv-loop μ-loop
 loop-less c = search needs
 
 loop-again : tie.Need-loop-again Inv-loop μ-loop
-loop-again c =
-    let l = c .before .before .before .before .before .before .loop in
-    (l .inv .0, place-next _ _ _ _ _ _ (l .inv .1) (omega arith) (omega arith) (omega arith) (c .before .before .put-row .ensures))
+loop-again c = search place-next
 
 same-length : tie.Need-same-length Inv-loop μ-loop
 same-length c = search needs
@@ -64,9 +66,12 @@ put-rows-spec =
     loop-holds
     mul-r
     element-copy-out-r
-    mul-put-row
-    add-put-row
-    put-row-requires
+    row-fields-requires
+    mul-put-record
+    add-put-record
+    slice-aggregate-put-record
+    slice-aggregate-put-record-2
+    put-record-requires
     add-i
     loop-less
     loop-again

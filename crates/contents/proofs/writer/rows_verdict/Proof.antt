@@ -1,15 +1,18 @@
 -- `contents::writer::rows_verdict` meets its contract: the rows passed have no fault, the last id is at hand.
 use Prim.Native.Nat.{_-_}
 use borrow.Author.Needs.{needs}
-use Rattle.contents.proofs.writer.rows_verdict.Statement.{statement}
 use Rattle.contents.proofs.Walk.{Checked, check-start, check-next, check-stops, check-ends}
+use Rattle.contents.proofs.writer.rows_verdict.Statement.{statement}
 use Rattle.contents.proofs.writer.rows_verdict.Tie as tie
 
 abbrev Inv-loop : tie.InvT-loop
-Inv-loop contents count last₀ i₀ last i = Checked (contents .rows) (contents .head .rows) last i
+Inv-loop contents terms count last₀ i₀ last i = Checked contents last i
 
 abbrev μ-loop : tie.MeasureT-loop
-μ-loop contents count last₀ i₀ last i = count - i
+μ-loop contents terms count last₀ i₀ last i = count - i
+
+terms-in-requires : tie.Need-terms-in-requires Inv-loop μ-loop
+terms-in-requires c κs = search needs
 
 cast-count : tie.Need-cast-count Inv-loop μ-loop
 cast-count c = search needs
@@ -26,8 +29,8 @@ element-copy-out-r c = search needs
 row-checks-requires : tie.Need-row-checks-requires Inv-loop μ-loop
 row-checks-requires c κs = search needs
 
-add-t14 : tie.Need-add-t14 Inv-loop μ-loop
-add-t14 c = search needs
+add-t15 : tie.Need-add-t15 Inv-loop μ-loop
+add-t15 c = search needs
 
 returns : tie.Need-returns Inv-loop μ-loop
 returns c = search check-stops
@@ -50,12 +53,13 @@ rows-verdict-spec =
     (tie.spec
     Inv-loop
     μ-loop
+    terms-in-requires
     cast-count
     loop-holds
     mul-r
     element-copy-out-r
     row-checks-requires
-    add-t14
+    add-t15
     returns
     add-i
     loop-less

@@ -1,10 +1,10 @@
--- `contents::writer::writer_verdict` meets its contract, return by return: 3, then 6 and 7, then 11, then none.
+-- `contents::writer::answer_for` meets its contract, return by return: 3, then 6 and 7, then 11, then none.
 use Prim.Native.Nat.{_≤_}
 use native.Mathlib.Omega.{arith}
 use borrow.Author.Needs.{needs}
 use Rattle.contents.proofs.Answered.{rows-few-told, count-few, answer-3, answer-6-7, answer-11, answer-0}
-use Rattle.contents.proofs.writer.writer_verdict.Statement.{statement}
-use Rattle.contents.proofs.writer.writer_verdict.Tie as tie
+use Rattle.contents.proofs.writer.answer_for.Statement.{statement}
+use Rattle.contents.proofs.writer.answer_for.Tie as tie
 
 head-ok-requires : tie.Need-head-ok-requires
 head-ok-requires c κs = search needs
@@ -36,8 +36,8 @@ returns-3 c = search answer-6-7
 returns-4 : tie.Need-returns-4
 returns-4 c = search answer-0
 
-pub writer-verdict-spec : {M : Type 1} → statement M
-writer-verdict-spec =
+pub answer-for-spec : {M : Type 1} → statement M
+answer-for-spec =
     tie.close
     (tie.spec
     head-ok-requires
