@@ -5,18 +5,11 @@
  * Built by tools/try-library; by hand: cc -Iinclude examples/settle.c target/native/libabi.a -o settle */
 #include "wheatrudder.h"
 
+#include <inttypes.h>
 #include <stdio.h>
 
-/* One byte more than the longest file: a longer one is refused all the same. */
+/* A byte past the longest file: a longer one is refused all the same. */
 #define MOST_BYTES (WHEATRUDDER_INTERVAL_LENGTH(WHEATRUDDER_MOST_ROWS) + 1)
-
-static uint64_t number_at(const uint8_t *bytes, int width)
-{
-    uint64_t number = 0;
-    while (width-- > 0)
-        number = number << 8 | bytes[width];
-    return number;
-}
 
 /* How many bytes the file has, cut at MOST_BYTES; -1 if it cannot be read. */
 static long read_file(const char *name, uint8_t *bytes)
@@ -30,15 +23,14 @@ static long read_file(const char *name, uint8_t *bytes)
     return failed ? -1 : (long)length;
 }
 
-static void print_statement(const uint8_t *statement, size_t length)
+static void print_statement(const uint8_t *statement)
 {
-    printf("total %llu fen, %llu of it not covered, %llu rounds\n", (unsigned long long)number_at(statement + 11, 8),
-           (unsigned long long)number_at(statement + 19, 8), (unsigned long long)number_at(statement + 27, 2));
-    for (const uint8_t *line = statement + 35; line < statement + length; line += 34) {
-        uint64_t compensation = number_at(line + 12, 4), cut = number_at(line + 16, 4);
-        printf("row %llu owes %llu, gets %llu\n", (unsigned long long)number_at(line + 2, 2),
-               (unsigned long long)number_at(line + 28, 4), (unsigned long long)(compensation - cut));
-    }
+    printf("total %" PRIu64 " fen, %" PRIu64 " of it not covered, %u rounds\n", wheatrudder_statement_total(statement),
+           wheatrudder_statement_shortfall(statement), wheatrudder_statement_rounds(statement));
+    for (size_t i = 0; i < wheatrudder_statement_rows(statement); i++)
+        printf("row %u owes %" PRIu32 ", gets %" PRIu32 "\n", wheatrudder_line_id(statement, i),
+               wheatrudder_line_paid(statement, i),
+               wheatrudder_line_compensation(statement, i) - wheatrudder_line_cut(statement, i));
 }
 
 int main(int count, char **words)
@@ -58,9 +50,9 @@ int main(int count, char **words)
     uint64_t answer =
         wheatrudder_settle(interval, (size_t)length, correction, (size_t)corrected, statement, sizeof statement);
     if (wheatrudder_number(answer) != 0) {
-        printf("refused %u %u\n", wheatrudder_number(answer), wheatrudder_value(answer));
+        printf("refused %" PRIu32 " %" PRIu32 "\n", wheatrudder_number(answer), wheatrudder_value(answer));
         return 1;
     }
-    print_statement(statement, wheatrudder_value(answer));
+    print_statement(statement);
     return 0;
 }

@@ -1,6 +1,17 @@
 //! The proved engine behind safe functions, and its statements as figures.
 //!
-//! All unsafe code of the workspace is in `call`, which hands slices to the library as pointers and lengths.
+//! ```
+//! let interval = include_bytes!(concat!(env!("CARGO_MANIFEST_DIR"), "/../../examples/x.interval"));
+//! let mut statement = [0; 8739]; // room for 256 rows
+//! let length = wheatrudder::settle(interval, &[], &mut statement).expect("accepted");
+//! let head = wheatrudder::head(&statement[..length]).expect("a statement");
+//! assert_eq!((head.total, head.shortfall), (90_000, 0));
+//! let paid: Vec<u32> = wheatrudder::lines(&statement[..length]).map(|line| line.paid).collect();
+//! assert_eq!(paid, [0, 65_000, 25_000]);
+//! ```
+//!
+//! Every function is thread-safe. All unsafe code of the workspace is in `call`, which hands slices to the library as
+//! pointers and lengths.
 
 mod call;
 mod statement;

@@ -5,26 +5,40 @@ pub const LINE: usize = 34;
 
 #[derive(Clone, Copy, Debug, PartialEq, Eq)]
 pub struct Head {
+    /// Counted from 2000-01-01.
     pub day: u32,
+    /// The quarter hour of the day, 0 to 95.
     pub quarter: u8,
+    /// The clearing prices of tiers 1 and 2, 0 where a tier was not called.
     pub prices: [u16; 2],
+    /// The compensations of all rows together.
     pub total: u64,
+    /// What the payers' caps leave uncovered of the total.
     pub shortfall: u64,
+    /// The rounds in which a payer reached its cap.
     pub rounds: u16,
+    /// The need that no offer covered.
     pub uncovered: u32,
+    /// How many lines follow.
     pub rows: u16,
 }
 
 #[derive(Clone, Copy, Debug, PartialEq, Eq)]
 pub struct Line {
+    /// The row's id.
     pub id: u16,
+    /// The energy for which it was called in tiers 1 and 2.
     pub called: [u32; 2],
+    /// What it is paid before any cut.
     pub compensation: u32,
+    /// Its part of the shortfall.
     pub cut: u32,
+    /// The energy by which it shares the bill.
     pub weight: u32,
+    /// The most it may be made to pay.
     pub cap: u32,
     pub paid: u32,
-    /// The round in which a payer closed, or 0.
+    /// The round in which it reached its cap, or 0.
     pub closing: u16,
 }
 
@@ -57,9 +71,12 @@ pub fn head(statement: &[u8]) -> Option<Head> {
     })
 }
 
-/// The lines of a statement, one for each row.
+/// The lines of a statement, as many as its head says and the bytes hold; none where there is no head. What stands behind
+/// them in a longer buffer is passed over.
 pub fn lines(statement: &[u8]) -> impl Iterator<Item = Line> {
-    statement.get(STATEMENT_HEAD..).unwrap_or_default().chunks_exact(LINE).map(|line| Line {
+    let rows = head(statement).map_or(0, |head| head.rows);
+    let bytes = statement.get(STATEMENT_HEAD..).unwrap_or_default();
+    bytes.chunks_exact(LINE).take(usize::from(rows)).map(|line| Line {
         id: u16_at(line, 2),
         called: [u32_at(line, 4), u32_at(line, 8)],
         compensation: u32_at(line, 12),
@@ -69,4 +86,66 @@ pub fn lines(statement: &[u8]) -> impl Iterator<Item = Line> {
         paid: u32_at(line, 28),
         closing: u16_at(line, 32),
     })
+}
+
+#[cfg(test)]
+mod tests {
+    use super::{Head, LINE, Line, STATEMENT_HEAD, head, lines};
+
+    /// A record of fields in their widths, behind its mark.
+    fn record(mark: &[u8; 2], fields: &[(u64, usize)]) -> Vec<u8> {
+        let mut bytes = mark.to_vec();
+        for &(field, width) in fields {
+            bytes.extend(&field.to_le_bytes()[..width]);
+        }
+        bytes
+    }
+
+    fn statement() -> Vec<u8> {
+        let widths = [4, 1, 2, 2, 8, 8, 2, 4, 2];
+        let fields = [0x1020_3040, 95, 320, 750, 0x0102_0304_0506_0708, 0x1112_1314_1516_1718, 27, 0x2122_2324, 2];
+        let mut bytes = record(b"PS", &fields.into_iter().zip(widths).collect::<Vec<_>>());
+        for id in [7, 0x0908] {
+            let fields = [id, 0x3132_3334, 42, 0x4142_4344, 44, 0x5152_5354, 46, 0x6162_6364, 0x7172];
+            bytes.extend(record(b"PL", &fields.into_iter().zip([2, 4, 4, 4, 4, 4, 4, 4, 2]).collect::<Vec<_>>()));
+        }
+        bytes
+    }
+
+    #[test]
+    fn every_field_is_read_where_it_stands() {
+        let due = Head {
+            day: 0x1020_3040,
+            quarter: 95,
+            prices: [320, 750],
+            total: 0x0102_0304_0506_0708,
+            shortfall: 0x1112_1314_1516_1718,
+            rounds: 27,
+            uncovered: 0x2122_2324,
+            rows: 2,
+        };
+        assert_eq!(head(&statement()), Some(due));
+        let line = |id| Line {
+            id,
+            called: [0x3132_3334, 42],
+            compensation: 0x4142_4344,
+            cut: 44,
+            weight: 0x5152_5354,
+            cap: 46,
+            paid: 0x6162_6364,
+            closing: 0x7172,
+        };
+        assert_eq!(lines(&statement()).collect::<Vec<_>>(), [line(7), line(0x0908)]);
+    }
+
+    #[test]
+    fn lines_end_where_the_head_says() {
+        let mut longer = statement();
+        longer.extend([0; 3 * LINE]);
+        assert_eq!(lines(&longer).count(), 2);
+        assert_eq!(lines(&longer[..STATEMENT_HEAD + LINE + 1]).count(), 1);
+        assert_eq!(lines(&longer[..STATEMENT_HEAD - 1]).count(), 0);
+        assert_eq!(lines(&longer[1..]).count(), 0);
+        assert_eq!(head(&[]), None);
+    }
 }
