@@ -7,7 +7,9 @@
 --     quota-is, rest-is     there is one quota and one remainder
 use Prim.Native.Nat.{ℕ, suc, _+_, _-_, _*_, _/_, _%_, _^_, _≤_, _<_}
 use mathlib.Core.Path.{_≡_, ap, sym, _∙_}
-use native.Mathlib.Nat.{lt-of-mul-lt-mul-left, mul-le-mul, mul-lt-mul-of-pos-right, div-le-self, div-eq-of-lt, div-div-eq-div-mul, div-one, pow-suc, div-mul-le-self, div-add-mod, mod-lt, mul-add-div, mul-add-mod-self-left, mod-eq-of-lt, le-refl}
+use native.Mathlib.Nat.{lt-of-mul-lt-mul-left, mul-le-mul, mul-lt-mul-of-pos-right, le-refl, pow-suc}
+use native.Mathlib.Nat.{div-le-self, div-eq-of-lt, div-div-eq-div-mul, div-one, div-mul-le-self, div-add-mod}
+use native.Mathlib.Nat.{mod-lt, mul-add-div, mul-add-mod-self-left, mod-eq-of-lt}
 use native.Mathlib.Omega.{arith}
 use Rattle.columns.specs.Table.{at}
 use Rattle.share.specs.Share.{quota, rest}

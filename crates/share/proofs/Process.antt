@@ -128,7 +128,9 @@ module _ (a : ℕ) (ws : List ℕ) (first : ℕ) (some : 0 < whole ws) (inside :
         table-is 0 (set xs p (at xs p + 1)) (length ws) (had (suc k)) (length-set xs p (at xs p + 1) ∙ long)
         (λ i m. ⊎-elim
         (λ (t : eqb p i ≡ true). let s : p ≡ i = eqb-true p i t in
-        rw (← s) (getD-set-same xs p (at xs p + 1) 0 (omega (arith, long)) ∙ (omega (arith, stood p l, ap bit (le-ltb (rank a ws first p) k (omega arith)), ap bit (lt-ltb (rank a ws first p) (suc k) (omega arith))))))
+        let here = ap bit (le-ltb (rank a ws first p) k (omega arith)) in
+        let next = ap bit (lt-ltb (rank a ws first p) (suc k) (omega arith)) in
+        rw (← s) (getD-set-same xs p (at xs p + 1) 0 (omega (arith, long)) ∙ (omega (arith, stood p l, here, next))))
         (λ (t : eqb p i ≡ false).
         getD-set-other xs p i (at xs p + 1) 0 (λ s. eqb-false p i t (sym s)) ∙ stood i m
         ∙ ap (λ (b : Bool). quota a ws i + bit b) (other i m (λ s. eqb-false p i t (sym s))))

@@ -178,7 +178,7 @@ fn hand_out(rests: &[u64], first: usize, left: u64, out: &mut [u64])
 }
 
 // Nobody has a weight: everybody gets 0.
-fn clear(out: &mut [u64])
+fn zero(out: &mut [u64])
     ensures { λ _. ⌜ now (out .exit) ≡ table (length (now (out .entry))) nothing ⌝ }
 {
     let mut i = 0;
@@ -227,7 +227,7 @@ pub fn split(amount: u64, weights: &[u64], first: usize, out: &mut [u64])
 {
     let sum = whole_of(weights);
     if sum == 0 {
-        clear(out);
+        zero(out);
         return;
     }
     let n = weights.len();

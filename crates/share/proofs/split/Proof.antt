@@ -8,8 +8,8 @@ use Rattle.share.proofs.split.Tie as tie
 whole-of-requires : tie.Need-whole-of-requires
 whole-of-requires c κs = search needs
 
-clear-requires : tie.Need-clear-requires
-clear-requires c κs = search needs
+zero-requires : tie.Need-zero-requires
+zero-requires c κs = search needs
 
 same-length : tie.Need-same-length
 same-length c = search needs
@@ -37,7 +37,7 @@ split-spec =
     tie.close
     (tie.spec
     whole-of-requires
-    clear-requires
+    zero-requires
     same-length
     returns
     array-borrow-prefix-rests

@@ -1,11 +1,11 @@
--- `share::clear` meets its contract: the positions passed are 0.
+-- `share::zero` meets its contract: the positions passed are 0.
 use Prim.Native.Nat.{_-_}
 use lib.ListN.{length}
 use Rattle.columns.proofs.Fill.{Reached, reached-none, reached-next, reached-all}
 use Rattle.share.specs.Steps.{nothing}
 use borrow.Author.Needs.{needs}
-use Rattle.share.proofs.clear.Statement.{statement}
-use Rattle.share.proofs.clear.Tie as tie
+use Rattle.share.proofs.zero.Statement.{statement}
+use Rattle.share.proofs.zero.Tie as tie
 
 abbrev Inv-loop : tie.InvT-loop
 Inv-loop out₀ i₀ out i = Reached 0 nothing out₀ out i
@@ -38,8 +38,8 @@ same-length c = search needs
 returns : tie.Need-returns Inv-loop μ-loop
 returns c = search reached-all
 
-pub clear-spec : {M : Type 1} → statement M
-clear-spec =
+pub zero-spec : {M : Type 1} → statement M
+zero-spec =
     tie.close
     (tie.spec
     Inv-loop
