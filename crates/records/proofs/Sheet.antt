@@ -10,6 +10,7 @@
 --   sheet-same         lines that agree make the same sheet
 --   sheet-head         a run put in front of the sheet
 --   sheet-length, cell-length, column-length    the buffer keeps its length
+--   cell-later         a stage that goes from record to record leaves later records alone
 --   records-length, lines-length, records-joined      of records one after the other; lines-read: between any bytes
 --   upTo-done, upTo-left, upTo-full             what the first m records of a stage have, and the others
 use mathlib.Core.Path.{_≡_, refl, sym, ap, _∙_}
@@ -35,7 +36,7 @@ use Rattle.records.specs.Sheet.{fieldOf, cellAt, cell, columnOf, withCel
 use Rattle.records.specs.declared.Field.{Field}
 use Rattle.records.proofs.Number.{number-length, number-front}
 use Rattle.records.proofs.Reading.{number-same}
-use Rattle.records.proofs.Buffer.{put-length, put-none, put-put, put-left, put-right, put-within, put-ahead, put-inside}
+use Rattle.records.proofs.Buffer.{put-length, put-none, put-put, put-left, put-right, put-within, put-ahead, put-inside, put-after}
 use Rattle.records.proofs.Record.{record-length, record-with, record-is, record-read, record-behind, field-at, number-behind, span-part}
 
 -- every record has as many fields as the table
@@ -296,3 +297,19 @@ cells-length f n (suc m) xs s r l =
 pub column-length : (f : Field) (xs s : List ℕ) → Lined f (length xs) s → length (withColumn f xs s) ≡ length s
 unfolding withColumn
 column-length f xs s r = cells-length f (length xs) (length xs) xs s r (omega arith)
+
+-- putting the first m cells of a column leaves the cells of later records alone, whatever the list holds
+pub cell-later : (f g : Field) (n : ℕ) (xs s : List ℕ) (m i : ℕ) → f .start ≡ g .start → f .stride ≡ g .stride → Lined f n s → m ≤ i → i < n
+    → cell g (withCells f m xs s) i ≡ cell g s i
+unfolding withCells withCell
+cell-later f g n xs s zero i start stride r le l = refl
+cell-later f g n xs s (suc m) i start stride r le l =
+    let before = withCells f m xs s in
+    let most = mul-le-mul-right (f .stride) le in
+    let long = cells-length f n m xs s r (omega arith) in
+    let far = ap (λ (x : ℕ). i * x) stride in
+    let there = cell-room f n m s r (omega arith) in
+    number-same (g .width) (withCell f m (at xs m) before) before (cellAt g i) (cellAt g i)
+    (λ k q. put-after before (cellAt f m) (numberBytes (f .width) (at xs m)) (cellAt g i + k) 0 (omega (arith, long, there))
+    (omega (arith, far, start, most, r .inside, number-length (f .width) (at xs m))))
+    ∙ cell-later f g n xs s m i start stride r (omega arith) l

@@ -3,27 +3,24 @@
 --   refusal-told, refusal-left     the files are refused: the answer, and the buffer
 --   short-told, short-left         the buffer is too short: the same
 --   written-told, written-left     the statement is written: the same
---   few-rows                   an accepted pair has at most 256 rows
---   read-of                    the sources that the files' reader made are those of the rows that count
+--   few-rows, head-there       an accepted pair has at most 256 rows, and a head
+--   stated-long                the statement leaves the buffer as long as it was
 use Prim.Native.Nat.{ℕ, _≤_, _<_}
 use mathlib.Core.Path.{_≡_, sym, ap, _∙_}
 use mathlib.Core.List.{List}
 use native.Mathlib.Omega.{arith}
 use lib.ListN.{length}
 use Rattle.records.specs.Buffer.{put}
-use Rattle.columns.specs.Table.{table}
 use Rattle.records.proofs.Buffer.{put-length}
-use Rattle.columns.proofs.Table.{table-length}
-use Rattle.files.specs.Fault.{verdictOf}
-use Rattle.files.specs.Counting.{sourceOf}
+use Rattle.files.specs.Layout.{headSize}
+use Rattle.files.specs.Order.{verdictOf}
 use Rattle.files.specs.declared.Verdict.{Verdict}
 use Rattle.files.specs.declared.Verdict.the-variants as verdicts
-use Rattle.files.proofs.Laws.{accepted-few, source-at}
+use Rattle.files.proofs.Laws.{accepted-few, accepted-length, accepted-count}
 use Rattle.statement.specs.Statement.{lineStart}
 use Rattle.settle.specs.Answer.{statementOf, answerOf, bufferAfter, numberOf}
-use Rattle.settle.specs.Asked.{Read}
 use Rattle.settle.specs.declared.Answer.the-variants.{Settled, Refused}
-use Rattle.settle.proofs.Demand1.{files-refused, short-refused, refused-buffer, accepted-settled, settled-buffer}
+use Rattle.settle.proofs.Demand1.{files-refused, short-refused, refused-keeps, accepted-settled, settled-count, settled-buffer}
 
 pub told : (s k : List ℕ) (v w : Verdict) → v ≡ verdictOf s k → v ≡ w → verdictOf s k ≡ w
 told s k v w e f = sym e ∙ f
@@ -33,14 +30,14 @@ module _ (s k out : List ℕ) (v : Verdict) (a p : ℕ) (e : v ≡ verdictOf s k
   refusal-told = sym (files-refused s k (length out) a p (told s k v (verdicts.Refused a p) e f))
 
   pub refusal-left : out ≡ bufferAfter s k out
-  refusal-left = sym (refused-buffer s k out a p (sym refusal-told))
+  refusal-left = sym (refused-keeps s k out a p (sym refusal-told))
 
 module _ (s k out : List ℕ) (n size : ℕ) (ok : verdictOf s k ≡ verdicts.Accepted n) (is : size ≡ lineStart n) where
   pub short-told : length out < size → Refused 11 0 ≡ answerOf s k (length out)
   short-told short = sym (short-refused s k (length out) n ok (rw is at short))
 
   pub short-left : length out < size → out ≡ bufferAfter s k out
-  short-left short = sym (refused-buffer s k out 11 0 (sym (short-told short)))
+  short-left short = sym (refused-keeps s k out 11 0 (sym (short-told short)))
 
   settled : size ≤ length out → answerOf s k (length out) ≡ Settled (lineStart n)
   settled room = accepted-settled s k (length out) n ok (rw is at room)
@@ -51,16 +48,14 @@ module _ (s k out : List ℕ) (n size : ℕ) (ok : verdictOf s k ≡ verdicts.Ac
   pub written-left : (after : List ℕ) → size ≤ length out → after ≡ put out 0 (statementOf s k) → after ≡ bufferAfter s k out
   written-left after room written = written ∙ sym (settled-buffer s k out (ap numberOf (settled room)))
 
-module _ (s k : List ℕ) (n : ℕ) (ok : verdictOf s k ≡ verdicts.Accepted n) where
-  pub few-rows : n ≤ 256
-  few-rows = accepted-few s k n ok
+pub few-rows : (s k : List ℕ) (n : ℕ) → verdictOf s k ≡ verdicts.Accepted n → n ≤ 256
+few-rows s k n ok = accepted-few s k n ok
 
-  pub read-of : (start sources : List ℕ) → length start ≡ 256 → sources ≡ put start 0 (table n (sourceOf s k)) → Read s k n sources
-  read-of start sources long made =
-      record {
-        accepted = ok;
-        few = few-rows;
-        long = ap length made
-            ∙ put-length start 0 (table n (sourceOf s k)) (omega (arith, table-length n (sourceOf s k), few-rows)) ∙ long;
-        sourced = λ i l. rw made (source-at start n (sourceOf s k) i l);
-      }
+pub head-there : (s k : List ℕ) (n : ℕ) → verdictOf s k ≡ verdicts.Accepted n → headSize ≤ length s
+head-there s k n ok = omega (arith, accepted-length s k n ok)
+
+-- the statement leaves the buffer as long as it was
+pub stated-long : (s k : List ℕ) (n : ℕ) → verdictOf s k ≡ verdicts.Accepted n → (out : List ℕ) → lineStart n ≤ length out → (t : List ℕ)
+    → t ≡ put out 0 (statementOf s k) → length t ≡ length out
+stated-long s k n ok out room t made =
+    ap length made ∙ put-length out 0 (statementOf s k) (omega (arith, settled-count s k, accepted-count s k n ok, room))

@@ -1,4 +1,4 @@
--- Demand 3, sentence by sentence, of the figures of any head and any rows; so of every accepted pair of files; and of the
+-- Demand 3, sentence by sentence, of the figures of any columns of one length; so of every accepted pair of files; and of the
 -- figures read back from the bytes of its statement. The sentences are the fields of `Demand3` (specs/Promise.antt).
 --   paid-is-kept              What payers pay equals what receivers keep, to the fen.
 --     cut-within              (Nobody is cut by more than it is due, so that what it keeps is a plain difference.)
@@ -13,9 +13,10 @@
 --   cut-only-if-all-capped    Receivers are cut only if all are capped ..
 --   cut-exactly               .. by exactly what those caps fail to cover.
 --   rounds-at-most-payers     Rounds in which somebody closes number at most those payers ..
---     rounds-are-closings, somebody-closes    .. and the rounds told are those.
+--   rounds-at-most-capped     .. and at most those of them that are capped.
+--     rounds-are-closings, somebody-closes    The rounds told are those.
 --   demand3, accepted-demand3, statement-demand3     all of it: of figures, of an accepted pair, of a statement's bytes
--- Nothing is asked of the rows: the sentences hold of any.
+-- Nothing is asked of the columns' numbers: the sentences hold of any.
 use Prim.Native.Nat.{ℕ, _+_, _-_, _*_, _≤_, _<_}
 use mathlib.Core.Path.{_≡_, refl, ap, _∙_}
 use mathlib.Core.Logic.{⊎-elim}
@@ -25,27 +26,31 @@ use native.Mathlib.Nat.{eq-zero-or-pos}
 use native.Mathlib.Omega.{arith}
 use lib.ListN.{length}
 use borrow.Author.Tests.{lt-ltb, eq-eqb, ne-eqb}
-use Rattle.columns.specs.Sum.{sumTo, sumWhere, maxTo}
+use Rattle.columns.specs.Sum.{sumTo, sumWhere, countTo, maxTo}
 use Rattle.columns.specs.Table.{at}
 use Rattle.columns.proofs.Sum.{sum-same, sum-add}
+use Rattle.columns.proofs.Table.{table-length}
 use Rattle.columns.specs.Sum.{whole}
 use Rattle.files.specs.Layout.{headAt, rowCount}
-use Rattle.files.specs.Fault.{verdictOf}
+use Rattle.files.specs.Terms.{termsOf}
+use Rattle.files.specs.Order.{verdictOf}
 use Rattle.files.specs.Counting.{countingRow}
-use Rattle.files.specs.declared.Head.{Head}
-use Rattle.files.specs.declared.Row.{Row}
 use Rattle.files.specs.declared.Verdict.the-variants.{Accepted}
 use Rattle.levy.specs.Rounds.{Standing, payers, final, paid, payments}
-use Rattle.levy.specs.Capped.{marked, inside, outside, capsOf, leftBy, Capped}
+use Rattle.levy.specs.Capped.{hasClosed, inside, outside, payersInside, capsInside, leftBy, Capped}
 use Rattle.levy.proofs.Step.{final-sound}
 use Rattle.levy.proofs.Rate.{capped-owe, open-owe}
-use Rattle.levy.proofs.Count.{rounds-count, round-somebody, rounds-max}
+use Rattle.levy.proofs.Count.{rounds-count, rounds-capped, round-somebody, rounds-max}
 use Rattle.levy.proofs.Payment.{payments-length, payments-at, paid-none, paid-closed, paid-total, payment-le-cap, open-rate-over, open-rate-short, all-capped, shortfall-none, closed-caps}
 use Rattle.levy.proofs.Cut.{cut-le, cut-capped, cuts-total, balance}
 use Rattle.levy.proofs.Unique.{closers-left, closers-beside, final-capped, capped-unique}
-use Rattle.settle.specs.Settlement.{Figures, levied, figures}
-use Rattle.settle.specs.Answer.{answerOf, bufferAfter, numberOf}
+use Rattle.duties.specs.Duties.{Duties, Level}
+use Rattle.duties.proofs.Laws.{duties-level}
+use Rattle.settle.specs.Settlement.{compensationsOf, Figures, levied, figures}
+use Rattle.settle.specs.Within.{Turn}
+use Rattle.settle.specs.Answer.{dutiesIn, figuresOf, answerOf, bufferAfter, numberOf}
 use Rattle.settle.specs.Promise.{Bytes, figuresAt, capped, CappedPayer, OpenPayer, AllCapped, cappedCaps, leftOver, openEnergy, kept, Demand3}
+use Rattle.settle.proofs.Demand1.{settled-accepted}
 use Rattle.settle.proofs.Demand2.{statement-figures}
 
 -- ---- payments and cuts after the last round
@@ -55,7 +60,7 @@ module _ (total : ℕ) (ws cs : List ℕ) where
   end = final total ws cs
 
   abbrev closers : ℕ → Bool
-  closers = marked (end .marks)
+  closers = hasClosed (end .marks)
 
   module _ (first : ℕ) where
     abbrev pays : List ℕ
@@ -78,8 +83,8 @@ module _ (total : ℕ) (ws cs : List ℕ) where
         (eq-zero-or-pos (at (end .marks) i)))
         (eq-zero-or-pos (at ws i))
 
-    pays-whole : whole pays ≡ capsOf ws cs closers + sumWhere (length ws) (outside ws closers) (at pays)
-    unfolding whole capsOf sumWhere
+    pays-whole : whole pays ≡ capsInside ws cs closers + sumWhere (length ws) (outside ws closers) (at pays)
+    unfolding whole capsInside sumWhere
     pays-whole =
         ap (λ (n : ℕ). sumTo n (at pays)) (payments-length ws cs end first)
         ∙ sum-same (length ws) (at pays) (λ i. cond (inside ws closers i) (at cs i) 0 + cond (outside ws closers i) (at pays i) 0) (λ i l. pays-parts i)
@@ -91,61 +96,72 @@ module _ (total : ℕ) (ws cs : List ℕ) where
     open-left turn i some z =
         omega (arith, pays-whole, paid-total total ws cs first turn, shortfall-none total ws cs i some z)
 
--- ---- the figures of any head and rows
+-- ---- the figures of any columns of one length
 
-module _ (h : Head) (n : ℕ) (row : ℕ → Row) where
+module _ (need first n : ℕ) (d : Duties) (level : Level n d) (turn : Turn n first) where
   abbrev f : Figures
-  f = figures h n row
+  f = figures need first d
 
   abbrev pay : List ℕ
-  pay = f .columns .compensations
+  pay = f .compensations
 
   abbrev ws : List ℕ
-  ws = f .columns .weights
+  ws = f .weights
 
   abbrev cs : List ℕ
-  cs = f .columns .caps
+  cs = f .caps
+
+  turn-weights : Turn (length ws) first
+  unfolding figures
+  turn-weights some = omega (arith, turn (omega (arith, level .weights)), level .weights)
+
+  pay-long : length pay ≡ n
+  unfolding figures compensationsOf
+  pay-long = table-length (length (d .widths1)) _ ∙ level .widths1
+
+  turn-pay : Turn (length pay) first
+  turn-pay some = omega (arith, turn (omega (arith, pay-long)), pay-long)
 
   pub total-is : f .total ≡ whole pay
   unfolding figures
   total-is = refl
 
-  pub paid-is-kept : whole (f .columns .paid) ≡ sumTo (length pay) (kept f)
+  pub paid-is-kept : whole (f .paid) ≡ sumTo (length pay) (kept f)
   unfolding figures levied
-  paid-is-kept = balance (whole pay) ws cs pay 0 refl (λ p. p) (λ p. p)
+  paid-is-kept = balance (whole pay) ws cs pay first refl turn-pay turn-weights
 
-  pub cut-within : (i : ℕ) → at (f .columns .cuts) i ≤ at pay i
+  pub cut-within : (i : ℕ) → at (f .cuts) i ≤ at pay i
   unfolding figures levied
-  cut-within = cut-le (whole pay) ws cs pay 0 refl
+  cut-within = cut-le (whole pay) ws cs pay first refl
 
-  pub within-cap : (i : ℕ) → at (f .columns .paid) i ≤ at cs i
+  pub within-cap : (i : ℕ) → at (f .paid) i ≤ at cs i
   unfolding figures levied
-  within-cap = payment-le-cap (whole pay) ws cs 0
+  within-cap = payment-le-cap (whole pay) ws cs first
 
-  pub capped-pays-cap : (i : ℕ) → CappedPayer f i → at (f .columns .paid) i ≡ at cs i
+  pub capped-pays-cap : (i : ℕ) → CappedPayer f i → at (f .paid) i ≡ at cs i
   unfolding figures levied
-  capped-pays-cap i p = pays-at (whole pay) ws cs 0 i ∙ paid-closed ws cs (final (whole pay) ws cs) 0 i (p .1)
+  capped-pays-cap i p = pays-at (whole pay) ws cs first i ∙ paid-closed ws cs (final (whole pay) ws cs) first i (p .1)
 
-  pub no-energy-no-pay : (i : ℕ) → at ws i ≡ 0 → at (f .columns .paid) i ≡ 0
+  pub no-energy-no-pay : (i : ℕ) → at ws i ≡ 0 → at (f .paid) i ≡ 0
   unfolding figures levied
   no-energy-no-pay i z =
-      pays-at (whole pay) ws cs 0 i ∙ paid-none (whole pay) ws cs (final (whole pay) ws cs) (final-sound (whole pay) ws cs) 0 i z
+      pays-at (whole pay) ws cs first i ∙ paid-none (whole pay) ws cs (final (whole pay) ws cs) (final-sound (whole pay) ws cs) first i z
 
-  pub open-share-left : (i : ℕ) → OpenPayer f i → sumWhere (length ws) (outside ws (capped f)) (at (f .columns .paid)) ≡ leftOver f
+  pub open-share-left : (i : ℕ) → OpenPayer f i → sumWhere (length ws) (outside ws (capped f)) (at (f .paid)) ≡ leftOver f
   unfolding figures levied
-  open-share-left i p = open-left (whole pay) ws cs 0 (λ q. q) i (p .0) (p .1)
+  open-share-left i p = open-left (whole pay) ws cs first turn-weights i (p .0) (p .1)
 
-  pub rate-over : (i : ℕ) → OpenPayer f i → at (f .columns .paid) i * openEnergy f < leftOver f * at ws i + openEnergy f
+  pub rate-over : (i : ℕ) → OpenPayer f i → at (f .paid) i * openEnergy f < leftOver f * at ws i + openEnergy f
   unfolding figures levied
   rate-over i p =
-      rw (closers-left (whole pay) ws cs, closers-beside (whole pay) ws cs, pays-at (whole pay) ws cs 0 i)
-      (open-rate-over (whole pay) ws cs 0 i (p .1) (p .0))
+      rw (closers-left (whole pay) ws cs, closers-beside (whole pay) ws cs, pays-at (whole pay) ws cs first i)
+      (open-rate-over (whole pay) ws cs first i (p .1) (p .0))
 
-  pub rate-short : (i : ℕ) → OpenPayer f i → leftOver f * at ws i < at (f .columns .paid) i * openEnergy f + openEnergy f
+  pub rate-short : (i : ℕ) → OpenPayer f i → leftOver f * at ws i < at (f .paid) i * openEnergy f + openEnergy f
   unfolding figures levied
   rate-short i p =
-      rw (closers-left (whole pay) ws cs, closers-beside (whole pay) ws cs, pays-at (whole pay) ws cs 0 i)
-      (open-rate-short (whole pay) ws cs 0 i (p .1) (p .0))
+      rw (closers-left (whole pay) ws cs, closers-beside (whole pay) ws cs, pays-at (whole pay) ws cs first i)
+      (open-rate-short (whole pay) ws cs first i (p .1) (p .0))
 
   pub open-below-cap : (i : ℕ) → OpenPayer f i → leftOver f * at ws i < at cs i * openEnergy f
   unfolding figures levied
@@ -168,31 +184,36 @@ module _ (h : Head) (n : ℕ) (row : ℕ → Row) where
   unfolding figures levied
   one-capped-set = capped-unique (whole pay) ws cs
 
-  pub cut-only-if-all-capped : (j : ℕ) → 0 < at (f .columns .cuts) j → AllCapped f
+  pub cut-only-if-all-capped : (j : ℕ) → 0 < at (f .cuts) j → AllCapped f
   unfolding figures levied
-  cut-only-if-all-capped = cut-capped (whole pay) ws cs pay 0
+  cut-only-if-all-capped = cut-capped (whole pay) ws cs pay first
 
-  pub shortfall-is-cut : whole (f .columns .cuts) ≡ f .shortfall
+  pub shortfall-is-cut : whole (f .cuts) ≡ f .shortfall
   unfolding figures levied
-  shortfall-is-cut = cuts-total (whole pay) ws cs pay 0 refl (λ p. p)
+  shortfall-is-cut = cuts-total (whole pay) ws cs pay first refl turn-pay
 
-  pub cut-exactly : AllCapped f → whole (f .columns .cuts) ≡ f .total - cappedCaps f
+  pub cut-exactly : AllCapped f → whole (f .cuts) ≡ f .total - cappedCaps f
   unfolding figures levied
   cut-exactly all = shortfall-is-cut ∙ all-capped (whole pay) ws cs all
 
-  pub rounds-are-closings : f .rounds ≡ maxTo (length ws) (at (f .columns .closing))
+  pub rounds-are-closings : f .rounds ≡ maxTo (length ws) (at (f .closing))
   unfolding figures levied
   rounds-are-closings = rounds-max (whole pay) ws cs
 
-  pub somebody-closes : (r : ℕ) → 0 < r → r ≤ f .rounds → (i : ℕ) × (i < length ws) × (at (f .columns .closing) i ≡ r)
+  pub somebody-closes : (r : ℕ) → 0 < r → r ≤ f .rounds → (i : ℕ) × CappedPayer f i × (at (f .closing) i ≡ r)
   unfolding figures levied
-  somebody-closes = round-somebody (whole pay) ws cs
+  somebody-closes r up le =
+      let it = round-somebody (whole pay) ws cs r up le in (it .0, (it .1, omega (arith, it .2)), it .2)
 
   pub rounds-at-most-payers : f .rounds ≤ payers ws
   unfolding figures levied
   rounds-at-most-payers = rounds-count (whole pay) ws cs
 
-  pub demand3 : Demand3 (figures h n row)
+  pub rounds-at-most-capped : f .rounds ≤ payersInside ws (capped f)
+  unfolding figures levied
+  rounds-at-most-capped = rounds-capped (whole pay) ws cs
+
+  pub demand3 : Demand3 (figures need first d)
   demand3 =
       record {
         total-is = total-is;
@@ -215,13 +236,17 @@ module _ (h : Head) (n : ℕ) (row : ℕ → Row) where
         rounds-are-closings = rounds-are-closings;
         somebody-closes = somebody-closes;
         rounds-at-most-payers = rounds-at-most-payers;
+        rounds-at-most-capped = rounds-at-most-capped;
       }
 
 -- ---- an accepted pair of files, and the bytes of its statement
 
-pub accepted-demand3 : (s k : List ℕ) (n : ℕ) → verdictOf s k ≡ Accepted n → Demand3 (figures (headAt s) n (countingRow s k))
-accepted-demand3 s k n h = demand3 (headAt s) n (countingRow s k)
+pub accepted-demand3 : (s k : List ℕ) (n : ℕ) → verdictOf s k ≡ Accepted n → Demand3 (figuresOf s k)
+unfolding figuresOf dutiesIn
+accepted-demand3 s k n h =
+    demand3 (headAt s .need .0) 0 (rowCount s) (dutiesIn s k)
+    (duties-level (termsOf s) (headAt s .tariff .0) (rowCount s) (countingRow s k)) (λ p. p)
 
 pub statement-demand3 : (s k out : List ℕ) → Bytes s → numberOf (answerOf s k (length out)) ≡ 0 → Demand3 (figuresAt (bufferAfter s k out))
 statement-demand3 s k out bytes h =
-    rw (statement-figures s k out h bytes) (demand3 (headAt s) (rowCount s) (countingRow s k))
+    rw (statement-figures s k out h bytes) (accepted-demand3 s k (rowCount s) (settled-accepted s k (length out) h))

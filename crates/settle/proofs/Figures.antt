@@ -9,36 +9,40 @@ use mathlib.Core.List.{List, [], _∷_}
 use lib.Dec.{T, eqb}
 use lib.ListN.{length, getD}
 use borrow.Author.Tests.{eqb-true}
-use Rattle.columns.specs.Sum.{sumTo, countTo, maxTo}
+use Rattle.columns.specs.Sum.{sumTo, countTo, maxTo, findTo, whole}
 use Rattle.columns.specs.Table.{table}
+use Rattle.columns.specs.Checks.{firstRefusal, rowByRow, previous}
 use Rattle.records.specs.Number.{numberAt, numberBytes}
+use Rattle.records.specs.Fields.{fieldsBytes}
+use Rattle.records.specs.Record.{fieldsAt, recordAt, recordBytes, recordsBytes}
 use Rattle.records.specs.Buffer.{put}
-use Rattle.columns.specs.Sum.{whole}
 use Rattle.share.specs.Share.{quota, rest, turn, before, rank, left, share, shares}
 use Rattle.files.specs.Layout.{headAt, rowAt, correctionHeadAt}
-use Rattle.files.specs.Range.{headOk, statusOk, notOffering, offering, rowTests, rowOk}
-use Rattle.files.specs.Fault.{orElse, headFault, rowFault, rowsFault, intervalFault, findId, pairFault, fileFault}
+use Rattle.files.specs.Range.{headOk, headTests, statusOk, idleTests, notOffering, offerTests, offering, rowTests, rowOk}
+use Rattle.files.specs.Order.{headChecks, rowChecks, rowChecksAt, rowChecksOf, intervalOrder, fileOrder}
+use Rattle.files.specs.Terms.{termsOf}
+use Rattle.files.specs.Walk.{hasId, findId}
 use Rattle.files.specs.Counting.{countingRow}
-use Rattle.merit.specs.Band.{width1, width2, bandsOf}
+use Rattle.duties.specs.Duty.{width1, width2, energy1, energy2, payer, weight, cap}
+use Rattle.duties.specs.Duties.{dutiesOf}
 use Rattle.merit.specs.Call.{cheaperIn, cheaper, group, due, called, calls, uncovered}
 use Rattle.merit.specs.Price.{price}
-use Rattle.pay.specs.Pay.{compensation}
-use Rattle.levy.specs.Weight.{payer, weight, cap}
 use Rattle.levy.specs.Rounds.{closes, closed, next, run, opening, final, openWeights, paid, payments, shortfall, cuts}
-use Rattle.settle.specs.Settlement.{compensationsOf, weightsOf, capsOf, levied, figures}
-use Rattle.statement.specs.Statement.{statementHeadBytes, statementHeadAt, lineBytes, lineAt, linesBytes}
-use Rattle.settle.specs.Statement.{statementHead, lineOf, linesOf, statementBytes}
-use Rattle.settle.specs.Answer.{statementOf, settleFault, answerOf, bufferAfter}
+use Rattle.statement.specs.Statement.{statementHeadBytes, statementHeadAt}
+use Rattle.settle.specs.Settlement.{compensationsOf, levied, figures}
+use Rattle.settle.specs.Statement.{statementHead, statementBytes}
+use Rattle.settle.specs.Answer.{dutiesIn, figuresOf, statementOf, settleOrder, answerOf, bufferAfter}
 use Rattle.settle.specs.Table.{intervalX, settledX, Entry, entry, figuresTable, same, allRight}
 
 pub all-right : allRight figuresTable ≡ true
-unfolding sumTo countTo maxTo table numberAt numberBytes put whole quota rest turn before rank left share shares
-    headAt rowAt correctionHeadAt headOk statusOk notOffering offering rowTests rowOk
-    orElse headFault rowFault rowsFault intervalFault findId pairFault fileFault countingRow
-    width1 width2 bandsOf cheaperIn cheaper group due called calls uncovered price compensation payer weight cap
-    closes closed next run opening final openWeights paid payments shortfall cuts compensationsOf weightsOf capsOf levied figures
-    statementHeadBytes statementHeadAt lineBytes lineAt statementHead lineOf linesOf linesBytes statementBytes
-    statementOf settleFault answerOf bufferAfter intervalX settledX figuresTable same allRight
+unfolding sumTo countTo maxTo findTo whole table numberAt numberBytes fieldsBytes fieldsAt recordAt recordBytes recordsBytes put
+    quota rest turn before rank left share shares
+    firstRefusal rowByRow previous headAt rowAt correctionHeadAt headTests headOk statusOk idleTests notOffering offerTests offering rowTests rowOk
+    headChecks rowChecks rowChecksAt rowChecksOf intervalOrder fileOrder termsOf hasId findId countingRow
+    width1 width2 energy1 energy2 payer weight cap dutiesOf cheaperIn cheaper group due called calls uncovered price
+    closes closed next run opening final openWeights paid payments shortfall cuts compensationsOf levied figures
+    statementHeadBytes statementHeadAt statementHead statementBytes
+    dutiesIn figuresOf statementOf settleOrder answerOf bufferAfter intervalX settledX figuresTable same allRight
 all-right = refl
 
 both-left : (a b : Bool) → (a && b) ≡ true → a ≡ true

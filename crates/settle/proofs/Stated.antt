@@ -1,172 +1,223 @@
--- A settlement whose stages are done: its figures are the definition's, and so are its statement's bytes.
---   levied-few        there are at most 256 rows
---   short-is          the shortfall of the standing that the rounds left
---   levied-cuttable   the cuts may be made
---   levied-lines      the lines may be put
---   levied-figures    every figure is the definition's
---   levied-bytes      the bytes put are those of the definition's statement
-use Prim.Native.Nat.{ℕ, _+_, _≤_}
-use mathlib.Core.Path.{_≡_, sym, ap, _∙_, fun-ext}
-use mathlib.Core.List.{List, _++_}
+-- The stages of an accepted pair of files, one after the other as the code runs them: what each asks is there, and at the end the
+-- buffer holds the statement. Each lemma takes what the stages before it left.
+--   read-lines                      the first stage's lines are those of the columns of duties
+--   asked-1, asked-2                the tiers
+--   asked-pay, asked-levy, asked-cut    compensations, rounds and payments, cuts
+--   head-room, stated               the head may be put, and then the buffer holds the statement
+use Prim.Native.Nat.{ℕ, _+_, _-_, _*_, _≤_, _<_}
+use mathlib.Core.Path.{_≡_, refl, sym, ap, _∙_}
+use mathlib.Core.List.{List, [], _∷_, _++_}
 use native.Mathlib.Omega.{arith}
 use lib.ListN.{length}
-use Rattle.records.specs.Buffer.{put}
 use Rattle.columns.specs.Sum.{whole}
-use Rattle.share.specs.Share.{shares}
-use Rattle.share.proofs.Laws.{shares-length}
-use Rattle.files.specs.Layout.{headAt}
+use Rattle.columns.specs.Table.{at, table}
+use Rattle.columns.proofs.Table.{table-at}
+use Rattle.records.specs.Buffer.{put}
+use Rattle.records.specs.Record.{recordsBytes}
+use Rattle.records.specs.Sheet.{sheet}
+use Rattle.records.proofs.Sheet.{sheet-same, sheet-head}
+use Rattle.units.specs.declared.Fen.{Fen}
+use Rattle.files.specs.Layout.{headAt, rowCount}
+use Rattle.files.specs.Terms.{termsOf}
+use Rattle.files.specs.Order.{verdictOf}
 use Rattle.files.specs.Counting.{countingRow}
 use Rattle.files.specs.declared.Head.{Head}
-use Rattle.files.proofs.Laws.{accepted-count, accepted-length, accepted-few, counting-id}
-use Rattle.merit.specs.Band.{one, two, bandsOf}
-use Rattle.merit.specs.Call.{calls, uncovered}
-use Rattle.merit.specs.Price.{price}
-use Rattle.merit.proofs.Laws.{calls-length}
-use Rattle.levy.specs.Asked.{Short, Cuttable}
-use Rattle.levy.specs.Rounds.{Standing, payments, shortfall, cuts}
+use Rattle.files.specs.declared.Verdict.the-variants.{Accepted}
+use Rattle.files.proofs.Laws.{accepted-count}
+use Rattle.duties.specs.Duty.{dutyOf, width1, width2, energy1, energy2, weight, cap}
+use Rattle.duties.specs.Duties.{Duties, dutiesOf}
+use Rattle.levy.specs.Asked.{Short}
 use Rattle.levy.specs.declared.Rest.{Rest}
-use Rattle.levy.proofs.Step.{final-sound}
-use Rattle.levy.proofs.Payment.{payments-length, shortfall-le}
-use Rattle.statement.specs.Statement.{lineStart, statementHeadBytes, linesBytes}
+use Rattle.statement.specs.Statement.{letterL, lineWidths, headSize, lineStart, statementHeadBytes}
+use Rattle.statement.specs.Line as line
 use Rattle.statement.specs.declared.StatementHead.{StatementHead}
-use Rattle.settle.specs.Settlement.{Figures, compensationsOf, weightsOf, capsOf, levied, figures}
-use Rattle.settle.specs.Statement.{statementHead, linesOf, statementBytes}
-use Rattle.settle.specs.Answer.{statementOf}
-use Rattle.settle.specs.Asked.{columns, idAt, Lines, headFrom, standingFrom, Levied}
-use Rattle.settle.specs.declared.work.Market.{Market}
-use Rattle.settle.proofs.Sizes.{widths1-length, pay-length, weights-length, caps-length}
+use Rattle.statement.proofs.Laws.{head-length}
+use Rattle.settle.specs.Settlement.{Figures}
+use Rattle.settle.specs.Statement.{statementHead, lineOf, statementBytes}
+use Rattle.settle.specs.Answer.{dutiesIn, figuresOf, statementOf}
+use Rattle.settle.specs.Within.{Within}
+use Rattle.settle.specs.Work.{lined, rowLine, Offered, Called, Payable, Paid, Leviable, Levied, Cuttable, cutFrom}
+use Rattle.settle.specs.declared.market.Cleared.{Cleared}
+use Rattle.settle.proofs.Accepted.{duties-within}
+use Rattle.settle.proofs.Staged as stage
 
-pub short-is : (r : Rest) (marks : List ℕ) (x : ℕ) → Short r x → x ≡ shortfall (standingFrom marks r)
-unfolding shortfall
-short-is r marks x h = h 0 marks
+module _ (s k : List ℕ) (n : ℕ) (ok : verdictOf s k ≡ Accepted n) (out : List ℕ) (room : lineStart n ≤ length out) (h : Head) (is : h ≡ headAt s) where
+  count : rowCount s ≡ n
+  count = sym (accepted-count s k n ok)
 
-module _ (s k : List ℕ) (n : ℕ) (h : Head) (m : Market) (called1 called2 pay weights caps paid marks : List ℕ) (total : ℕ) (r : Rest)
-    (L : Levied s k n h m called1 called2 pay weights caps paid marks total r) where
-  pub levied-few : n ≤ 256
-  levied-few = accepted-few s k n (L .accepted)
+  abbrev d : Duties
+  d = dutiesIn s k
 
-  pay-long : length pay ≡ n
-  pay-long = ap length (L .pay-is) ∙ pay-length n (countingRow s k) called1 called2 (m .price1) (m .price2)
+  abbrev f : Figures
+  f = figuresOf s k
 
-  short-le : shortfall (standingFrom marks r) ≤ whole pay
-  unfolding levied
-  short-le = rw (L .ended) (shortfall-le (whole pay) weights caps)
+  within : Within n d
+  within = rw count at (duties-within s k n ok)
 
-  pub levied-cuttable : (x : ℕ) (out : List ℕ) → Short r x → length out ≡ n → Cuttable x pay 0 out
-  levied-cuttable x out short long =
-      record {
-        few = omega (arith, pay-long, levied-few);
-        out-long = long ∙ sym pay-long;
-        turn = λ p. p;
-        covered = omega (arith, short-is r marks x short, short-le);
-      }
+  abbrev id : ℕ → ℕ
+  id i = countingRow s k i .id
 
-  called1-long : length called1 ≡ n
-  called1-long =
-      ap length (L .cleared .one-is) ∙ calls-length (h .need .0) (bandsOf n (countingRow s k)) 0 one ∙ widths1-length n (countingRow s k)
+  abbrev need : ℕ
+  need = headAt s .need .0
 
-  called2-long : length called2 ≡ n
-  called2-long =
-      ap length (L .cleared .two-is) ∙ calls-length (h .need .0) (bandsOf n (countingRow s k)) 0 two ∙ widths1-length n (countingRow s k)
+  need-is : h .need .0 ≡ need
+  need-is = ap (λ (x : Head). x .need .0) is
 
-  weights-long : length weights ≡ n
-  weights-long = ap length (L .weights-are) ∙ weights-length n (countingRow s k)
+  abbrev L0 : ℕ → List ℕ
+  L0 = stage.lines0 n d within need 0 (λ p. p) id out room
 
-  marks-long : length marks ≡ n
-  unfolding levied
-  marks-long =
-      ap (λ (st : Standing). length (st .marks)) (L .ended) ∙ final-sound (whole pay) weights caps .long ∙ weights-long
+  -- a row's line is that of the columns
+  row-line : (i : ℕ) → i < n → rowLine (h .tariff .0) s k i ≡ L0 i
+  unfolding dutiesIn dutiesOf dutyOf
+  row-line i l =
+      let t = termsOf s in
+      let r = countingRow s k in
+      let m : i < rowCount s = omega (arith, count) in
+      rw (
+        is,
+        table-at 0 (rowCount s) (λ j. width1 t (r j)) i m,
+        table-at 0 (rowCount s) (λ j. width2 t (r j)) i m,
+        table-at 0 (rowCount s) (λ j. energy1 t (r j)) i m,
+        table-at 0 (rowCount s) (λ j. energy2 t (r j)) i m,
+        table-at 0 (rowCount s) (λ j. weight t (r j)) i m,
+        table-at 0 (rowCount s) (λ j. cap t (headAt s .tariff .0) (r j)) i m,
+        table-at 0 (rowCount s) (λ j. r j .bid2 .0) i m,
+        table-at 0 (rowCount s) (λ j. r j .bid1 .0) i m,
+      )
 
-  pub levied-lines : (cut : List ℕ) (x room : ℕ) → cut ≡ shares x pay 0 → lineStart n ≤ room
-      → Lines (length s) (columns called1 called2 pay cut weights caps paid marks) room
-  levied-lines cut x room made enough =
-      let e = called1-long in
-      record {
-        few = omega (arith, e, levied-few);
-        called2 = called2-long ∙ sym e;
-        compensations = pay-long ∙ sym e;
-        cuts = ap length made ∙ shares-length x pay 0 ∙ pay-long ∙ sym e;
-        weights = weights-long ∙ sym e;
-        caps = ap length (L .caps-are) ∙ caps-length n (countingRow s k) (h .tariff .0) ∙ sym e;
-        paid = ap length (L .paid-is) ∙ payments-length weights caps (standingFrom marks r) 0 ∙ weights-long ∙ sym e;
-        closing = marks-long ∙ sym e;
-        covered = omega (arith, e, accepted-length s k n (L .accepted));
-        roomy = omega (arith, e);
-      }
+  module _ (t0 : List ℕ) (read : t0 ≡ lined out n (rowLine (h .tariff .0) s k)) where
+    read-lines : t0 ≡ lined out n L0
+    read-lines = read ∙ sheet-same headSize letterL lineWidths out n (rowLine (h .tariff .0) s k) L0 row-line
 
-  -- each stage's figure is the definition's, one after the other
-  one-is : called1 ≡ calls (headAt s .need .0) (bandsOf n (countingRow s k)) 0 one
-  one-is = L .cleared .one-is ∙ ap (λ (x : Head). calls (x .need .0) (bandsOf n (countingRow s k)) 0 one) (L .head-is)
+    pub asked-1 : Offered n 0 line.called1 line.closing t0
+    asked-1 = rw read-lines (stage.called1-asked n d within need 0 (λ p. p) id out room)
 
-  two-is : called2 ≡ calls (headAt s .need .0) (bandsOf n (countingRow s k)) 0 two
-  two-is = L .cleared .two-is ∙ ap (λ (x : Head). calls (x .need .0) (bandsOf n (countingRow s k)) 0 two) (L .head-is)
+    module _ (t1 : List ℕ) (c1 : Cleared) (one : Called (h .need .0) 0 n line.called1 line.closing t0 t1 c1) where
+      called-1 : Called need 0 n line.called1 line.closing (lined out n L0) t1 c1
+      called-1 = rw (need-is, read-lines) at one
 
-  beyond : m .uncovered ≡ uncovered (headAt s .need .0) (bandsOf n (countingRow s k))
-  beyond = L .cleared .beyond ∙ ap (λ (x : Head). uncovered (x .need .0) (bandsOf n (countingRow s k))) (L .head-is)
+      lines-1 : t1 ≡ lined out n (stage.lines1 n d within need 0 (λ p. p) id out room)
+      lines-1 = stage.called1-lines n d within need 0 (λ p. p) id out room t1 c1 called-1
 
-  caps-is : caps ≡ capsOf (headAt s .tariff .0) n (countingRow s k)
-  caps-is = L .caps-are ∙ ap (λ (x : Head). capsOf (x .tariff .0) n (countingRow s k)) (L .head-is)
+      price-1 : c1 .price .0 ≡ f .price1
+      unfolding figuresOf
+      price-1 = stage.called1-price n d within need 0 (λ p. p) id out room t1 c1 called-1
 
-  pub levied-figures : (x : ℕ) (cut : List ℕ) → Short r x → cut ≡ shares x pay 0
-      → _≡_ {A = Figures}
-      (record {
-        price1 = m .price1;
-        price2 = m .price2;
-        total = total;
-        shortfall = x;
-        rounds = r .rounds;
-        uncovered = m .uncovered;
-        columns = columns called1 called2 pay cut weights caps paid marks;
-      })
-      (figures (headAt s) n (countingRow s k))
-  unfolding figures cuts
-  levied-figures x cut short made =
-      let price1-is = L .cleared .first-price ∙ ap (price (bandsOf n (countingRow s k) .bids1)) one-is in
-      let price2-is = L .cleared .second-price ∙ ap (price (bandsOf n (countingRow s k) .bids2)) two-is in
-      let C1 = calls (headAt s .need .0) (bandsOf n (countingRow s k)) 0 one in
-      let C2 = calls (headAt s .need .0) (bandsOf n (countingRow s k)) 0 two in
-      let P1 = price (bandsOf n (countingRow s k) .bids1) C1 in
-      let P2 = price (bandsOf n (countingRow s k) .bids2) C2 in
-      let pays : pay ≡ compensationsOf n (countingRow s k) C1 C2 P1 P2 =
-      L .pay-is ∙ (λ j. compensationsOf n (countingRow s k) (one-is j) (two-is j) (price1-is j) (price2-is j)) in
-      let PAY = compensationsOf n (countingRow s k) C1 C2 P1 P2 in
-      let ends : standingFrom marks r ≡ levied PAY (weightsOf n (countingRow s k)) (capsOf (headAt s .tariff .0) n (countingRow s k)) =
-      L .ended ∙ (λ j. levied (pays j) (L .weights-are j) (caps-is j)) in
-      let shorts = short-is r marks x short ∙ ap shortfall ends in
-      let totals = L .total-is ∙ ap whole pays in
-      let cutting = made ∙ (λ j. shares (shorts j) (pays j) 0) in
-      let paying = L .paid-is ∙ (λ j. payments (L .weights-are j) (caps-is j) (ends j) 0) in
-      λ j. record {
-        price1 = price1-is j;
-        price2 = price2-is j;
-        total = totals j;
-        shortfall = shorts j;
-        rounds = ends j .rounds;
-        uncovered = beyond j;
-        columns = record {
-          called1 = one-is j;
-          called2 = two-is j;
-          compensations = pays j;
-          cuts = cutting j;
-          weights = L .weights-are j;
-          caps = caps-is j;
-          paid = paying j;
-          closing = ends j .marks;
-        };
-      }
+      left-1 : c1 .left .0 ≡ need - whole (d .widths1)
+      left-1 = stage.called1-left n d within need 0 (λ p. p) id out room t1 c1 called-1
 
-  pub levied-bytes : (x : ℕ) (cut out after : List ℕ) (top : StatementHead) → Short r x → cut ≡ shares x pay 0
-      → top ≡ headFrom h n m total x (r .rounds)
-      → after ≡ put out 0 (statementHeadBytes top ++ linesBytes (linesOf (length called1) (idAt s) (columns called1 called2 pay cut weights caps paid marks)))
-      → after ≡ put out 0 (statementOf s k)
-  unfolding statementOf statementBytes statementHead
-  levied-bytes x cut out after top short made topped bytes =
-      let f = levied-figures x cut short made in
-      let ids : idAt s ≡ (λ i. countingRow s k i .id) = fun-ext (λ i. sym (counting-id s k i)) in
-      let count = accepted-count s k n (L .accepted) in
-      bytes
-      ∙ (λ j. put out 0
-      (statementHeadBytes (topped j) ++ linesBytes (linesOf (called1-long j) (ids j) (columns called1 called2 pay cut weights caps paid marks))))
-      ∙ (λ j. put out 0
-      (statementHeadBytes (statementHead (L .head-is j) n (f j)) ++ linesBytes (linesOf n (λ i. countingRow s k i .id) (f j .columns))))
-      ∙ ap (λ (c : ℕ). put out 0 (statementBytes (headAt s) c (countingRow s k) (figures (headAt s) c (countingRow s k)))) count
+      pub asked-2 : Offered n 0 line.called2 line.paid t1
+      asked-2 = rw lines-1 (stage.called2-asked n d within need 0 (λ p. p) id out room)
+
+      module _ (t2 : List ℕ) (c2 : Cleared) (two : Called (c1 .left .0) 0 n line.called2 line.paid t1 t2 c2) where
+        abbrev L1 : ℕ → List ℕ
+        L1 = stage.lines1 n d within need 0 (λ p. p) id out room
+
+        called-2 : Called (c1 .left .0) 0 n line.called2 line.paid (lined out n L1) t2 c2
+        called-2 = rw lines-1 at two
+
+        lines-2 : t2 ≡ lined out n (stage.lines2 n d within need 0 (λ p. p) id out room)
+        lines-2 = stage.called2-lines n d within need 0 (λ p. p) id out room (c1 .left .0) left-1 t2 c2 called-2
+
+        price-2 : c2 .price .0 ≡ f .price2
+        unfolding figuresOf
+        price-2 = stage.called2-price n d within need 0 (λ p. p) id out room (c1 .left .0) left-1 t2 c2 called-2
+
+        left-2 : c2 .left .0 ≡ f .uncovered
+        unfolding figuresOf
+        left-2 = stage.called2-left n d within need 0 (λ p. p) id out room (c1 .left .0) left-1 t2 c2 called-2
+
+        pub asked-pay : Payable n (c1 .price .0) (c2 .price .0) t2
+        unfolding figuresOf
+        asked-pay = rw (lines-2, price-1, price-2) (stage.paid-asked n d within need 0 (λ p. p) id out room)
+
+        module _ (t3 : List ℕ) (total : Fen) (three : Paid n (c1 .price .0) (c2 .price .0) t2 t3 (total .0)) where
+          abbrev L2 : ℕ → List ℕ
+          L2 = stage.lines2 n d within need 0 (λ p. p) id out room
+
+          paid-3 : Paid n (f .price1) (f .price2) (lined out n L2) t3 (total .0)
+          paid-3 = rw (lines-2, price-1, price-2) at three
+
+          lines-3 : t3 ≡ lined out n (stage.lines3 n d within need 0 (λ p. p) id out room)
+          unfolding figuresOf
+          lines-3 = stage.paid-lines n d within need 0 (λ p. p) id out room t3 (total .0) paid-3
+
+          total-3 : total .0 ≡ f .total
+          unfolding figuresOf
+          total-3 = stage.paid-total n d within need 0 (λ p. p) id out room t3 (total .0) paid-3
+
+          pub asked-levy : Leviable n 0 (total .0) t3
+          unfolding figuresOf
+          asked-levy = rw (lines-3, total-3) (stage.levied-asked n d within need 0 (λ p. p) id out room)
+
+          module _ (t4 : List ℕ) (r : Rest) (four : Levied n 0 (total .0) t3 t4 r) (x : Fen) (short : Short r (x .0)) where
+            abbrev L3 : ℕ → List ℕ
+            L3 = stage.lines3 n d within need 0 (λ p. p) id out room
+
+            levied-4 : Levied n 0 (f .total) (lined out n L3) t4 r
+            levied-4 = rw (lines-3, total-3) at four
+
+            lines-4 : t4 ≡ lined out n (stage.lines4 n d within need 0 (λ p. p) id out room)
+            unfolding figuresOf
+            lines-4 = stage.levied-lines n d within need 0 (λ p. p) id out room t4 r levied-4
+
+            rounds-4 : r .rounds ≡ f .rounds
+            unfolding figuresOf
+            rounds-4 = stage.levied-rounds n d within need 0 (λ p. p) id out room t4 r levied-4
+
+            short-4 : x .0 ≡ f .shortfall
+            unfolding figuresOf
+            short-4 = stage.levied-short n d within need 0 (λ p. p) id out room t4 r levied-4 (x .0) [] (short 0 [])
+
+            pub asked-cut : Cuttable n 0 (x .0) t4
+            unfolding figuresOf
+            asked-cut = rw (lines-4, short-4) (stage.cut-asked n d within need 0 (λ p. p) id out room)
+
+            module _ (t5 : List ℕ) (five : t5 ≡ cutFrom n 0 (x .0) t4) where
+              lines-5 : t5 ≡ lined out n (λ i. lineOf (id i) f i)
+              unfolding figuresOf
+              lines-5 =
+                  stage.cut-lines n d within need 0 (λ p. p) id out room t5 (rw (lines-4, short-4) at five)
+                  ∙ sheet-same headSize letterL lineWidths out n (stage.lines5 n d within need 0 (λ p. p) id out room) (λ i. lineOf (id i) f i)
+                  (λ i l. stage.figure-lines n d within need 0 (λ p. p) id out room i)
+
+              pub head-room : headSize ≤ length t5
+              head-room =
+                  omega (arith, room, ap length lines-5, stage.lines-long n out room (λ i. lineOf (id i) f i) (λ i. refl))
+
+              pub stated : (t6 : List ℕ)
+                  → t6 ≡ put t5 0
+                  (statementHeadBytes
+                  (record {
+                    day = h .day;
+                    quarter = h .quarter;
+                    price1 = c1 .price;
+                    price2 = c2 .price;
+                    total = total;
+                    shortfall = x;
+                    rounds = r .rounds;
+                    uncovered = c2 .left;
+                    rows = n;
+                  }))
+                  → t6 ≡ put out 0 (statementOf s k)
+              unfolding statementOf statementBytes statementHead
+              stated t6 six =
+                  let top = statementHeadBytes (statementHead (headAt s) n f) in
+                  let lines : ℕ → List ℕ = λ i. lineOf (id i) f i in
+                  six
+                  ∙ (λ j. put (lines-5 j) 0
+                  (statementHeadBytes
+                  (record {
+                    day = is j .day;
+                    quarter = is j .quarter;
+                    price1 = record { 0 = price-1 j };
+                    price2 = record { 0 = price-2 j };
+                    total = record { 0 = total-3 j };
+                    shortfall = record { 0 = short-4 j };
+                    rounds = rounds-4 j;
+                    uncovered = record { 0 = left-2 j };
+                    rows = n;
+                  })))
+                  ∙ ap (λ (m : ℕ). put (sheet m letterL lineWidths out n lines) 0 top) (sym (head-length (statementHead (headAt s) n f)))
+                  ∙ sheet-head top letterL lineWidths out n lines (omega (arith, room, head-length (statementHead (headAt s) n f)))
+                  ∙ ap (λ (m : ℕ). put out 0 (statementHeadBytes (statementHead (headAt s) m f) ++ recordsBytes letterL lineWidths (table m lines))) (sym count)

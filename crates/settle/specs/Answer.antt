@@ -1,41 +1,47 @@
 -- The engine's answer to any two files and any buffer, and the buffer afterwards (01, Numbers of refusal).
 use Prim.Native.Nat.{ℕ}
 use mathlib.Core.Bool.{cond}
-use mathlib.Core.List.{List}
-use lib.Dec.{ltb, eqb}
+use mathlib.Core.List.{List, [], _∷_, _++_}
+use lib.Dec.{ltb}
 use lib.ListN.{length}
 use Rattle.records.specs.Buffer.{put}
 use Rattle.files.specs.Layout.{headAt, rowCount}
-use Rattle.files.specs.Fault.{Fault, fault, none, orElse, fileFault}
+use Rattle.files.specs.Terms.{termsOf}
+use Rattle.columns.specs.Checks.{Refusal, refusal, firstRefusal, answerBy}
+use Rattle.files.specs.Order.{fileOrder}
 use Rattle.files.specs.Counting.{countingRow}
-use Rattle.settle.specs.Settlement.{figures}
+use Rattle.duties.specs.Duties.{Duties, dutiesOf}
 use Rattle.statement.specs.Statement.{lineStart}
+use Rattle.settle.specs.Settlement.{Figures, firstTurn, figures}
 use Rattle.settle.specs.Statement.{statementBytes}
 use Rattle.settle.specs.declared.Answer.{Answer}
 use Rattle.settle.specs.declared.Answer.the-variants.{Settled, Refused}
 
--- the statement of an accepted pair of files
+-- what the rows of an accepted pair of files offer, delivered, weigh and may be asked to pay
+unfoldable pub dutiesIn : List ℕ → List ℕ → Duties
+dutiesIn s k = dutiesOf (termsOf s) (headAt s .tariff .0) (rowCount s) (countingRow s k)
+
+-- the figures of an accepted pair
+unfoldable pub figuresOf : List ℕ → List ℕ → Figures
+figuresOf s k = figures (headAt s .need .0) firstTurn (dutiesIn s k)
+
+-- its statement
 unfoldable pub statementOf : List ℕ → List ℕ → List ℕ
-statementOf s k =
-    let row = countingRow s k in
-    statementBytes (headAt s) (rowCount s) row (figures (headAt s) (rowCount s) row)
+statementOf s k = statementBytes (headAt s) (rowCount s) (λ i. countingRow s k i .id) (figuresOf s k)
 
--- 1 to 10 of the files, then 11: a buffer shorter than the statement
-unfoldable pub settleFault : List ℕ → List ℕ → ℕ → Fault
-settleFault s k room =
-    orElse (fileFault s k) (cond (ltb room (lineStart (rowCount s))) (fault 11 0) none)
+-- 1 to 10 of the files in their order, then 11: a buffer shorter than the statement
+unfoldable pub settleOrder : List ℕ → List ℕ → ℕ → List Refusal
+settleOrder s k room = fileOrder s k ++ (refusal (ltb room (lineStart (rowCount s))) 11 0 ∷ [])
 
--- settled with the count of bytes written, or the refusal's number and place
+-- the first of them that applies decides: settled with the count of bytes written, or the refusal's number and place
 unfoldable pub answerOf : List ℕ → List ℕ → ℕ → Answer
-answerOf s k room =
-    let f = settleFault s k room in
-    cond (eqb (f .number) 0) (Settled (lineStart (rowCount s))) (Refused (f .number) (f .place))
+answerOf s k room = answerBy Refused (Settled (lineStart (rowCount s))) (firstRefusal (settleOrder s k room))
 
 -- the buffer afterwards: the statement at its front, every byte past it as before; a refusal changes nothing
 unfoldable pub bufferAfter : List ℕ → List ℕ → List ℕ → List ℕ
 bufferAfter s k out =
     let written = put out 0 (statementOf s k) in
-    cond (eqb (settleFault s k (length out) .number) 0) written out
+    cond (firstRefusal (settleOrder s k (length out)) .applies) out written
 
 -- the paper's number and value for each case of the answer: 0 and the count of bytes, or the number and the place
 abbrev pub numberOf : Answer → ℕ

@@ -1,6 +1,7 @@
 pub mod Settlement
+pub mod Within
 pub mod Statement
 pub mod Answer
-pub mod Asked
+pub mod Work
 pub mod Table
 pub mod Promise

@@ -1,13 +1,12 @@
 -- The statement that the figures make (01, The files).
 use Prim.Native.Nat.{ℕ}
-use mathlib.Core.List.{List, _++_}
+use mathlib.Core.List.{List, [], _∷_, _++_}
 use Rattle.columns.specs.Table.{at, table}
+use Rattle.records.specs.Record.{recordsBytes}
 use Rattle.files.specs.declared.Head.{Head}
-use Rattle.files.specs.declared.Row.{Row}
-use Rattle.statement.specs.Statement.{statementHeadBytes, linesBytes}
+use Rattle.statement.specs.Statement.{letterL, lineWidths, statementHeadBytes}
 use Rattle.statement.specs.declared.StatementHead.{StatementHead}
-use Rattle.statement.specs.declared.Line.{Line}
-use Rattle.settle.specs.Settlement.{Columns, Figures}
+use Rattle.settle.specs.Settlement.{Figures}
 
 -- the head
 unfoldable pub statementHead : Head → ℕ → Figures → StatementHead
@@ -24,26 +23,13 @@ statementHead h n f =
       rows = n;
     }
 
--- the line of the row at position i, which has this id
-unfoldable pub lineOf : ℕ → Columns → ℕ → Line
-lineOf id c i =
-    record {
-      id = id;
-      called1 = record { 0 = at (c .called1) i };
-      called2 = record { 0 = at (c .called2) i };
-      compensation = record { 0 = at (c .compensations) i };
-      cut = record { 0 = at (c .cuts) i };
-      weight = record { 0 = at (c .weights) i };
-      cap = record { 0 = at (c .caps) i };
-      paid = record { 0 = at (c .paid) i };
-      closing = at (c .closing) i;
-    }
+-- the fields of the line of the row at position i, which has this id
+abbrev pub lineOf : ℕ → Figures → ℕ → List ℕ
+lineOf id f i =
+    id ∷ at (f .called1) i ∷ at (f .called2) i ∷ at (f .compensations) i ∷ at (f .cuts) i ∷ at (f .weights) i ∷ at (f .caps) i
+    ∷ at (f .paid) i ∷ at (f .closing) i ∷ []
 
--- a line for each of n rows
-unfoldable pub linesOf : ℕ → (ℕ → ℕ) → Columns → List Line
-linesOf n id c = table n (λ i. lineOf (id i) c i)
-
--- its bytes
-unfoldable pub statementBytes : Head → ℕ → (ℕ → Row) → Figures → List ℕ
-statementBytes h n row f =
-    statementHeadBytes (statementHead h n f) ++ linesBytes (linesOf n (λ i. row i .id) (f .columns))
+-- its bytes: the head, then a line for each of n rows
+unfoldable pub statementBytes : Head → ℕ → (ℕ → ℕ) → Figures → List ℕ
+statementBytes h n id f =
+    statementHeadBytes (statementHead h n f) ++ recordsBytes letterL lineWidths (table n (λ i. lineOf (id i) f i))

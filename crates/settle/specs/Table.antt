@@ -6,12 +6,14 @@ use mathlib.Core.List.{List, [], _∷_, _++_}
 use lib.Dec.{eqb}
 use lib.ListN.{replicate}
 use Rattle.units.specs.Measure.{toFen, thermalCap}
-use Rattle.units.specs.Load.{half}
+use Rattle.units.specs.Load.{load}
 use Rattle.share.specs.Share.{shares}
 use Rattle.merit.specs.Band.{one, Bands}
 use Rattle.merit.specs.Call.{calls}
-use Rattle.levy.specs.Weight.{thermalWeight}
-use Rattle.statement.specs.Statement.{lineStart, statementHeadAt, lineAt}
+use Rattle.duties.specs.Duty.{thermalWeight}
+use Rattle.records.specs.Sheet.{cell}
+use Rattle.statement.specs.Statement.{statementHeadAt}
+use Rattle.statement.specs.Line as line
 use Rattle.settle.specs.Answer.{answerOf, bufferAfter, numberOf, valueOf}
 
 -- interval X at a tariff, byte by byte: a head and three rows of 100 MW
@@ -28,8 +30,8 @@ settledX tariff =
     let s = intervalX tariff in
     let out = bufferAfter s [] (replicate 137 255) in
     let h = statementHeadAt out in
-    numberOf (answerOf s [] 137) ∷ valueOf (answerOf s [] 137) ∷ h .total .0 ∷ lineAt out (lineStart 1) .paid .0
-    ∷ lineAt out (lineStart 2) .paid .0 ∷ h .rounds ∷ h .shortfall .0 ∷ []
+    numberOf (answerOf s [] 137) ∷ valueOf (answerOf s [] 137) ∷ h .total .0 ∷ cell line.paid out 1 ∷ cell line.paid out 2
+    ∷ h .rounds ∷ h .shortfall .0 ∷ []
 
 -- one line of the table: what is worked out, and what the paper says
 pub record Entry : Type 0 where
@@ -40,7 +42,7 @@ abbrev pub entry : List ℕ → List ℕ → Entry
 entry w p = record { worked = w; paper = p }
 
 abbrev pub weight100 : ℕ → ℕ
-weight100 e = thermalWeight (half 100) 100 e
+weight100 e = thermalWeight (load 100 50) 100 e
 
 -- two bands of tier 1 at one bid
 abbrev pub twoBands : Bands

@@ -1,14 +1,18 @@
 // The engine: one quarter hour settled from an interval file and its correction (01, What the engine settles).
-mod column;
-mod work;
-mod write;
+mod market;
+mod pairs;
+mod payers;
+mod rows;
+mod stages;
 
 use files::Verdict;
-use work::work as write_statement;
+use stages::write_statement;
+use statement::HEAD;
+use statement::LINE;
 ghost use mathlib.Core.Path.{_≡_};
 ghost use Prim.Native.Nat.{_≤_};
 ghost use lib.ListN.{length};
-ghost use Rattle.files.specs.Fault.{verdictOf};
+ghost use Rattle.files.specs.Order.{verdictOf};
 ghost use Rattle.statement.specs.Statement.{lineStart};
 ghost use Rattle.settle.specs.Answer.{answerOf, bufferAfter};
 
@@ -49,5 +53,5 @@ fn size_of(n: usize) -> usize
     requires { ⌜ n ≤ 256 ⌝ }
     ensures { λ r. ⌜ r ≡ lineStart n ⌝ }
 {
-    35 + n * 34
+    HEAD + n * LINE
 }

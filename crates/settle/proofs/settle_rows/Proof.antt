@@ -10,8 +10,8 @@ size-of-requires c κs = search few-rows
 returns : tie.Need-returns
 returns c = (search short-told, search short-left)
 
-work-requires : tie.Need-work-requires
-work-requires c κs = search needs
+write-statement-requires : tie.Need-write-statement-requires
+write-statement-requires c κs = search needs
 
 same-length : tie.Need-same-length
 same-length c = search needs
@@ -21,4 +21,4 @@ returns-2 c = (search written-told, search written-left)
 
 pub settle-rows-spec : {M : Type 1} → statement M
 settle-rows-spec =
-    tie.close (tie.spec size-of-requires returns work-requires same-length returns-2)
+    tie.close (tie.spec size-of-requires returns write-statement-requires same-length returns-2)

@@ -1,0 +1,77 @@
+-- The first stage, row by row, as its proof asks for it.
+--   Sofar          how far it has come before row i: the lines of the rows passed
+--   sofar-none, sofar-more, sofar-all     its start, one row more, its end
+--   source-inside, source-is, line-room, sofar-long     the next row's source is there and right, its line has room
+--   row-ranged, row-inside, row-read      of one row: it is in its ranges, and its line is that of its duties
+use Prim.Native.Nat.{ℕ, _+_, _*_, _≤_, _<_}
+use mathlib.Core.Path.{_≡_, refl, sym, ap, _∙_}
+use mathlib.Core.List.{List}
+use native.Mathlib.Omega.{arith}
+use lib.ListN.{length}
+use Rattle.columns.specs.Table.{at, table}
+use Rattle.records.specs.Buffer.{put}
+use Rattle.records.specs.Record.{recordBytes}
+use Rattle.records.proofs.Sheet.{sheet-none, sheet-next, sheet-length}
+use Rattle.files.specs.Terms.{termsOf}
+use Rattle.files.specs.Order.{verdictOf}
+use Rattle.files.specs.Counting.{sourceOf, countingRow}
+use Rattle.files.specs.declared.Row.{Row}
+use Rattle.files.specs.declared.Terms.{Terms}
+use Rattle.files.specs.declared.Verdict.the-variants.{Accepted}
+use Rattle.files.proofs.Laws.{accepted-few, accepted-ranges, source-at}
+use Rattle.duties.specs.Duty.{dutyOf}
+use Rattle.duties.specs.Ranged.{Ranged}
+use Rattle.duties.specs.declared.Duty.{Duty}
+use Rattle.duties.proofs.Laws.{in-range}
+use Rattle.statement.specs.Statement.{letterL, lineWidths, headSize, lineStart}
+use Rattle.settle.specs.Work.{lined, dutyLine, rowLine}
+
+module _ (n tariff : ℕ) (s k : List ℕ) (i : ℕ) (ok : verdictOf s k ≡ Accepted n) (l : i < n) (row : Row) (is : row ≡ countingRow s k i) where
+  pub row-ranged : Ranged row
+  row-ranged = rw is (in-range (termsOf s) (countingRow s k i) (accepted-ranges s k n ok i l))
+
+  pub row-inside : i < 256
+  row-inside = omega (arith, accepted-few s k n ok)
+
+  pub row-read : (terms : Terms) (d : Duty) (sheet t : List ℕ) → terms ≡ termsOf s → d ≡ dutyOf terms tariff row
+      → t ≡ put sheet (lineStart i) (recordBytes letterL lineWidths (dutyLine (row .id) d))
+      → t ≡ put sheet (lineStart i) (recordBytes letterL lineWidths (rowLine tariff s k i))
+  row-read terms d sheet t by made putting =
+      putting
+      ∙ (λ j. put sheet (lineStart i) (recordBytes letterL lineWidths (dutyLine (is j .id) ((made ∙ (λ m. dutyOf (by m) tariff (is m))) j))))
+
+pub record Sofar (n tariff : ℕ) (s k out sheet : List ℕ) (i : ℕ) : Type 0 where
+  pub within : i ≤ n
+  pub bytes : sheet ≡ lined out i (rowLine tariff s k)
+
+module _ (n tariff : ℕ) (s k out : List ℕ) (ok : verdictOf s k ≡ Accepted n) (room : lineStart n ≤ length out) where
+  pub sofar-none : Sofar n tariff s k out out 0
+  sofar-none = record { within = omega arith; bytes = sym (sheet-none headSize letterL lineWidths out (rowLine tariff s k)) }
+
+  module _ (sheet : List ℕ) (i : ℕ) (sofar : Sofar n tariff s k out sheet i) where
+    pub sofar-long : length sheet ≡ length out
+    sofar-long =
+        ap length (sofar .bytes)
+        ∙ sheet-length headSize letterL lineWidths out i (rowLine tariff s k) (λ j. refl) (omega (arith, sofar .within))
+
+    module _ (l : i < n) where
+      pub source-inside : i < 256
+      source-inside = omega (arith, accepted-few s k n ok)
+
+      pub line-room : lineStart (i + 1) ≤ length sheet
+      line-room = omega (arith, sofar-long)
+
+      pub source-is : (start sources : List ℕ) → sources ≡ put start 0 (table n (sourceOf s k)) → at sources i ≡ sourceOf s k i
+      source-is start sources made = rw made (source-at start n (sourceOf s k) i l)
+
+      pub sofar-more : (t : List ℕ) → t ≡ put sheet (lineStart i) (recordBytes letterL lineWidths (rowLine tariff s k i)) → Sofar n tariff s k out t (i + 1)
+      sofar-more t putting =
+          record {
+            within = omega arith;
+            bytes = putting
+                ∙ ap (λ (x : List ℕ). put x (lineStart i) (recordBytes letterL lineWidths (rowLine tariff s k i))) (sofar .bytes)
+                ∙ sheet-next headSize letterL lineWidths out i (rowLine tariff s k) (λ j. refl) (omega arith);
+          }
+
+    pub sofar-all : n ≤ i → sheet ≡ lined out n (rowLine tariff s k)
+    sofar-all up = let e : i ≡ n = omega (arith, sofar .within) in rw e at (sofar .bytes)

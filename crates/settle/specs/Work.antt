@@ -1,0 +1,147 @@
+-- The stages of a settlement over the sheet: what each asks of it, and what it leaves in it. Lines hold duties until the figures
+-- that belong there replace them. No promise of the engine speaks of this page.
+use Prim.Native.Nat.{ℕ, _+_, _-_, _^_, _≤_, _<_}
+use mathlib.Core.Path.{_≡_}
+use mathlib.Core.List.{List, [], _∷_}
+use lib.ListN.{length}
+use Rattle.columns.specs.Sum.{whole}
+use Rattle.columns.specs.Table.{at, table}
+use Rattle.records.specs.Sheet.{Lined, cell, columnOf, withColumn, sheet}
+use Rattle.records.specs.declared.Field.{Field}
+use Rattle.files.specs.Terms.{termsOf}
+use Rattle.files.specs.Counting.{countingRow}
+use Rattle.duties.specs.Duty.{dutyOf}
+use Rattle.duties.specs.declared.Duty.{Duty}
+use Rattle.merit.specs.OneTier.{tierCalls}
+use Rattle.merit.specs.Price.{price}
+use Rattle.pay.specs.Pay.{compensation}
+use Rattle.levy.specs.Asked.{standingOf}
+use Rattle.levy.specs.Rounds.{Standing, final, payments}
+use Rattle.levy.specs.declared.Rest.{Rest}
+use Rattle.share.specs.Share.{shares}
+use Rattle.statement.specs.Statement.{letterL, lineWidths, headSize}
+use Rattle.statement.specs.Line as line
+use Rattle.settle.specs.Within.{Turn}
+use Rattle.settle.specs.declared.market.Cleared.{Cleared}
+
+-- n lines in a buffer
+abbrev pub lined : List ℕ → ℕ → (ℕ → List ℕ) → List ℕ
+lined out n f = sheet headSize letterL lineWidths out n f
+
+-- a row's line before the market: its id, then its duties in the places of called 1, called 2, compensation, cut, weight, cap, paid
+-- and closing round
+abbrev pub dutyLine : ℕ → Duty → List ℕ
+dutyLine id d =
+    id ∷ d .width1 .0 ∷ d .width2 .0 ∷ d .energy1 .0 ∷ d .energy2 .0 ∷ d .weight .0 ∷ d .cap .0 ∷ d .bid2 .0 ∷ d .bid1 .0 ∷ []
+
+-- that of the row that counts at position i
+abbrev pub rowLine : ℕ → List ℕ → List ℕ → ℕ → List ℕ
+rowLine tariff s k i = dutyLine (countingRow s k i .id) (dutyOf (termsOf s) tariff (countingRow s k i))
+
+-- the sheet has n lines, as far as a field goes
+pub record Ruled (n : ℕ) (f : Field) (s : List ℕ) : Type 0 where
+  pub lined : Lined f n s
+  pub narrow : f .width ≤ 4
+
+-- a tier's offers stand in two fields
+pub record Offered (n first : ℕ) (width bid : Field) (s : List ℕ) : Type 0 where
+  pub few : n ≤ 256
+  pub turn : Turn n first
+  pub widths : Ruled n width s
+  pub bids : Ruled n bid s
+  pub narrow : (i : ℕ) → at (columnOf width n s) i ≤ 250000
+  pub low : (i : ℕ) → at (columnOf bid n s) i < 65536
+
+-- three columns of one length to work in, the last of them blank
+pub record Lent (widths bids called : List ℕ) : Type 0 where
+  pub widths-long : length widths ≡ length called
+  pub bids-long : length bids ≡ length called
+  pub blank : (i : ℕ) → at called i ≡ 0
+
+-- a tier is cleared: its calls, the need that is left, the price
+pub record TierCleared (need : ℕ) (ws bs : List ℕ) (first : ℕ) (cs : List ℕ) (r : Cleared) : Type 0 where
+  pub called : cs ≡ tierCalls need ws bs first
+  pub left : r .left .0 ≡ need - whole ws
+  pub price : r .price .0 ≡ price bs cs
+
+-- the calls of a tier whose offers stand in two fields
+abbrev pub callsIn : ℕ → ℕ → ℕ → Field → Field → List ℕ → List ℕ
+callsIn need first n width bid s = tierCalls need (columnOf width n s) (columnOf bid n s) first
+
+-- the tier is cleared from the sheet
+pub record ClearedIn (need first n : ℕ) (width bid : Field) (s cs : List ℕ) (r : Cleared) : Type 0 where
+  pub called : cs ≡ callsIn need first n width bid s
+  pub left : r .left .0 ≡ need - whole (columnOf width n s)
+  pub price : r .price .0 ≡ price (columnOf bid n s) (callsIn need first n width bid s)
+
+-- the tier is called: so it is cleared, and the calls stand in the place of the widths
+pub record Called (need first n : ℕ) (width bid : Field) (s t : List ℕ) (r : Cleared) : Type 0 where
+  pub bytes : t ≡ withColumn width (callsIn need first n width bid s) s
+  pub left : r .left .0 ≡ need - whole (columnOf width n s)
+  pub price : r .price .0 ≡ price (columnOf bid n s) (callsIn need first n width bid s)
+
+-- what the row at position i is paid
+abbrev pub payAt : ℕ → ℕ → List ℕ → ℕ → ℕ
+payAt p1 p2 s i =
+    compensation (cell line.called1 s i) (cell line.called2 s i) (cell line.compensation s i) (cell line.cut s i) p1 p2
+
+-- calls and energies stand in their fields; prices are low, and nobody delivered more than a row can
+pub record Payable (n p1 p2 : ℕ) (s : List ℕ) : Type 0 where
+  pub few : n ≤ 256
+  pub called1 : Lined line.called1 n s
+  pub low1 : p1 ≤ 1000
+  pub low2 : p2 ≤ 1000
+  pub delivered : (i : ℕ) → i < n → cell line.compensation s i + cell line.cut s i ≤ 250000
+
+-- everybody is paid, and the total is known
+pub record Paid (n p1 p2 : ℕ) (s t : List ℕ) (r : ℕ) : Type 0 where
+  pub bytes : t ≡ withColumn line.compensation (table n (payAt p1 p2 s)) s
+  pub total : r ≡ whole (table n (payAt p1 p2 s))
+
+-- weights and caps stand in their fields
+pub record Leviable (n first total : ℕ) (s : List ℕ) : Type 0 where
+  pub few : n ≤ 256
+  pub turn : Turn n first
+  pub weights : Ruled n line.weight s
+  pub caps : Ruled n line.cap s
+  pub paid : Ruled n line.paid s
+  pub closing : Ruled n line.closing s
+  pub rich : total ≤ 6400000000
+  pub light : (i : ℕ) → at (columnOf line.weight n s) i ≤ 550000000
+  pub low : (i : ℕ) → at (columnOf line.cap n s) i ≤ 44000000
+
+-- how things stand after the rounds of a total over the sheet's weights and caps
+abbrev pub standingIn : ℕ → ℕ → List ℕ → Standing
+standingIn total n s = final total (columnOf line.weight n s) (columnOf line.cap n s)
+
+-- the rounds are over: how things stand, closing rounds and payments
+pub record LeviedOn (n first total : ℕ) (ws cs marks paid : List ℕ) (r : Rest) : Type 0 where
+  pub stands : standingOf n marks r ≡ final total ws cs
+  pub long : length marks ≡ 256
+  pub payments : paid ≡ payments ws cs (final total ws cs) first
+
+-- the same with the payments in their field of the sheet
+pub record LeviedIn (n first total : ℕ) (ws cs s marks t : List ℕ) (r : Rest) : Type 0 where
+  pub stands : standingOf n marks r ≡ final total ws cs
+  pub long : length marks ≡ 256
+  pub bytes : t ≡ withColumn line.paid (payments ws cs (final total ws cs) first) s
+
+-- everybody has paid: payments and closing rounds stand in their fields, and what is left is known
+pub record Levied (n first total : ℕ) (s t : List ℕ) (r : Rest) : Type 0 where
+  pub bytes : t ≡ withColumn line.closing (standingIn total n s .marks)
+      (withColumn line.paid (payments (columnOf line.weight n s) (columnOf line.cap n s) (standingIn total n s) first) s)
+  pub money : r .money .0 ≡ standingIn total n s .money
+  pub weight : r .weight ≡ standingIn total n s .weight
+  pub rounds : r .rounds ≡ standingIn total n s .rounds
+
+-- compensations stand in their field, and no more is cut than they come to
+pub record Cuttable (n first shortfall : ℕ) (s : List ℕ) : Type 0 where
+  pub few : n ≤ 256
+  pub turn : Turn n first
+  pub ruled : Ruled n line.compensation s
+  pub cuts : Ruled n line.cut s
+  pub covered : shortfall ≤ whole (columnOf line.compensation n s)
+
+-- what is cut stands in its field
+abbrev pub cutFrom : ℕ → ℕ → ℕ → List ℕ → List ℕ
+cutFrom n first shortfall s = withColumn line.cut (shares shortfall (columnOf line.compensation n s) first) s

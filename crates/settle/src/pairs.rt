@@ -1,0 +1,17 @@
+// Two fields of the sheet read at once.
+use records::Field;
+use records::get_column;
+ghost use mathlib.Core.Path.{_≡_};
+ghost use lib.ListN.{length};
+ghost use Rattle.records.specs.Sheet.{columnOf};
+ghost use Rattle.settle.specs.Work.{Ruled};
+
+// Reads two fields into columns of one length.
+pub fn get_pair(sheet: &[u8], one: Field, two: Field, first: &mut [u32], second: &mut [u32])
+    requires { ⌜ Ruled (length (now first)) one (now sheet) × Ruled (length (now second)) two (now sheet) ⌝ }
+    ensures { λ _. ⌜ now (first .exit) ≡ columnOf one (length (now (first .entry))) (now (sheet .entry)) ⌝ }
+    ensures { λ _. ⌜ now (second .exit) ≡ columnOf two (length (now (second .entry))) (now (sheet .entry)) ⌝ }
+{
+    get_column(sheet, one, first);
+    get_column(sheet, two, second);
+}

@@ -1,0 +1,76 @@
+// The first stage: a line for each row, with what the row offers, delivered, weighs and may be asked to pay in the places of the
+// figures that will stand there. A row is decoded here, and nowhere after.
+use duties::Duty;
+use duties::duty_of;
+use files::Verdict;
+use files::counting_row;
+use files::terms_of;
+use records::put_record;
+use statement::HEAD;
+use statement::LINE;
+use statement::LINE_LETTER;
+use statement::LINE_WIDTHS;
+use units::Hao;
+ghost use mathlib.Core.Path.{_≡_};
+ghost use Prim.Native.Nat.{_+_, _<_, _≤_};
+ghost use lib.ListN.{length};
+ghost use Rattle.records.specs.Buffer.{put};
+ghost use Rattle.records.specs.Record.{recordBytes};
+ghost use Rattle.files.specs.Order.{verdictOf};
+ghost use Rattle.files.specs.Counting.{sourceOf};
+ghost use Rattle.statement.specs.Statement.{letterL, lineWidths, lineStart};
+ghost use Rattle.settle.specs.Work.{lined, dutyLine, rowLine};
+
+// Puts one row's line: its id and its duties.
+fn put_duty(sheet: &mut [u8], i: usize, id: u16, d: Duty)
+    requires { ⌜ (i < 256) × (lineStart (i + 1) ≤ length (now sheet)) ⌝ }
+    ensures { λ _. ⌜ now (sheet .exit) ≡ put (now (sheet .entry)) (lineStart i) (recordBytes letterL lineWidths (dutyLine id d)) ⌝ }
+{
+    let fields = [
+        id as u64,
+        d.width1.0 as u64,
+        d.width2.0 as u64,
+        d.energy1.0 as u64,
+        d.energy2.0 as u64,
+        d.weight.0 as u64,
+        d.cap.0,
+        d.bid2.0,
+        d.bid1.0,
+    ];
+    put_record(sheet, HEAD + i * LINE, LINE_LETTER, &LINE_WIDTHS, &fields);
+}
+
+// The line of the row that counts at a position, which is the correction's where `source` says so.
+fn read_row(
+    interval: &[u8],
+    correction: &[u8],
+    n: usize,
+    i: usize,
+    source: u16,
+    tariff: Hao,
+    sheet: &mut [u8],
+)
+    requires { ⌜ (verdictOf (now interval) (now correction) ≡ Verdict.Accepted n) × (i < n) × (source ≡ sourceOf (now interval) (now correction) i) ⌝ }
+    requires { ⌜ lineStart (i + 1) ≤ length (now sheet) ⌝ }
+    ensures { λ _. ⌜ now (sheet .exit) ≡ put (now (sheet .entry)) (lineStart i)
+        (recordBytes letterL lineWidths (rowLine (tariff .0) (now (interval .entry)) (now (correction .entry)) i)) ⌝ }
+{
+    let row = counting_row(interval, correction, n, i, source);
+    let d = duty_of(terms_of(interval), tariff, row);
+    put_duty(sheet, i, row.id, d);
+}
+
+// The duties of all rows of an accepted pair.
+pub fn read(interval: &[u8], correction: &[u8], n: usize, tariff: Hao, sheet: &mut [u8])
+    requires { ⌜ verdictOf (now interval) (now correction) ≡ Verdict.Accepted n ⌝ }
+    requires { ⌜ lineStart n ≤ length (now sheet) ⌝ }
+    ensures { λ _. ⌜ now (sheet .exit) ≡ lined (now (sheet .entry)) n (rowLine (tariff .0) (now (interval .entry)) (now (correction .entry))) ⌝ }
+{
+    let mut sources = [0u16; 256];
+    files::sources(interval, correction, n, &mut sources);
+    let mut i = 0;
+    while i < n {
+        read_row(interval, correction, n, i, sources[i], tariff, sheet);
+        i += 1;
+    }
+}

@@ -1,0 +1,58 @@
+// A settlement as a flat run of stages over the lent buffer, which is the work sheet: a line for each row, each stage one field of it.
+// The head comes last.
+use crate::market::call;
+use crate::market::compensate;
+use crate::payers::collect;
+use crate::payers::cut;
+use crate::rows::read;
+use files::Verdict;
+use statement::CALLED1;
+use statement::CALLED2;
+use statement::CLOSING;
+use statement::PAID;
+use statement::StatementHead;
+use statement::put_statement_head;
+ghost use mathlib.Core.Path.{_≡_};
+ghost use Prim.Native.Nat.{_≤_};
+ghost use lib.ListN.{length};
+ghost use Rattle.records.specs.Buffer.{put};
+ghost use Rattle.files.specs.Order.{verdictOf};
+ghost use Rattle.statement.specs.Statement.{lineStart};
+ghost use Rattle.settle.specs.Answer.{statementOf};
+
+// The position that goes first among equal remainders: the lower id.
+const FIRST_TURN: usize = 0;
+
+// The statement of an accepted pair of n rows, into a buffer with room for it.
+pub fn write_statement(interval: &[u8], correction: &[u8], n: usize, sheet: &mut [u8])
+    requires { ⌜ verdictOf (now interval) (now correction) ≡ Verdict.Accepted n ⌝ }
+    requires { ⌜ lineStart n ≤ length (now sheet) ⌝ }
+    ensures { λ _. ⌜ now (sheet .exit) ≡ put (now (sheet .entry)) 0 (statementOf (now (interval .entry)) (now (correction .entry))) ⌝ }
+{
+    let head = files::head_at(interval);
+    let tariff = head.tariff;
+    let need = head.need;
+    read(interval, correction, n, tariff, sheet);
+    let tier1 = call(need, FIRST_TURN, n, CALLED1, CLOSING, sheet);
+    let left = tier1.left;
+    let price1 = tier1.price;
+    let tier2 = call(left, FIRST_TURN, n, CALLED2, PAID, sheet);
+    let price2 = tier2.price;
+    let uncovered = tier2.left;
+    let total = compensate(n, price1, price2, sheet);
+    let rest = collect(total, FIRST_TURN, n, sheet);
+    let shortfall = levy::shortfall(rest);
+    cut(shortfall, FIRST_TURN, n, sheet);
+    let top = StatementHead {
+        day: head.day,
+        quarter: head.quarter,
+        price1,
+        price2,
+        total,
+        shortfall,
+        rounds: rest.rounds,
+        uncovered,
+        rows: n as u16,
+    };
+    put_statement_head(sheet, top);
+}
