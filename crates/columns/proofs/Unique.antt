@@ -20,6 +20,3 @@ wide-unique κs a x y e f p q = p .0 ∙ sym (q .0)
 
 pub total-of-unique : One-result total-of.Learnt
 total-of-unique κs a x y e f p q = p ∙ sym q
-
-pub unique : {A : Type 0} (d x y : A) → x ≡ d → y ≡ d → x ≡ y
-unique d x y p q = p ∙ sym q
