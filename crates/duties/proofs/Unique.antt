@@ -1,12 +1,7 @@
--- Two results that one contract allows are equal: `duty-unique` of `duty_of`. Its parts answer in one measure, so `kwh-unique` and
--- `fen-unique` of `units` serve them, and `unique` of `columns` serves `pays`.
-use Prim.Native.Nat.{ℕ}
-use mathlib.Core.Path.{_≡_}
-use Rattle.columns.proofs.Unique.{unique}
-use Rattle.files.specs.declared.Row.{Row}
-use Rattle.files.specs.declared.Terms.{Terms}
-use Rattle.duties.specs.Duty.{dutyOf}
-use Rattle.duties.specs.declared.Duty.{Duty}
+-- Two results that the contract of `duty_of` allows are equal: a theorem of the contract itself (`Learnt`).
+use mathlib.Core.Path.{_≡_, sym, _∙_}
+use Rattle.columns.proofs.Unique.{One-result}
+use Rattle.duties.proofs.duty_of.Reads as duty-of
 
-pub duty-unique : (t : Terms) (tariff : ℕ) (r : Row) (x y : Duty) → x ≡ dutyOf t tariff r → y ≡ dutyOf t tariff r → x ≡ y
-duty-unique t tariff r = unique (dutyOf t tariff r)
+pub duty-of-unique : One-result duty-of.Learnt
+duty-of-unique κs a x y e f p q = p ∙ sym q

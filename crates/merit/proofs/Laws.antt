@@ -16,9 +16,9 @@
 --     price-least          the price is at least the bid of each row called for more than 0
 --     price-reached        it is the bid of some such row, or it is 0
 --     price-le             it is at most B if all bids are
---     price-unique         two results that the contract of `price` allows are equal
+--     price-unique, call-tier-unique      two results that one contract allows are equal
 use Prim.Native.Nat.{ℕ, zero, suc, _+_, _-_, _≤_, _<_, min, zero-le}
-use mathlib.Core.Path.{_≡_, sym, _∙_}
+use mathlib.Core.Path.{_≡_, ap, sym, _∙_}
 use mathlib.Core.Logic.{_⊎_, inl, inr, ⊎-elim}
 use mathlib.Core.Bool.{cond}
 use mathlib.Core.List.{List}
@@ -31,11 +31,12 @@ use Rattle.columns.specs.Table.{at, Below}
 use Rattle.columns.proofs.Sum.{lt-or-le, term-le, max-term, max-bound, max-reached}
 use Rattle.columns.proofs.Table.{table-length, table-at, table-past}
 use Rattle.columns.proofs.Whole.{whole-table}
-use Rattle.units.specs.declared.Li.{Li}
-use Rattle.units.proofs.Unique.{li-unique}
+use Rattle.columns.proofs.Unique.{Leaves-one, One-result}
 use Rattle.merit.specs.Band.{Tier, one, two, Bands, widths, bids, rows, orderAt}
 use Rattle.merit.specs.Call.{cheaper, group, due, called, calls, uncovered}
 use Rattle.merit.specs.Price.{price}
+use Rattle.merit.proofs.call_tier.Reads as call-tier
+use Rattle.merit.proofs.price.Reads as price-reads
 use Rattle.merit.proofs.Keyed.{cond-le, before, before-next, before-zero, before-all}
 use Rattle.merit.proofs.Keyed.{peers, peers-sum, portion, shared, shared-le, shared-past, shared-met, shared-full, shared-sum}
 use Rattle.merit.proofs.Groups.{cheaper-next, cheaper-tier, cheaper-rise, cheaper-zero, cheaper-all, groups-apart}
@@ -176,5 +177,8 @@ module _ (bs cs : List ℕ) where
       max-bound (length bs) m (λ i. cond (ltb 0 (at cs i)) (at bs i) 0)
       (λ i l. omega (arith, cond-le (ltb 0 (at cs i)) (at bs i), h i))
 
-  pub price-unique : (r s : Li) → r .0 ≡ price bs cs → s .0 ≡ price bs cs → r ≡ s
-  price-unique r s p q = li-unique (price bs cs) r s p q
+pub price-unique : One-result price-reads.Learnt
+price-unique κs a x y e f p q = ap (λ (m : ℕ). record { 0 = m }) (p ∙ sym q)
+
+pub call-tier-unique : Leaves-one call-tier.Learnt (λ κs x y e f. (x ≡ y) × (e .1 .1 .1 .1 .0 .now ≡ f .1 .1 .1 .1 .0 .now))
+call-tier-unique κs a x y e f p q = (ap (λ (m : ℕ). record { 0 = m }) (p .beyond ∙ sym (q .beyond)), p .called ∙ sym (q .called))

@@ -2,7 +2,6 @@
 --     tier-length      as many calls as bands
 --     tier-at          what stands in the column at row i is what row i is called for
 --     tier-le          a band is called for at most its width
---     tier-unique      two results that the contract of `call_tier` allows are equal
 -- For the walk: `below-..` what lower bids stand for, `called-..` what a band is called for, `parts-..` what the bands of one bid are.
 use Prim.Native.Nat.{ℕ, suc, _+_, _-_, _≤_, _<_, min}
 use mathlib.Core.Path.{_≡_, sym, _∙_}
@@ -19,7 +18,6 @@ use Rattle.columns.proofs.Table.{table-length, table-at, table-past}
 use Rattle.share.specs.Share.{share}
 use Rattle.share.proofs.Laws.{shares-at, shares-length}
 use Rattle.merit.specs.OneTier.{under, equal, below, groupIn, dueIn, calledIn, tierCalls}
-use Rattle.merit.specs.Ready.{TierCalled}
 use Rattle.merit.specs.Walk.{partsIn}
 use Rattle.merit.proofs.Keyed.{before, Empty, before-next, before-rise, before-skip, before-zero, before-le, before-all}
 use Rattle.merit.proofs.Keyed.{peers, portion, shared, shared-le, shared-past, shared-met, shared-part, shared-sum}
@@ -111,6 +109,3 @@ module _ (need : ℕ) (ws bs : List ℕ) (first : ℕ) where
 
   pub tier-le : (i : ℕ) → at (tierCalls need ws bs first) i ≤ at ws i
   tier-le i = omega (arith, tier-at i, called-le i)
-
-  pub tier-unique : (r s : ℕ) (c d : List ℕ) → TierCalled need ws bs first r c → TierCalled need ws bs first s d → (r ≡ s) × (c ≡ d)
-  tier-unique r s c d x y = (x .beyond ∙ sym (y .beyond), x .called ∙ sym (y .called))

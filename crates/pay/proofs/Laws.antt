@@ -8,16 +8,16 @@
 --     li-to-fen             P11 of document 01: half a fen goes upward
 --     compensation-unique   two results that the contract allows are equal
 use Prim.Native.Nat.{ℕ, _+_, _*_, _≤_, _<_}
-use mathlib.Core.Path.{_≡_, refl}
+use mathlib.Core.Path.{_≡_, refl, ap, sym, _∙_}
 use mathlib.Core.Logic.{⊎-elim}
 use mathlib.Core.List.{List, [], _∷_}
 use native.Mathlib.Nat.{le-refl, mul-le-mul, eq-zero-or-pos}
 use native.Mathlib.Omega.{arith}
 use borrow.Author.Tests.{lt-ltb, le-ltb}
 use Rattle.units.specs.Measure.{toFen}
-use Rattle.units.proofs.Unique.{fen-unique}
-use Rattle.units.specs.declared.Fen.{Fen}
+use Rattle.columns.proofs.Unique.{One-result}
 use Rattle.pay.specs.Pay.{tierPay, compensation}
+use Rattle.pay.proofs.compensation.Reads as reads
 
 pub tier-none : (call energy price : ℕ) → call ≡ 0 → tierPay call energy price ≡ 0
 tier-none call energy price e = rw (le-ltb 0 call (omega arith))
@@ -40,9 +40,8 @@ module _ (call1 call2 energy1 energy2 price1 price2 : ℕ) where
         tier-most energy2 1000 call2 energy2 price2 (le-refl energy2) q,
       )
 
-  pub compensation-unique : (x y : Fen) → x .0 ≡ compensation call1 call2 energy1 energy2 price1 price2
-      → y .0 ≡ compensation call1 call2 energy1 energy2 price1 price2 → x ≡ y
-  compensation-unique = fen-unique (compensation call1 call2 energy1 energy2 price1 price2)
+pub compensation-unique : One-result reads.Learnt
+compensation-unique κs a x y e f p q = ap (λ (m : ℕ). record { 0 = m }) (p ∙ sym q)
 
 pub not-called : (energy1 energy2 price1 price2 : ℕ) → compensation 0 0 energy1 energy2 price1 price2 ≡ 0
 not-called energy1 energy2 price1 price2 = refl

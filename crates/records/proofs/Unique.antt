@@ -1,59 +1,51 @@
--- Two results that one contract allows are equal.
---   wide-unique        of `wide`
---   number-at-unique   of `number_at`
---   put-unique         what `put_bytes` leaves in the buffer
---   put-number-unique  what `put_number` leaves there
---   put-fields-unique  what `put_fields` leaves there
---   marked-unique      of `marked`
---   get-record-unique  what `get_record` leaves in the fields
---   put-record-unique  what `put_record` leaves in the buffer
---   cell-unique        of `cell`
---   get-column-unique  what `get_column` leaves in the column
---   put-cell-unique, put-column-unique   what `put_cell` and `put_column` leave in the buffer
-use Prim.Native.Nat.{ℕ}
-use mathlib.Core.Path.{_≡_}
-use mathlib.Core.Bool.{Bool}
-use mathlib.Core.List.{List}
-use Rattle.columns.proofs.Unique.{unique}
-use Rattle.records.specs.Number.{numberAt, numberBytes}
-use Rattle.records.specs.Fields.{fieldsBytes}
-use Rattle.records.specs.Buffer.{put}
-use Rattle.records.specs.Record.{marked, recordAt, recordBytes}
-use Rattle.records.specs.Sheet.{cell, columnOf, withCell, withColumn}
-use Rattle.records.specs.declared.Field.{Field}
+-- Two results that one contract allows are equal, for each public function: theorems of the contract itself (`Learnt`).
+use mathlib.Core.Path.{_≡_, sym, _∙_}
+use Rattle.columns.proofs.Unique.{Leaves-one, One-result}
+use Rattle.records.proofs.wide.Reads as wide
+use Rattle.records.proofs.number_at.Reads as number-at
+use Rattle.records.proofs.put_bytes.Reads as put-bytes
+use Rattle.records.proofs.put_number.Reads as put-number
+use Rattle.records.proofs.put_fields.Reads as put-fields
+use Rattle.records.proofs.marked.Reads as marked
+use Rattle.records.proofs.get_record.Reads as get-record
+use Rattle.records.proofs.put_record.Reads as put-record
+use Rattle.records.proofs.cells.cell.Reads as cell
+use Rattle.records.proofs.cells.put_cell.Reads as put-cell
+use Rattle.records.proofs.cells.get_column.Reads as get-column
+use Rattle.records.proofs.cells.put_column.Reads as put-column
 
-pub wide-unique : (b x y : ℕ) → x ≡ b → y ≡ b → x ≡ y
-wide-unique = unique
+pub wide-unique : One-result wide.Learnt
+wide-unique κs a x y e f p q = p .0 ∙ sym (q .0)
 
-pub number-at-unique : (w : ℕ) (s : List ℕ) (k x y : ℕ) → x ≡ numberAt w s k → y ≡ numberAt w s k → x ≡ y
-number-at-unique w s k = unique (numberAt w s k)
+pub number-at-unique : One-result number-at.Learnt
+number-at-unique κs a x y e f p q = p .0 ∙ sym (q .0)
 
-pub put-unique : (out : List ℕ) (k : ℕ) (src x y : List ℕ) → x ≡ put out k src → y ≡ put out k src → x ≡ y
-put-unique out k src = unique (put out k src)
+pub put-bytes-unique : Leaves-one put-bytes.Learnt (λ κs x y e f. e .0 .now ≡ f .0 .now)
+put-bytes-unique κs a x y e f p q = p ∙ sym q
 
-pub put-number-unique : (out : List ℕ) (k w n : ℕ) (x y : List ℕ) → x ≡ put out k (numberBytes w n) → y ≡ put out k (numberBytes w n) → x ≡ y
-put-number-unique out k w n = put-unique out k (numberBytes w n)
+pub put-number-unique : Leaves-one put-number.Learnt (λ κs x y e f. e .0 .now ≡ f .0 .now)
+put-number-unique κs a x y e f p q = p ∙ sym q
 
-pub put-fields-unique : (out : List ℕ) (k : ℕ) (ws xs x y : List ℕ) → x ≡ put out k (fieldsBytes ws xs) → y ≡ put out k (fieldsBytes ws xs) → x ≡ y
-put-fields-unique out k ws xs = put-unique out k (fieldsBytes ws xs)
+pub put-fields-unique : Leaves-one put-fields.Learnt (λ κs x y e f. e .0 .now ≡ f .0 .now)
+put-fields-unique κs a x y e f p q = p ∙ sym q
 
-pub marked-unique : (s : List ℕ) (k letter : ℕ) (x y : Bool) → x ≡ marked s k letter → y ≡ marked s k letter → x ≡ y
-marked-unique s k letter = unique (marked s k letter)
+pub marked-unique : One-result marked.Learnt
+marked-unique κs a x y e f p q = p ∙ sym q
 
-pub get-record-unique : (ws s : List ℕ) (k : ℕ) (x y : List ℕ) → x ≡ recordAt ws s k → y ≡ recordAt ws s k → x ≡ y
-get-record-unique ws s k = unique (recordAt ws s k)
+pub get-record-unique : Leaves-one get-record.Learnt (λ κs x y e f. e .1 .1 .1 .0 .now ≡ f .1 .1 .1 .0 .now)
+get-record-unique κs a x y e f p q = p .0 ∙ sym (q .0)
 
-pub put-record-unique : (out : List ℕ) (k letter : ℕ) (ws xs x y : List ℕ) → x ≡ put out k (recordBytes letter ws xs) → y ≡ put out k (recordBytes letter ws xs) → x ≡ y
-put-record-unique out k letter ws xs = put-unique out k (recordBytes letter ws xs)
+pub put-record-unique : Leaves-one put-record.Learnt (λ κs x y e f. e .0 .now ≡ f .0 .now)
+put-record-unique κs a x y e f p q = p ∙ sym q
 
-pub cell-unique : (f : Field) (s : List ℕ) (i x y : ℕ) → x ≡ cell f s i → y ≡ cell f s i → x ≡ y
-cell-unique f s i = unique (cell f s i)
+pub cell-unique : One-result cell.Learnt
+cell-unique κs a x y e f p q = p .0 ∙ sym (q .0)
 
-pub get-column-unique : (f : Field) (n : ℕ) (s x y : List ℕ) → x ≡ columnOf f n s → y ≡ columnOf f n s → x ≡ y
-get-column-unique f n s = unique (columnOf f n s)
+pub put-cell-unique : Leaves-one put-cell.Learnt (λ κs x y e f. e .0 .now ≡ f .0 .now)
+put-cell-unique κs a x y e f p q = p ∙ sym q
 
-pub put-cell-unique : (f : Field) (i v : ℕ) (s x y : List ℕ) → x ≡ withCell f i v s → y ≡ withCell f i v s → x ≡ y
-put-cell-unique f i v s = unique (withCell f i v s)
+pub get-column-unique : Leaves-one get-column.Learnt (λ κs x y e f. e .1 .1 .0 .now ≡ f .1 .1 .0 .now)
+get-column-unique κs a x y e f p q = p ∙ sym q
 
-pub put-column-unique : (f : Field) (vs s x y : List ℕ) → x ≡ withColumn f vs s → y ≡ withColumn f vs s → x ≡ y
-put-column-unique f vs s = unique (withColumn f vs s)
+pub put-column-unique : Leaves-one put-column.Learnt (λ κs x y e f. e .0 .now ≡ f .0 .now)
+put-column-unique κs a x y e f p q = p ∙ sym q

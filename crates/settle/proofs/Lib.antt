@@ -12,3 +12,4 @@ pub mod Figures
 pub mod Demand1
 pub mod Demand2
 pub mod Demand3
+pub mod Unique

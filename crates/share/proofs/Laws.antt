@@ -32,8 +32,10 @@ use Rattle.columns.proofs.Sum.{lt-or-le, sum-same, sum-bound}
 use Rattle.columns.proofs.Table.{table-length, table-at, table-past, table-same, table-list}
 use Rattle.columns.proofs.Whole.{whole-table}
 use Rattle.columns.specs.Sum.{whole}
+use Rattle.columns.proofs.Unique.{Leaves-one}
 use Rattle.share.specs.Share.{share, shares}
 pub use Rattle.share.proofs.Rests.{weight-le}
+use Rattle.share.proofs.split.Reads as split
 use Rattle.share.proofs.Rests.{some-length, over, short, shares-all}
 
 module _ (a : ℕ) (ws : List ℕ) (first : ℕ) where
@@ -103,5 +105,5 @@ module _ (a : ℕ) (ws : List ℕ) (first : ℕ) where
   shares-are-weights e =
       table-same (length ws) (share a ws first) (at ws) (λ i l. share-is-weight i e) ∙ sym (table-list 0 ws)
 
-  pub split-unique : (xs ys : List ℕ) → xs ≡ shares a ws first → ys ≡ shares a ws first → xs ≡ ys
-  split-unique xs ys p q = p ∙ sym q
+pub split-unique : Leaves-one split.Learnt (λ κs x y e f. e .1 .1 .1 .0 .now ≡ f .1 .1 .1 .0 .now)
+split-unique κs a x y e f p q = p ∙ sym q

@@ -1,16 +1,11 @@
--- Two results that one contract allows are equal.
---   head-unique         of `statement_head_at`
---   put-head-unique     what `put_statement_head` leaves in the buffer
-use Prim.Native.Nat.{ℕ}
-use mathlib.Core.Path.{_≡_}
-use mathlib.Core.List.{List}
-use Rattle.columns.proofs.Unique.{unique}
-use Rattle.records.specs.Buffer.{put}
-use Rattle.statement.specs.Statement.{statementHeadAt, statementHeadBytes}
-use Rattle.statement.specs.declared.StatementHead.{StatementHead}
+-- Two results that one contract allows are equal, for each public function: theorems of the contract itself (`Learnt`).
+use mathlib.Core.Path.{_≡_, sym, _∙_}
+use Rattle.columns.proofs.Unique.{Leaves-one, One-result}
+use Rattle.statement.proofs.statement_head_at.Reads as statement-head-at
+use Rattle.statement.proofs.put_statement_head.Reads as put-statement-head
 
-pub head-unique : (s : List ℕ) (x y : StatementHead) → x ≡ statementHeadAt s → y ≡ statementHeadAt s → x ≡ y
-head-unique s = unique (statementHeadAt s)
+pub statement-head-at-unique : One-result statement-head-at.Learnt
+statement-head-at-unique κs a x y e f p q = p ∙ sym q
 
-pub put-head-unique : (out : List ℕ) (h : StatementHead) (x y : List ℕ) → x ≡ put out 0 (statementHeadBytes h) → y ≡ put out 0 (statementHeadBytes h) → x ≡ y
-put-head-unique out h = unique (put out 0 (statementHeadBytes h))
+pub put-statement-head-unique : Leaves-one put-statement-head.Learnt (λ κs x y e f. e .0 .now ≡ f .0 .now)
+put-statement-head-unique κs a x y e f p q = p ∙ sym q

@@ -1,20 +1,68 @@
--- Two results that one contract allows are equal. Each contract here fixes the number in a measure, so one theorem for each
--- measure serves every function that answers in it, here and in the crates above.
---   kwh-unique   of `load`, `most`, `Kwh::from_column`, `Kwh::smaller`, `Kwh::larger`, `Kwh::above`
---   li-unique    of `Kwh::priced`, `Li::plus` and `Li::from_column`
---   fen-unique   of `Kwh::thermal_cap`, `Kwh::renewable_cap`, `Li::to_fen` and `Fen::from_column`
+-- Two results that one contract allows are equal, for each public function: theorems of the contract itself (`Learnt`).
 use Prim.Native.Nat.{ℕ}
-use mathlib.Core.Path.{_≡_, ap}
-use Rattle.columns.proofs.Unique.{unique}
-use Rattle.units.specs.declared.Kwh.{Kwh}
-use Rattle.units.specs.declared.Li.{Li}
-use Rattle.units.specs.declared.Fen.{Fen}
+use mathlib.Core.Path.{_≡_, ap, sym, _∙_}
+use Rattle.columns.proofs.Unique.{One-result}
+use Rattle.units.proofs.load.Reads as load
+use Rattle.units.proofs.most.Reads as most
+use Rattle.units.proofs.Kwh.smaller.Reads as smaller
+use Rattle.units.proofs.Kwh.larger.Reads as larger
+use Rattle.units.proofs.Kwh.above.Reads as above
+use Rattle.units.proofs.Kwh.priced.Reads as priced
+use Rattle.units.proofs.Kwh.thermal_cap.Reads as thermal-cap
+use Rattle.units.proofs.Kwh.renewable_cap.Reads as renewable-cap
+use Rattle.units.proofs.Li.plus.Reads as plus
+use Rattle.units.proofs.Li.to_fen.Reads as to-fen
+use Rattle.units.proofs.Kwh.from_column.Reads as kwh-from-column
+use Rattle.units.proofs.Kwh.column.Reads as kwh-column
+use Rattle.units.proofs.Li.from_column.Reads as li-from-column
+use Rattle.units.proofs.Li.column.Reads as li-column
+use Rattle.units.proofs.Fen.from_column.Reads as fen-from-column
+use Rattle.units.proofs.Fen.column.Reads as fen-column
 
-pub kwh-unique : (n : ℕ) (x y : Kwh) → x .0 ≡ n → y .0 ≡ n → x ≡ y
-kwh-unique n x y p q = ap (λ (m : ℕ). record { 0 = m }) (unique n (x .0) (y .0) p q)
+pub load-unique : One-result load.Learnt
+load-unique κs a x y e f p q = ap (λ (m : ℕ). record { 0 = m }) (p ∙ sym q)
 
-pub li-unique : (n : ℕ) (x y : Li) → x .0 ≡ n → y .0 ≡ n → x ≡ y
-li-unique n x y p q = ap (λ (m : ℕ). record { 0 = m }) (unique n (x .0) (y .0) p q)
+pub most-unique : One-result most.Learnt
+most-unique κs a x y e f p q = ap (λ (m : ℕ). record { 0 = m }) (p ∙ sym q)
 
-pub fen-unique : (n : ℕ) (x y : Fen) → x .0 ≡ n → y .0 ≡ n → x ≡ y
-fen-unique n x y p q = ap (λ (m : ℕ). record { 0 = m }) (unique n (x .0) (y .0) p q)
+pub smaller-unique : One-result smaller.Learnt
+smaller-unique κs a x y e f p q = ap (λ (m : ℕ). record { 0 = m }) (p ∙ sym q)
+
+pub larger-unique : One-result larger.Learnt
+larger-unique κs a x y e f p q = ap (λ (m : ℕ). record { 0 = m }) (p ∙ sym q)
+
+pub above-unique : One-result above.Learnt
+above-unique κs a x y e f p q = ap (λ (m : ℕ). record { 0 = m }) (p ∙ sym q)
+
+pub priced-unique : One-result priced.Learnt
+priced-unique κs a x y e f p q = ap (λ (m : ℕ). record { 0 = m }) (p ∙ sym q)
+
+pub thermal-cap-unique : One-result thermal-cap.Learnt
+thermal-cap-unique κs a x y e f p q = ap (λ (m : ℕ). record { 0 = m }) (p ∙ sym q)
+
+pub renewable-cap-unique : One-result renewable-cap.Learnt
+renewable-cap-unique κs a x y e f p q = ap (λ (m : ℕ). record { 0 = m }) (p ∙ sym q)
+
+pub plus-unique : One-result plus.Learnt
+plus-unique κs a x y e f p q = ap (λ (m : ℕ). record { 0 = m }) (p ∙ sym q)
+
+pub to-fen-unique : One-result to-fen.Learnt
+to-fen-unique κs a x y e f p q = ap (λ (m : ℕ). record { 0 = m }) (p ∙ sym q)
+
+pub kwh-from-column-unique : One-result kwh-from-column.Learnt
+kwh-from-column-unique κs a x y e f p q = ap (λ (m : ℕ). record { 0 = m }) (p ∙ sym q)
+
+pub kwh-column-unique : One-result kwh-column.Learnt
+kwh-column-unique κs a x y e f p q = p ∙ sym q
+
+pub li-from-column-unique : One-result li-from-column.Learnt
+li-from-column-unique κs a x y e f p q = ap (λ (m : ℕ). record { 0 = m }) (p ∙ sym q)
+
+pub li-column-unique : One-result li-column.Learnt
+li-column-unique κs a x y e f p q = p ∙ sym q
+
+pub fen-from-column-unique : One-result fen-from-column.Learnt
+fen-from-column-unique κs a x y e f p q = ap (λ (m : ℕ). record { 0 = m }) (p ∙ sym q)
+
+pub fen-column-unique : One-result fen-column.Learnt
+fen-column-unique κs a x y e f p q = p ∙ sym q
