@@ -1,57 +1,50 @@
--- What `tell` prints, letter by letter: two examples.
---   shown-statement   the statement of interval X at tariff 1300: a head and three lines (01, Checked figures)
---   shown-refusal     number 5 at place 2
+-- What `tell` prints, letter by letter, worked out from the bytes that it reads.
+--   shown-statement   interval X at tariff 1300: a head and three lines (01, Checked figures)
+--   shown-refusal     the empty file: number 1, place 0
 use mathlib.Core.Path.{_≡_, refl}
-use mathlib.Core.List.{List, [], _∷_, _++_}
+use mathlib.Core.List.{List, [], _∷_}
 use Prim.Native.Nat.{ℕ}
+use Rattle.columns.specs.Sum.{sumTo, countTo, maxTo, findTo, whole}
+use Rattle.columns.specs.Table.{table}
+use Rattle.columns.specs.Checks.{firstRefusal, rowByRow, previous}
 use Rattle.records.specs.Number.{numberAt, numberBytes}
-use Rattle.statement.specs.Statement.{statementHeadBytes, statementHeadAt, lineBytes, lineAt, linesBytes}
-use Rattle.statement.specs.declared.StatementHead.{StatementHead}
-use Rattle.statement.specs.declared.Line.{Line}
-use Rattle.telling.specs.Text.{decimalIn, textTo, linesTo, statementText, refusedText}
+use Rattle.records.specs.Fields.{fieldsBytes}
+use Rattle.records.specs.Record.{fieldsAt, recordAt, recordBytes, recordsBytes}
+use Rattle.share.specs.Share.{quota, rest, turn, before, rank, left, share, shares}
+use Rattle.files.specs.Layout.{headAt, rowAt, correctionHeadAt}
+use Rattle.files.specs.Range.{headOk, headTests, statusOk, idleTests, notOffering, offerTests, offering, rowTests, rowOk}
+use Rattle.files.specs.Order.{headChecks, rowChecks, rowChecksAt, rowChecksOf, intervalOrder, fileOrder}
+use Rattle.files.specs.Terms.{termsOf}
+use Rattle.files.specs.Walk.{hasId, findId}
+use Rattle.files.specs.Counting.{countingRow}
+use Rattle.duties.specs.Duty.{width1, width2, energy1, energy2, payer, weight, cap}
+use Rattle.duties.specs.Duties.{dutiesOf}
+use Rattle.merit.specs.Call.{cheaperIn, cheaper, group, due, called, calls, uncovered}
+use Rattle.merit.specs.Price.{price}
+use Rattle.levy.specs.Rounds.{closes, closed, next, run, opening, final, openWeights, paid, payments, shortfall, cuts}
+use Rattle.statement.specs.Statement.{statementHeadBytes}
+use Rattle.settle.specs.Settlement.{compensationsOf, levied, figures}
+use Rattle.settle.specs.Statement.{statementHead, statementBytes}
+use Rattle.settle.specs.Answer.{dutiesIn, figuresOf, statementOf, settleOrder, answerOf}
+use Rattle.settle.specs.Table.{intervalX}
+use Rattle.telling.specs.Text.{decimalIn, textTo, linesTo, statementText, refusedText, toldText, tellText}
 
--- a record by its nine fields
-abbrev head : ℕ → ℕ → ℕ → ℕ → ℕ → ℕ → ℕ → ℕ → ℕ → StatementHead
-head day quarter price1 price2 total shortfall rounds uncovered rows =
-    record {
-      day = day;
-      quarter = quarter;
-      price1 = record { 0 = price1 };
-      price2 = record { 0 = price2 };
-      total = record { 0 = total };
-      shortfall = record { 0 = shortfall };
-      rounds = rounds;
-      uncovered = record { 0 = uncovered };
-      rows = rows;
-    }
-
-abbrev line : ℕ → ℕ → ℕ → ℕ → ℕ → ℕ → ℕ → ℕ → ℕ → Line
-line id called1 called2 compensation cut weight cap paid closing =
-    record {
-      id = id;
-      called1 = record { 0 = called1 };
-      called2 = record { 0 = called2 };
-      compensation = record { 0 = compensation };
-      cut = record { 0 = cut };
-      weight = record { 0 = weight };
-      cap = record { 0 = cap };
-      paid = record { 0 = paid };
-      closing = closing;
-    }
-
-abbrev statementX : List ℕ
-statementX =
-    statementHeadBytes (head 0 0 200 400 90000 0 1 0 3)
-    ++ linesBytes (line 1 2500 500 90000 0 0 0 0 0 ∷ line 2 0 0 0 0 15000 65000 65000 1 ∷ line 3 0 0 0 0 5000 32500 25000 0 ∷ [])
-
-pub shown-statement : statementText statementX
+pub shown-statement : tellText (intervalX 1300)
     ≡ 48 ∷ 32 ∷ 48 ∷ 32 ∷ 50 ∷ 48 ∷ 48 ∷ 32 ∷ 52 ∷ 48 ∷ 48 ∷ 32 ∷ 57 ∷ 48 ∷ 48 ∷ 48 ∷ 48 ∷ 32 ∷ 48 ∷ 32 ∷ 49 ∷ 32 ∷ 48 ∷ 32 ∷ 51 ∷ 10
     ∷ 49 ∷ 32 ∷ 50 ∷ 53 ∷ 48 ∷ 48 ∷ 32 ∷ 53 ∷ 48 ∷ 48 ∷ 32 ∷ 57 ∷ 48 ∷ 48 ∷ 48 ∷ 48 ∷ 32 ∷ 48 ∷ 32 ∷ 48 ∷ 32 ∷ 48 ∷ 32 ∷ 48 ∷ 32 ∷ 48 ∷ 10
     ∷ 50 ∷ 32 ∷ 48 ∷ 32 ∷ 48 ∷ 32 ∷ 48 ∷ 32 ∷ 48 ∷ 32 ∷ 49 ∷ 53 ∷ 48 ∷ 48 ∷ 48 ∷ 32 ∷ 54 ∷ 53 ∷ 48 ∷ 48 ∷ 48 ∷ 32 ∷ 54 ∷ 53 ∷ 48 ∷ 48 ∷ 48 ∷ 32 ∷ 49 ∷ 10
     ∷ 51 ∷ 32 ∷ 48 ∷ 32 ∷ 48 ∷ 32 ∷ 48 ∷ 32 ∷ 48 ∷ 32 ∷ 53 ∷ 48 ∷ 48 ∷ 48 ∷ 32 ∷ 51 ∷ 50 ∷ 53 ∷ 48 ∷ 48 ∷ 32 ∷ 50 ∷ 53 ∷ 48 ∷ 48 ∷ 48 ∷ 32 ∷ 48 ∷ 10 ∷ []
-unfolding statementHeadBytes statementHeadAt lineBytes lineAt linesBytes numberAt numberBytes decimalIn textTo linesTo statementText
+unfolding sumTo countTo maxTo findTo whole table numberAt numberBytes fieldsBytes fieldsAt recordAt recordBytes recordsBytes
+    quota rest turn before rank left share shares
+    firstRefusal rowByRow previous headAt rowAt correctionHeadAt headTests headOk statusOk idleTests notOffering offerTests offering rowTests rowOk
+    headChecks rowChecks rowChecksAt rowChecksOf intervalOrder fileOrder termsOf hasId findId countingRow
+    width1 width2 energy1 energy2 payer weight cap dutiesOf cheaperIn cheaper group due called calls uncovered price
+    closes closed next run opening final openWeights paid payments shortfall cuts compensationsOf levied figures
+    statementHeadBytes statementHead statementBytes dutiesIn figuresOf statementOf settleOrder answerOf intervalX
+    decimalIn textTo linesTo statementText toldText tellText
 shown-statement = refl
 
-pub shown-refusal : refusedText 5 2 ≡ 114 ∷ 101 ∷ 102 ∷ 117 ∷ 115 ∷ 101 ∷ 100 ∷ 32 ∷ 53 ∷ 32 ∷ 50 ∷ 10 ∷ []
-unfolding refusedText decimalIn
+pub shown-refusal : tellText [] ≡ 114 ∷ 101 ∷ 102 ∷ 117 ∷ 115 ∷ 101 ∷ 100 ∷ 32 ∷ 49 ∷ 32 ∷ 48 ∷ 10 ∷ []
+unfolding firstRefusal headChecks intervalOrder fileOrder settleOrder answerOf numberAt fieldsAt recordAt headAt
+    decimalIn refusedText toldText tellText
 shown-refusal = refl

@@ -17,7 +17,7 @@ use Rattle.records.specs.Buffer.{put}
 use Rattle.records.proofs.Buffer.{put-length, put-put, set-put}
 use Rattle.columns.proofs.Sum.{lt-or-le}
 use Rattle.io.specs.Digits.{digits, glyph, Fewest}
-use Rattle.telling.specs.Text.{decimalIn, decimal, endOf, textTo, Placed}
+use Rattle.telling.specs.Text.{decimalIn, decimal, endOf, textTo, Placed, numberMost, lineMost}
 use Rattle.telling.proofs.Texts.{placed-none, placed-after}
 
 -- a decimal digit's glyph
@@ -59,9 +59,9 @@ spelled zero x h f = absurd (omega (arith, f .0))
 spelled (suc k) x h f = spelled-in k 19 x (omega arith) f
 
 -- a number's digits, and then one byte more
-pub number-placed : (l ds : List ℕ) (at k x e : ℕ) → at + 21 ≤ length l → k ≤ 20 → k ≡ length (take k ds) → Fewest 10 1 x k
+pub number-placed : (l ds : List ℕ) (at k x e : ℕ) → at + numberMost ≤ length l → k ≤ 20 → k ≡ length (take k ds) → Fewest 10 1 x k
     → take k ds ≡ digits 10 k x
-    → Placed l (set (put l at (take k ds)) (at + k) e) at (decimal x ++ (e ∷ [])) (at + k + 1) 21
+    → Placed l (set (put l at (take k ds)) (at + k) e) at (decimal x ++ (e ∷ [])) (at + k + 1) numberMost
 number-placed l ds at k x e room h n f d =
     let w : take k ds ≡ decimal x = d ∙ spelled k x h f in
     let c : length (decimal x) ≡ k = sym (ap length w) ∙ sym n in
@@ -85,11 +85,11 @@ pub text-next : (i : ℕ) (fields : List ℕ) → textTo (i + 1) fields ≡ text
 unfolding textTo
 text-next i fields = rw add-one
 
-pub fields-more : (l l′ l″ fields : List ℕ) (from at i end e : ℕ) → from + 189 ≤ length l
-    → Placed l l′ from (textTo i fields) at (i * 21) → e ≡ endOf i
-    → Placed l′ l″ at (decimal (getD fields i 0) ++ (e ∷ [])) end 21
-    → Placed l l″ from (textTo (i + 1) fields) end ((i + 1) * 21)
+pub fields-more : (l l′ l″ fields : List ℕ) (from at i end e : ℕ) → from + lineMost ≤ length l
+    → Placed l l′ from (textTo i fields) at (i * numberMost) → e ≡ endOf i
+    → Placed l′ l″ at (decimal (getD fields i 0) ++ (e ∷ [])) end numberMost
+    → Placed l l″ from (textTo (i + 1) fields) end ((i + 1) * numberMost)
 fields-more l l′ l″ fields from at i end e room p q r =
     let new : List ℕ = decimal (getD fields i 0) ++ (endOf i ∷ []) in
     rw (text-next i fields)
-    (placed-after l l′ l″ (textTo i fields) new from at end (i * 21) 21 ((i + 1) * 21) (omega arith) (omega arith) p (rw q at r))
+    (placed-after l l′ l″ (textTo i fields) new from at end (i * numberMost) numberMost ((i + 1) * numberMost) (omega arith) (omega arith) p (rw q at r))

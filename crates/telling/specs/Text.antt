@@ -1,15 +1,14 @@
 -- What `tell` prints (01, Checked figures): of a statement each record's fields in order, without the mark, as decimal text; of a
 -- refusal its number and its place. `tellText` is the whole of it.
 use mathlib.Core.Path.{_≡_}
-use Prim.Native.Nat.{ℕ, zero, suc, _+_, _-_, _/_, _%_, _≤_}
+use Prim.Native.Nat.{ℕ, zero, suc, _+_, _-_, _*_, _/_, _%_, _≤_}
 use mathlib.Core.Bool.{cond}
 use mathlib.Core.List.{List, [], _∷_, _++_}
 use lib.Dec.{ltb, eqb}
 use lib.ListN.{length, getD}
 use Rattle.records.specs.Buffer.{put}
-use Rattle.statement.specs.Statement.{lineStart, statementHeadAt, lineAt}
-use Rattle.statement.specs.declared.StatementHead.{StatementHead}
-use Rattle.statement.specs.declared.Line.{Line}
+use Rattle.records.specs.Record.{recordAt}
+use Rattle.statement.specs.Statement.{headWidths, lineWidths, headSize, lineSize, lineStart}
 use Rattle.settle.specs.Answer.{statementOf, answerOf}
 use Rattle.settle.specs.declared.Answer.{Answer}
 use Rattle.settle.specs.declared.Answer.the-variants.{Settled, Refused}
@@ -22,15 +21,6 @@ decimalIn (suc more) x = cond (ltb x 10) ((48 + x % 10) ∷ []) (decimalIn more 
 -- twenty digits hold every number of eight bytes
 abbrev pub decimal : ℕ → List ℕ
 decimal x = decimalIn 19 x
-
--- a head's fields, and a line's, in record order
-abbrev pub headFields : StatementHead → List ℕ
-headFields h =
-    h .day ∷ h .quarter ∷ h .price1 .0 ∷ h .price2 .0 ∷ h .total .0 ∷ h .shortfall .0 ∷ h .rounds ∷ h .uncovered .0 ∷ h .rows ∷ []
-
-abbrev pub lineFields : Line → List ℕ
-lineFields l =
-    l .id ∷ l .called1 .0 ∷ l .called2 .0 ∷ l .compensation .0 ∷ l .cut .0 ∷ l .weight .0 ∷ l .cap .0 ∷ l .paid .0 ∷ l .closing ∷ []
 
 -- what stands after field i of nine: a space, or the line's end
 abbrev pub endOf : ℕ → ℕ
@@ -48,16 +38,16 @@ lineText fields = textTo 9 fields
 -- the text of the first so many lines of a statement's bytes
 unfoldable pub linesTo : ℕ → List ℕ → List ℕ
 linesTo zero b = []
-linesTo (suc i) b = linesTo i b ++ lineText (lineFields (lineAt b (lineStart i)))
+linesTo (suc i) b = linesTo i b ++ lineText (recordAt lineWidths b (lineStart i))
 
 -- how many lines a statement's bytes hold behind the head; counted by their length, so that no field of them has to be believed
 -- (`told-rows` of proofs/Printed.antt: where the engine settles, the head's field says the same)
 abbrev pub linesIn : List ℕ → ℕ
-linesIn b = (length b - 35) / 34
+linesIn b = (length b - headSize) / lineSize
 
 -- a statement's text: the head's line, then the lines in order
 unfoldable pub statementText : List ℕ → List ℕ
-statementText b = lineText (headFields (statementHeadAt b)) ++ linesTo (linesIn b) b
+statementText b = lineText (recordAt headWidths b 0) ++ linesTo (linesIn b) b
 
 -- "refused" and a space
 abbrev pub refusedWord : List ℕ
@@ -72,12 +62,29 @@ unfoldable pub toldText : Answer → List ℕ → List ℕ
 toldText (Settled size) b = statementText b
 toldText (Refused number place) b = refusedText number place
 
--- what `tell` prints for the interval file s: there is no correction, and room for the statement of 256 rows
+-- the room that `tell` has for a statement: that of 256 rows
+abbrev pub room : ℕ
+room = lineStart 256
+
+-- what `tell` prints for the interval file s, for which there is no correction
 unfoldable pub tellText : List ℕ → List ℕ
-tellText s = toldText (answerOf s [] 8739) (statementOf s [])
+tellText s = toldText (answerOf s [] room) (statementOf s [])
 
 -- a text put into a buffer: nothing else changes, the position handed back is the one after it, and it has at most so many bytes
 pub record Placed (before after : List ℕ) (from : ℕ) (text : List ℕ) (end most : ℕ) : Type 0 where
   pub bytes : after ≡ put before from text
   pub end-is : end ≡ from + length text
   pub fits : end ≤ from + most
+
+-- how many bytes a number takes at most with the one after it, a record's line, a statement's text and a refusal's
+abbrev pub numberMost : ℕ
+numberMost = 20 + 1
+
+abbrev pub lineMost : ℕ
+lineMost = 9 * numberMost
+
+abbrev pub textMost : ℕ
+textMost = (1 + 256) * lineMost
+
+abbrev pub refusalMost : ℕ
+refusalMost = length refusedWord + 2 * numberMost

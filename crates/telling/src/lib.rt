@@ -1,22 +1,42 @@
 // What the program `tell` does (01, Checked figures): an interval file from standard input, its statement or its refusal as
 // text on standard output. The engine does the work; this reads, makes the whole text in one buffer and writes it.
+use records::get_record;
 use settle::Answer;
-use statement::Line;
-use statement::StatementHead;
+use statement::HEAD;
+use statement::HEAD_WIDTHS;
+use statement::LINE;
+use statement::LINE_WIDTHS;
 ghost use mathlib.Core.Path.{_≡_};
+ghost use mathlib.Core.Bool.{true};
 ghost use mathlib.Core.List.{[], _∷_, _++_};
 ghost use Prim.Native.Nat.{_+_, _*_, _≤_};
 ghost use lib.ListN.{length};
-ghost use Rattle.statement.specs.Statement.{lineStart, statementHeadAt, lineAt};
+ghost use Rattle.records.specs.Record.{recordSize, recordAt, narrow};
+ghost use Rattle.statement.specs.Statement.{headSize, lineStart};
 ghost use Rattle.settle.specs.Answer.{bufferAfter};
-ghost use Rattle.telling.specs.Text.{decimal, headFields, lineFields, endOf, lineText, linesTo, statementText, refusedText, tellText, Placed};
+ghost use Rattle.telling.specs.Text.{decimal, endOf, lineText, linesTo, statementText, refusedText, tellText, Placed};
+ghost use Rattle.telling.specs.Text.{room, numberMost, lineMost, textMost, refusalMost};
 
-// Reads one byte more than the longest interval file has, so that a longer one is refused and never cut. The statement of
-// 256 rows has room, and so has its text: 257 lines of nine numbers, each of at most twenty digits and one byte more.
+// One byte more than the longest interval file has, a head of 15 and 256 rows of 21: a longer one is refused and never cut.
+const INTERVAL: usize = 5392;
+
+// The statement of 256 rows: a head of 35 and 256 lines of 34.
+const STATEMENT: usize = 8739;
+
+// Its text: 257 records of nine fields, each of at most twenty digits and one byte more.
+const TEXT: usize = 48573;
+
+// How many fields a record of a statement has, head or line.
+const FIELDS: usize = 9;
+
+// The most digits that a number of 64 bits has.
+const DIGITS: usize = 20;
+
+// Reads the interval file, makes its whole text and writes it.
 pub fn tell() {
-    let mut interval = [0u8; 5392];
-    let mut statement = [0u8; 8739];
-    let mut text = [0u8; 48573];
+    let mut interval = [0u8; INTERVAL];
+    let mut statement = [0u8; STATEMENT];
+    let mut text = [0u8; TEXT];
     let n = io::read_full(0, &mut interval);
     let size = told(&interval[..n], &mut statement, &mut text);
     print(&interval[..n], &text[..size]);
@@ -31,8 +51,8 @@ fn print(interval: &[u8], text: &[u8])
 
 // All that is to be printed, from the start of a buffer on; hands back how many bytes it is.
 fn told(interval: &[u8], statement: &mut [u8], text: &mut [u8]) -> usize
-    requires { ⌜ (length (now statement) ≡ 8739) × (48573 ≤ length (now text)) ⌝ }
-    ensures { λ r. ⌜ Placed (now (text .entry)) (now (text .exit)) 0 (tellText (now (interval .entry))) r 48573 ⌝ }
+    requires { ⌜ (length (now statement) ≡ room) × (textMost ≤ length (now text)) ⌝ }
+    ensures { λ r. ⌜ Placed (now (text .entry)) (now (text .exit)) 0 (tellText (now (interval .entry))) r textMost ⌝ }
     ensures { λ r. ⌜ now (statement .exit) ≡ bufferAfter (now (interval .entry)) [] (now (statement .entry)) ⌝ }
 {
     let correction: [u8; 0] = [];
@@ -45,8 +65,8 @@ fn told(interval: &[u8], statement: &mut [u8], text: &mut [u8]) -> usize
 
 // A refusal's one line: each number has at most twenty digits and one byte more.
 fn tell_refusal(text: &mut [u8], number: usize, place: usize) -> usize
-    requires { ⌜ 50 ≤ length (now text) ⌝ }
-    ensures { λ r. ⌜ Placed (now (text .entry)) (now (text .exit)) 0 (refusedText number place) r 50 ⌝ }
+    requires { ⌜ refusalMost ≤ length (now text) ⌝ }
+    ensures { λ r. ⌜ Placed (now (text .entry)) (now (text .exit)) 0 (refusedText number place) r refusalMost ⌝ }
 {
     records::put_bytes(text, 0, b"refused ");
     let at = tell_number(text, 8, number as u64, b' ');
@@ -55,87 +75,52 @@ fn tell_refusal(text: &mut [u8], number: usize, place: usize) -> usize
 
 // A statement's text. The lines are counted by the bytes that are there: no field of them has to be right for this to be safe.
 fn tell_statement(text: &mut [u8], statement: &[u8]) -> usize
-    requires { ⌜ (35 ≤ length (now statement)) × (length (now statement) ≤ 8739) × (48573 ≤ length (now text)) ⌝ }
-    ensures { λ r. ⌜ Placed (now (text .entry)) (now (text .exit)) 0 (statementText (now (statement .entry))) r 48573 ⌝ }
+    requires { ⌜ (headSize ≤ length (now statement)) × (length (now statement) ≤ room) × (textMost ≤ length (now text)) ⌝ }
+    ensures { λ r. ⌜ Placed (now (text .entry)) (now (text .exit)) 0 (statementText (now (statement .entry))) r textMost ⌝ }
 {
-    let at = tell_head(text, statement);
-    tell_lines(text, at, statement, (statement.len() - 35) / 34)
+    let at = tell_record(text, 0, statement, 0, &HEAD_WIDTHS);
+    tell_lines(text, at, statement, (statement.len() - HEAD) / LINE)
 }
 
 // The first n lines of a statement, from a position on.
 fn tell_lines(text: &mut [u8], from: usize, statement: &[u8], n: usize) -> usize
-    requires { ⌜ (lineStart n ≤ length (now statement)) × (from + n * 189 ≤ length (now text)) ⌝ }
-    ensures { λ r. ⌜ Placed (now (text .entry)) (now (text .exit)) from (linesTo n (now (statement .entry))) r (n * 189) ⌝ }
+    requires { ⌜ (lineStart n ≤ length (now statement)) × (from + n * lineMost ≤ length (now text)) ⌝ }
+    ensures { λ r. ⌜ Placed (now (text .entry)) (now (text .exit)) from (linesTo n (now (statement .entry))) r (n * lineMost) ⌝ }
 {
     let mut at = from;
     let mut i = 0;
     while i < n {
-        at = tell_line(text, at, statement, i);
+        at = tell_record(text, at, statement, HEAD + i * LINE, &LINE_WIDTHS);
         i += 1;
     }
     at
 }
 
-// A statement's head, from the buffer's start on.
-fn tell_head(text: &mut [u8], statement: &[u8]) -> usize
-    requires { ⌜ (35 ≤ length (now statement)) × (189 ≤ length (now text)) ⌝ }
-    ensures { λ r. ⌜ Placed (now (text .entry)) (now (text .exit)) 0 (lineText (headFields (statementHeadAt (now (statement .entry))))) r 189 ⌝ }
+// The record at a position of a statement, its fields read by their table of widths, as text from a position on.
+fn tell_record(
+    text: &mut [u8],
+    from: usize,
+    statement: &[u8],
+    at: usize,
+    widths: &[u8; FIELDS],
+) -> usize
+    requires { ⌜ (at + recordSize (now widths) ≤ length (now statement)) × (length (now widths) ≡ 9) × (narrow (now widths) ≡ true) ⌝ }
+    requires { ⌜ from + lineMost ≤ length (now text) ⌝ }
+    ensures { λ r. ⌜ Placed (now (text .entry)) (now (text .exit)) from (lineText (recordAt (now (widths .entry)) (now (statement .entry)) at)) r lineMost ⌝ }
 {
-    let fields = head_fields(statement::statement_head_at(statement));
-    tell_fields(text, 0, &fields)
-}
-
-// Line i of a statement, from a position on.
-fn tell_line(text: &mut [u8], from: usize, statement: &[u8], i: usize) -> usize
-    requires { ⌜ (lineStart i + 34 ≤ length (now statement)) × (from + 189 ≤ length (now text)) ⌝ }
-    ensures { λ r. ⌜ Placed (now (text .entry)) (now (text .exit)) from (lineText (lineFields (lineAt (now (statement .entry)) (lineStart i)))) r 189 ⌝ }
-{
-    let fields = line_fields(statement::line_at(statement, 35 + i * 34));
+    let mut fields = [0u64; FIELDS];
+    get_record(statement, at, widths, &mut fields);
     tell_fields(text, from, &fields)
 }
 
-// A head's fields in record order, as plain numbers.
-fn head_fields(h: StatementHead) -> [u64; 9]
-    ensures { λ r. ⌜ r ≡ headFields h ⌝ }
-{
-    [
-        h.day as u64,
-        h.quarter as u64,
-        h.price1.0,
-        h.price2.0,
-        h.total.0,
-        h.shortfall.0,
-        h.rounds as u64,
-        h.uncovered.0 as u64,
-        h.rows as u64,
-    ]
-}
-
-// A line's fields in record order, as plain numbers.
-fn line_fields(l: Line) -> [u64; 9]
-    ensures { λ r. ⌜ r ≡ lineFields l ⌝ }
-{
-    [
-        l.id as u64,
-        l.called1.0 as u64,
-        l.called2.0 as u64,
-        l.compensation.0,
-        l.cut.0,
-        l.weight.0 as u64,
-        l.cap.0,
-        l.paid.0,
-        l.closing as u64,
-    ]
-}
-
 // The text of nine fields, from a position on; hands back the position after it.
-fn tell_fields(text: &mut [u8], from: usize, fields: &[u64; 9]) -> usize
-    requires { ⌜ (length (now fields) ≡ 9) × (from + 189 ≤ length (now text)) ⌝ }
-    ensures { λ r. ⌜ Placed (now (text .entry)) (now (text .exit)) from (lineText (now (fields .entry))) r 189 ⌝ }
+fn tell_fields(text: &mut [u8], from: usize, fields: &[u64; FIELDS]) -> usize
+    requires { ⌜ (length (now fields) ≡ 9) × (from + lineMost ≤ length (now text)) ⌝ }
+    ensures { λ r. ⌜ Placed (now (text .entry)) (now (text .exit)) from (lineText (now (fields .entry))) r lineMost ⌝ }
 {
     let mut at = from;
     let mut i = 0;
-    while i < 9 {
+    while i < FIELDS {
         at = tell_number(text, at, fields[i], end_of(i));
         i += 1;
     }
@@ -151,10 +136,10 @@ fn end_of(i: usize) -> u8
 
 // A number in decimal and what stands after it, from a position on; hands back the position after both.
 fn tell_number(text: &mut [u8], at: usize, x: u64, end: u8) -> usize
-    requires { ⌜ at + 21 ≤ length (now text) ⌝ }
-    ensures { λ r. ⌜ Placed (now (text .entry)) (now (text .exit)) at (decimal x ++ (end ∷ [])) r 21 ⌝ }
+    requires { ⌜ at + numberMost ≤ length (now text) ⌝ }
+    ensures { λ r. ⌜ Placed (now (text .entry)) (now (text .exit)) at (decimal x ++ (end ∷ [])) r numberMost ⌝ }
 {
-    let mut digits = [0u8; 20];
+    let mut digits = [0u8; DIGITS];
     let k = io::decimal(x, &mut digits);
     records::put_bytes(text, at, &digits[..k]);
     text[at + k] = end;

@@ -4,13 +4,13 @@ use Prim.Native.Nat.{_*_, _-_, _≤_}
 use lib.ListN.{length}
 use native.Mathlib.Omega.{arith}
 use borrow.Author.Needs.{needs}
-use Rattle.telling.specs.Text.{textTo, Placed}
+use Rattle.telling.specs.Text.{textTo, numberMost, Placed}
 use Rattle.telling.proofs.Spelled.{no-fields, fields-more}
 use Rattle.telling.proofs.tell_fields.Statement.{statement}
 use Rattle.telling.proofs.tell_fields.Tie as tie
 
 abbrev Inv-loop : tie.InvT-loop
-Inv-loop text₀ from fields at₀ i₀ text at i = (i ≤ 9) × (length text ≡ length text₀) × Placed text₀ text from (textTo i fields) at (i * 21)
+Inv-loop text₀ from fields at₀ i₀ text at i = (i ≤ 9) × (length text ≡ length text₀) × Placed text₀ text from (textTo i fields) at (i * numberMost)
 
 abbrev μ-loop : tie.MeasureT-loop
 μ-loop text₀ from fields at₀ i₀ text at i = 9 - i
@@ -44,7 +44,8 @@ loop-again c =
     let call = c .before .before .tell-number in (
       omega arith,
       call .kept .0 ∙ l .inv .1,
-      fields-more _ _ _ _ _ _ _ _ _ (c .before .before .before .before .before .before .before .before .before .pre .1) (l .inv .2) (c .before .before .before .end-of .ensures) (call .ensures),
+      fields-more _ _ _ _ _ _ _ _ _ (c .before .before .before .before .before .before .before .before .before .pre .1)
+          (l .inv .2) (c .before .before .before .end-of .ensures) (call .ensures),
     )
 
 same-length : tie.Need-same-length Inv-loop μ-loop

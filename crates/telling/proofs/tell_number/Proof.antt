@@ -1,5 +1,5 @@
 -- `telling::tell_number` meets its contract.
-use Prim.Native.Nat.{_≤_}
+use Prim.Native.Nat.{_+_, _^_, _≤_, _<_}
 use Rattle.telling.proofs.Spelled.{few-digits, number-placed}
 use native.Mathlib.Omega.{arith}
 use borrow.Author.Needs.{needs}
@@ -12,6 +12,10 @@ few d =
     let start = d .before .before .before in
     few-digits (start .args .x) (d .decimal .result) (start .fits .x .fits) (d .decimal .ensures .1 .0)
 
+-- and the position after them and the one byte more is a number of 64 bits
+end-fits : (d : tie.After-decimal) → d .before .before .before .args .at + d .decimal .result + 1 < 2 ^ 64
+end-fits d = let start = d .before .before .before in omega (arith, few d, start .pre, start .good)
+
 decimal-requires : tie.Need-decimal-requires
 decimal-requires c κs = search needs
 
@@ -22,19 +26,23 @@ slice-aggregate-put-bytes : tie.Need-slice-aggregate-put-bytes
 slice-aggregate-put-bytes c = search needs
 
 put-bytes-requires : tie.Need-put-bytes-requires
-put-bytes-requires c κs = let d = c .before .before in omega (arith, few d, d .decimal .ensures .0 .1, d .before .before .before .pre)
+put-bytes-requires c κs =
+    let d = c .before .before in
+    omega (arith, few d, d .decimal .ensures .0 .1, d .before .before .before .pre)
 
 add-text : tie.Need-add-text
-add-text c = let d = c .before .before .before .before .before in record { fits = omega (arith, few d, d .before .before .before .pre, d .before .before .before .good) }
+add-text c = record { fits = omega (arith, end-fits (c .before .before .before .before .before)) }
 
 slice-write-text : tie.Need-slice-write-text
-slice-write-text c = let d = c .before .before .before .before .before in omega (arith, few d, d .before .before .before .pre, c .before .before .put-bytes .kept .0)
+slice-write-text c =
+    let d = c .before .before .before .before .before in
+    omega (arith, few d, d .before .before .before .pre, c .before .before .put-bytes .kept .0)
 
 add-result : tie.Need-add-result
-add-result c = let d = c .before .before .before .before .before in record { fits = omega (arith, few d, d .before .before .before .pre, d .before .before .before .good) }
+add-result c = record { fits = omega (arith, end-fits (c .before .before .before .before .before)) }
 
 add-result-2 : tie.Need-add-result-2
-add-result-2 c = let d = c .before .before .before .before .before in record { fits = omega (arith, few d, d .before .before .before .pre, d .before .before .before .good) }
+add-result-2 c = record { fits = omega (arith, end-fits (c .before .before .before .before .before)) }
 
 same-length : tie.Need-same-length
 same-length c = search needs

@@ -4,8 +4,8 @@ use borrow.Author.Needs.{needs}
 use Rattle.telling.proofs.tell_statement.Statement.{statement}
 use Rattle.telling.proofs.tell_statement.Tie as tie
 
-tell-head-requires : tie.Need-tell-head-requires
-tell-head-requires c κs = search needs
+tell-record-requires : tie.Need-tell-record-requires
+tell-record-requires c κs = search needs
 
 sub-tell-lines : tie.Need-sub-tell-lines
 sub-tell-lines c = search needs
@@ -21,4 +21,5 @@ returns c = search statement-placed
 
 pub tell-statement-spec : {M : Type 1} → statement M
 tell-statement-spec =
-    tie.close (tie.spec tell-head-requires sub-tell-lines tell-lines-requires same-length returns)
+    tie.close
+    (tie.spec tell-record-requires sub-tell-lines tell-lines-requires same-length returns)

@@ -5,6 +5,8 @@ use Prim.Native.Nat.{ℕ, _≤_}
 use native.Mathlib.Omega.{arith}
 use lib.ListN.{length}
 use lib.Seq.{length-take-le}
+use Rattle.statement.specs.Statement.{headSize}
+use Rattle.telling.specs.Text.{room}
 use Rattle.telling.proofs.Size.{settled-size}
 use Rattle.telling.proofs.Printed.{settled-placed, refused-placed}
 use borrow.Author.Needs.{needs}
@@ -18,11 +20,12 @@ size a = a .answer .given .0 .0
 abbrev left : tie.After-answer → List ℕ
 left a = a .before .before .before .before .settle .last .1 .1 .0
 
-held : (a : tie.After-answer) → (35 ≤ size a) × (size a ≤ length (left a)) × (size a ≤ 8739)
+held : (a : tie.After-answer) → (headSize ≤ size a) × (size a ≤ length (left a)) × (size a ≤ room)
 held a =
     let call = a .before .before .before .before .settle in
     let fits = settled-size _ _ _ (size a) _ (call .ensures .0) (a .answer .given .1) in
-    (fits .0, omega (arith, fits .1, call .kept .1 .1 .0), omega (arith, fits .1, a .before .before .before .before .before .before .before .before .before .before .pre .0))
+    let start = a .before .before .before .before .before .before .before .before .before .before in
+    (fits .0, omega (arith, fits .1, call .kept .1 .1 .0), omega (arith, fits .1, start .pre .0))
 
 slice-aggregate-settle : tie.Need-slice-aggregate-settle
 slice-aggregate-settle c = search needs
