@@ -74,7 +74,7 @@ fn books(lines: &[Line]) -> Result<(), String> {
     demand(sum(lines, |line| line.paid) == kept, "what payers pay equals what receivers keep")
 }
 
-/// Rounds are the rounds in which somebody closed, and no more than the payers of weight above 0.
+/// Rounds are those in which a payer reached its cap, and no more than the payers of weight above 0.
 fn numbering(lines: &[Line], rounds: u128) -> Result<(), String> {
     let payers = lines.iter().filter(|line| line.weight > 0).count() as u128;
     demand(rounds <= payers, "rounds are at most the payers of weight above 0")?;
@@ -84,7 +84,7 @@ fn numbering(lines: &[Line], rounds: u128) -> Result<(), String> {
     demand(somebody, "somebody closes in every round")
 }
 
-/// The rate is `rest` for the sum of the open weights; every open and every capped payer is held against it.
+/// The rate is `rest` for the sum of the open weights; every open and every capped payer is checked against it.
 fn common_rate(open: &[&Line], closed: &[&Line], rest: u128) -> Result<(), String> {
     let weight: u128 = open.iter().map(|line| line.weight).sum();
     let within_a_fen = |line: &&Line| (line.paid * weight).abs_diff(rest * line.weight) < weight;

@@ -1,4 +1,4 @@
-//! What an engine is tried with: files of many shapes, damaged ones with the refusal they must meet, and a check of what
+//! What an engine is tried with: files of many shapes, damaged ones with the refusal that is due, and a check of what
 //! every statement owes its readers. Nothing here knows the reference or the engine.
 //!
 //! Every draw comes from a seed; a failing trial prints the seed it ran with.

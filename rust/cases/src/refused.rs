@@ -251,7 +251,7 @@ fn free_id(base: &Base, place: usize) -> Option<u16> {
     (after..=end).find(|id| base.interval.rows.iter().all(|row| row.id != *id))
 }
 
-/// The base with faults in it. The case must meet the refusal of the fault that is checked first.
+/// The base with faults in it. The refusal that is due is that of the fault checked first.
 pub fn damaged(base: &Base, faults: &[Fault]) -> (Case, (u8, u16)) {
     // The fault checked first is put in last, so that no other hides it.
     let mut faults = faults.to_vec();

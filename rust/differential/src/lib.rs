@@ -53,7 +53,7 @@ pub fn run(seed: u64, first: u64, step: usize, end: u64) -> Result<Tally, String
     Ok(tally)
 }
 
-/// Draws one pair of files and holds the engine's three functions to the reference's.
+/// Draws one pair of files and checks the engine's three functions against the reference's.
 pub fn trial(seed: u64, number: u64, tally: &mut Tally) -> Result<(), String> {
     let mut random = Random::from_seed(seed << 32 ^ number);
     let mut case = drawn(&mut random);

@@ -14,7 +14,7 @@ pub struct Payer {
 
 #[derive(Clone, Copy, Debug, PartialEq, Eq)]
 pub struct Rounds {
-    /// Rounds in which somebody closed.
+    /// Rounds in which a payer reached its cap.
     pub count: u16,
     /// What the caps fail to cover once everybody has closed.
     pub shortfall: u64,

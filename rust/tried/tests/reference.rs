@@ -1,4 +1,4 @@
-//! The reference on random and damaged files: it meets every refusal that is due, and every statement its demands.
+//! The reference on random and damaged files: it gives every refusal that is due, and every statement meets the demands.
 //!
 //! `SEED=n` repeats a run, `TRIALS=n` makes it longer.
 
