@@ -5,10 +5,10 @@
 --     fill-is                       a filled copy is what was copied
 --     small-at                      a number of such a column
 --     open-on, open-end             the column of open weights
---     paid-on, paid-end             payments in the place of shares
+--     part-fits, paid-part, paid-cap, made-at, paid-at     one payment
 --     whole-small                   the sum of such a column fits 64 bits
 use Prim.Native.Nat.{ℕ, _+_, _^_, _≤_, _<_}
-use mathlib.Core.Path.{_≡_, sym, ap, _∙_}
+use mathlib.Core.Path.{_≡_, sym, _∙_}
 use mathlib.Core.Logic.{⊎-elim}
 use mathlib.Core.Bool.{cond}
 use mathlib.Core.List.{List}
@@ -17,13 +17,14 @@ use lib.Dec.{eqb}
 use lib.ListN.{length, take, set, List·getD-eq-default}
 use lib.Seq.{getD-take, length-take-le, getD-set-other, getD-set-same, ext-getD}
 use borrow.Author.Count.{below-more}
+use borrow.Author.Tests.{eq-eqb, ne-eqb}
 use Rattle.columns.specs.Sum.{whole}
 use Rattle.columns.specs.Table.{at, table, Below}
 use Rattle.columns.proofs.Sum.{lt-or-le, sum-bound}
 use Rattle.columns.proofs.Table.{table-is}
-use Rattle.columns.proofs.Fill.{Reached, reached-none, reached-next, reached-now, reached-all}
+use Rattle.columns.proofs.Fill.{Reached, reached-none, reached-next, reached-all}
 use Rattle.levy.specs.Rounds.{openWeights}
-use Rattle.levy.specs.Asked.{Small, Still, paidFrom}
+use Rattle.levy.specs.Asked.{Small, Still, paidFrom, Made}
 
 pub record Fill (f : ℕ → ℕ) (start out : List ℕ) (i : ℕ) : Type 0 where
   pub reached : Reached 0 f start out i
@@ -64,40 +65,51 @@ small-at xs low i = low i
 unfoldable pub openAt : List ℕ → List ℕ → ℕ → ℕ
 openAt weights marks i = cond (eqb (at marks i) 0) (at weights i) 0
 
-pub open-on : (n : ℕ) (weights marks start out : List ℕ) (i : ℕ) → Reached 0 (openAt weights marks) start out i → n ≤ 256 → length start ≡ 256
-    → i < n → (v : ℕ) → v ≡ cond (eqb (at marks i) 0) (at weights i) 0 → Reached 0 (openAt weights marks) start (set out i v) (i + 1)
-open-on n weights marks start out i reached few long l v e =
-    reached-next 0 (openAt weights marks) start out i v reached (omega (arith, reached .room)) (unfold openAt in e)
+pub open-on : (n : ℕ) (weights marks start out : List ℕ) (i : ℕ) → Fill (openAt weights marks) start out i → n ≤ 256 → length start ≡ 256
+    → i < n → (v : ℕ) → v ≡ cond (eqb (at marks i) 0) (at weights i) 0 → v < 2 ^ 32 → Fill (openAt weights marks) start (set out i v) (i + 1)
+open-on n weights marks start out i fill few long l v e low =
+    fill-on (openAt weights marks) start out i fill 256 long (omega arith) v (unfold openAt in e) low
 
-pub open-end : (n : ℕ) (weights marks start out : List ℕ) (i : ℕ) → Reached 0 (openAt weights marks) start out i → n ≤ i → n ≤ 256
+pub open-end : (n : ℕ) (weights marks start out : List ℕ) (i : ℕ) → Fill (openAt weights marks) start out i → n ≤ i → n ≤ 256
     → length weights ≡ 256 → length start ≡ 256 → Still n weights marks out
 unfolding openWeights openAt
-open-end n weights marks start out i reached q few long room =
+open-end n weights marks start out i fill q few long room =
     record {
       is =
           table-is 0 (take n out) (length (take n weights)) (λ k. cond (eqb (at (take n marks) k) 0) (at (take n weights) k) 0)
           (front ∙ sym wide)
           (λ k l. rw (getD-take n out k 0 (omega (arith, wide)), getD-take n weights k 0 (omega (arith, wide)), getD-take n marks k 0 (omega (arith, wide)))
-          (reached .done k (omega (arith, wide))));
-      long = reached .room ∙ room;
+          (fill .reached .done k (omega (arith, wide))));
+      small = λ k. ⊎-elim (λ (l : k < n). rw (getD-take n out k 0 l) (fill .small k (omega arith)))
+          (λ (m : n ≤ k). let e : at (take n out) k ≡ 0 = List·getD-eq-default (take n out) 0 (omega (arith, front)) in omega arith)
+          (lt-or-le k n);
+      long = fill .reached .room ∙ room;
     }
   where
     wide : length (take n weights) ≡ n
     wide = length-take-le n weights (omega arith)
 
     front : length (take n out) ≡ n
-    front = length-take-le n out (omega (arith, reached .room))
+    front = length-take-le n out (omega (arith, fill .reached .room))
 
--- a payment in the place of a share
-pub paid-on : (caps marks start out : List ℕ) (i : ℕ) → Reached 0 (paidFrom caps marks start) start out i → i < length start → (v : ℕ)
-    → v ≡ cond (eqb (at marks i) 0) (at out i) (at caps i) → Reached 0 (paidFrom caps marks start) start (set out i v) (i + 1)
-paid-on caps marks start out i reached l v e =
-    reached-next 0 (paidFrom caps marks start) start out i v reached (omega (arith, reached .room))
-    (unfold paidFrom in e ∙ ap (λ (x : ℕ). cond (eqb (at marks i) 0) x (at caps i)) (reached-now 0 (paidFrom caps marks start) start out i reached))
+-- what the one who closed pays, and what the others do
+pub part-fits : (m a b : ℕ) → cond (eqb m 0) a b < 2 ^ 32 → m ≡ 0 → a < 2 ^ 32
+part-fits m a b h e = rw (eq-eqb m 0 e) at h
 
-pub paid-end : (caps marks start out : List ℕ) (i : ℕ) → Reached 0 (paidFrom caps marks start) start out i → length start ≤ i
-    → out ≡ table (length start) (paidFrom caps marks start)
-paid-end caps marks start out i reached q = reached-all 0 (paidFrom caps marks start) start out i reached (omega (arith, reached .room))
+pub paid-part : (m a b : ℕ) → m ≡ 0 → a ≡ cond (eqb m 0) a b
+paid-part m a b e = rw (eq-eqb m 0 e)
+
+pub paid-cap : (m a b : ℕ) → (m ≡ 0 → ⊥) → b ≡ cond (eqb m 0) a b
+paid-cap m a b e = rw (ne-eqb m 0 e)
+
+pub made-at : (caps marks parts out : List ℕ) → Made caps marks parts out → (i : ℕ) → i < length out
+    → cond (eqb (at marks i) 0) (at parts i) (at caps i) < 2 ^ 32
+unfolding paidFrom
+made-at caps marks parts out made i l = made .fits i l
+
+pub paid-at : (caps marks parts : List ℕ) (i v : ℕ) → v ≡ cond (eqb (at marks i) 0) (at parts i) (at caps i) → v ≡ paidFrom caps marks parts i
+unfolding paidFrom
+paid-at caps marks parts i v e = e
 
 pub whole-small : (xs : List ℕ) → length xs ≤ 256 → Small xs → whole xs < 2 ^ 64
 unfolding whole

@@ -1,57 +1,46 @@
 -- From shares to payments and cuts: each need of the code that makes them, and what the callers of payments have.
---     spread-split, spread-long, spread-small, spread-made     an amount over a column of 32 bits: what the sharing and the copying ask, the column
---     pay-spread, pay-few, payments-made        payments: what the sharing of the money left asks, the column
---     cut-spread                                cuts: what their sharing asks
+--     spread-split, spread-made, spread-out     the money left, shared and paid: what the sharing asks, what the making asks, the column
+--     pay-spread, payments-made                 payments: what the sharing of the money left asks, the column
+--     cut-split, cut-long, cut-small, cut-made     cuts: what the sharing and the copying ask, the column
 --     front-room                                the room lent for columns of n
 --     shortfall-final                           the shortfall that the code answers, of the last standing
 --     payable, cuttable                         what the makers of payments and cuts ask, from the answer of the rounds
-use Prim.Native.Nat.{ℕ, _^_, _≤_, _<_}
+use Prim.Native.Nat.{ℕ, _≤_, _<_}
 use mathlib.Core.Path.{_≡_, ap, sym, _∙_}
-use mathlib.Core.Logic.{⊎-elim}
 use mathlib.Core.List.{List}
-use native.Mathlib.Nat.{eq-zero-or-pos}
 use native.Mathlib.Omega.{arith}
 use lib.ListN.{length, take}
 use lib.Seq.{getD-take, length-take-le}
 use Rattle.columns.specs.Sum.{whole}
-use borrow.Author.Tests.{eq-eqb, ne-eqb}
-use Rattle.columns.specs.Table.{at, table}
+use Rattle.columns.specs.Table.{table}
 use Rattle.columns.proofs.Table.{table-same, front-long}
-use Rattle.share.specs.Share.{share, shares}
+use Rattle.share.specs.Share.{shares}
 use Rattle.share.specs.Split.{Splittable}
-use Rattle.share.proofs.Laws.{shares-at, shares-length, share-le-weight, share-zero}
-use Rattle.levy.specs.Rounds.{final, openWeights, paid, payments, shortfall}
-use Rattle.levy.specs.Asked.{standingOf, Small, Levyable, Finished, Short, Still, Spreadable, Room, paidFrom, Payable, Cuttable}
+use Rattle.share.proofs.Laws.{shares-at, shares-length, share-le-weight}
+use Rattle.levy.specs.Rounds.{final, paid, payments, shortfall}
+use Rattle.levy.specs.Asked.{standingOf, Small, Levyable, Finished, Short, Still, Payable, Spread, paidFrom, Made, Room, Cuttable}
 use Rattle.levy.specs.declared.Rest.{Rest}
-use Rattle.levy.proofs.Payment.{open-at, paid-le-cap, shortfall-le}
+use Rattle.levy.proofs.Payment.{paid-le-cap, shortfall-le}
 use Rattle.levy.proofs.Fill.{whole-small}
 
--- ---- sharing over a column of 32 bits
+module _ (money : ℕ) (still caps marks : List ℕ) (first : ℕ) (parts₀ out : List ℕ)
+    (asked : Spread money still caps marks first parts₀ out) where
+  pub spread-split : Splittable still parts₀ first
+  spread-split =
+      record { short = asked .few; room = asked .parts-long; fits = whole-small still (asked .few) (asked .small); inside = asked .turn }
 
-module _ (amount : ℕ) (ws : List ℕ) (first : ℕ) (out : List ℕ) (asked : Spreadable amount ws first out) (roomy : List ℕ) (same : roomy ≡ ws) where
-  pub spread-split : (roomy₀ parts : List ℕ) → Room (length ws) roomy₀ parts → Small roomy → Splittable roomy parts first
-  spread-split roomy₀ parts room low =
-      record {
-        short = rw same (asked .few);
-        room = room .two-long ∙ ap length (sym same);
-        fits = whole-small roomy (rw same (asked .few)) low;
-        inside = rw same (asked .turn);
-      }
+  module _ (parts : List ℕ) (parts-are : parts ≡ shares money still first) where
+    pub spread-made : Made caps marks parts out
+    spread-made =
+        record {
+          few = omega (arith, asked .out-long, asked .few);
+          parts-long = ap length parts-are ∙ shares-length money still first ∙ sym (asked .out-long);
+          fits = rw parts-are (asked .fits);
+        }
 
-  module _ (parts : List ℕ) (parts-are : parts ≡ shares amount roomy first) where
-    spread-are : parts ≡ shares amount ws first
-    spread-are = parts-are ∙ ap (λ (xs : List ℕ). shares amount xs first) same
-
-    pub spread-long : length out ≡ length parts
-    spread-long = asked .out-long ∙ sym (ap length spread-are ∙ shares-length amount ws first)
-
-    pub spread-small : Small parts
-    spread-small i = rw (spread-are, shares-at amount ws first i) (asked .fits i)
-
-    pub spread-made : (made : List ℕ) → made ≡ parts → made ≡ shares amount ws first
-    spread-made made is = is ∙ spread-are
-
--- ---- payments
+    pub spread-out : (made : List ℕ) → made ≡ table (length out) (paidFrom caps marks parts)
+        → made ≡ table (length out) (paidFrom caps marks (shares money still first))
+    spread-out made is = is ∙ ap (λ (xs : List ℕ). table (length out) (paidFrom caps marks xs)) parts-are
 
 module _ (n : ℕ) (weights caps marks : List ℕ) (rest : Rest) (first : ℕ) (out : List ℕ) (asked : Payable n weights caps marks rest first out)
     (still : List ℕ) (open-are : Still n weights marks still) where
@@ -61,62 +50,58 @@ module _ (n : ℕ) (weights caps marks : List ℕ) (rest : Rest) (first : ℕ) (
   front : length (take n still) ≡ n
   front = length-take-le n still (omega (arith, asked .few, open-are .long))
 
-  -- whoever is open pays its share, and whoever has closed has no share
-  share-fits : (i : ℕ) → share (rest .money .0) (openWeights (take n weights) (take n marks)) first i < 2 ^ 32
-  unfolding paid
-  share-fits i =
-      ⊎-elim
-      (λ (z : at (take n marks) i ≡ 0). rw (eq-eqb (at (take n marks) i) 0 z) at (asked .fits i))
-      (λ (up : 0 < at (take n marks) i).
-      let none : at (openWeights (take n weights) (take n marks)) i ≡ 0 = closed-at i (omega arith) in
-      omega (arith, share-zero (rest .money .0) (openWeights (take n weights) (take n marks)) first i none))
-      (eq-zero-or-pos (at (take n marks) i))
-    where
-      closed-at : (i : ℕ) → (at (take n marks) i ≡ 0 → ⊥) → at (openWeights (take n weights) (take n marks)) i ≡ 0
-      closed-at i ne = open-at (take n weights) (take n marks) i ∙ rw (ne-eqb (at (take n marks) i) 0 ne)
-
-  pub pay-spread : Spreadable (rest .money .0) (take n still) first out
-  pay-spread =
-      record {
-        few = omega (arith, front, asked .few);
-        out-long = asked .out-long ∙ sym front;
-        turn = rw front (asked .turn);
-        fits = λ i. rw (open-are .is) (share-fits i);
-      }
-
   paid-same : (i : ℕ) → i < n
       → paidFrom caps marks (shares (rest .money .0) (take n still) first) i ≡ paid (take n weights) (take n caps) (standingOf n marks rest) first i
   unfolding paidFrom paid
   paid-same i l =
       rw (getD-take n marks i 0 l, getD-take n caps i 0 l, shares-at (rest .money .0) (take n still) first i, open-are .is)
 
-  module _ (parts : List ℕ) (parts-are : parts ≡ shares (rest .money .0) (take n still) first) where
-    parts-long : length parts ≡ n
-    parts-long = ap length parts-are ∙ shares-length (rest .money .0) (take n still) first ∙ front
+  pub pay-spread : (parts : List ℕ) → length parts ≡ 256 → Spread (rest .money .0) (take n still) caps marks first (take n parts) out
+  pay-spread parts room =
+      record {
+        few = omega (arith, front, asked .few);
+        small = open-are .small;
+        parts-long = omega (arith, front, length-take-le n parts (omega (arith, asked .few)));
+        out-long = omega (arith, front, asked .out-long);
+        turn = rw front (asked .turn);
+        fits = λ i l. rw (paid-same i (omega (arith, asked .out-long))) (asked .fits i);
+      }
 
-    pub pay-few : length parts ≤ 256
-    pay-few = omega (arith, parts-long, asked .few)
+  pub payments-made : (made : List ℕ) → made ≡ table (length out) (paidFrom caps marks (shares (rest .money .0) (take n still) first))
+      → made ≡ payments (take n weights) (take n caps) (standingOf n marks rest) first
+  unfolding payments
+  payments-made made is =
+      is
+      ∙ ap (λ (m : ℕ). table m (paidFrom caps marks (shares (rest .money .0) (take n still) first))) (omega (arith, wide, asked .out-long))
+      ∙ table-same (length (take n weights)) (paidFrom caps marks (shares (rest .money .0) (take n still) first))
+      (paid (take n weights) (take n caps) (standingOf n marks rest) first)
+      (λ k l. paid-same k (omega (arith, wide)))
 
-    pub payments-made : (made : List ℕ) → made ≡ table (length parts) (paidFrom caps marks parts)
-        → made ≡ payments (take n weights) (take n caps) (standingOf n marks rest) first
-    unfolding payments
-    payments-made made is =
-        is ∙ (λ j. table ((parts-long ∙ sym wide) j) (paidFrom caps marks (parts-are j)))
-        ∙ table-same (length (take n weights)) (paidFrom caps marks (shares (rest .money .0) (take n still) first))
-        (paid (take n weights) (take n caps) (standingOf n marks rest) first)
-        (λ k l. paid-same k (omega (arith, wide)))
+module _ (shortfall : ℕ) (compensations : List ℕ) (first : ℕ) (out : List ℕ) (asked : Cuttable shortfall compensations first out)
+    (weights : List ℕ) (same : weights ≡ compensations) where
+  -- whoever goes first: what is asked does not depend on it
+  pub cut-split : (weights₀ parts : List ℕ) → Room (length compensations) weights₀ parts → Small weights → (turn : ℕ) → turn ≤ first
+      → Splittable weights parts turn
+  cut-split weights₀ parts room low turn le =
+      record {
+        short = rw same (asked .few);
+        room = room .two-long ∙ ap length (sym same);
+        fits = whole-small weights (rw same (asked .few)) low;
+        inside = rw same (λ some. omega (arith, le, asked .turn some));
+      }
 
--- ---- cuts, whoever goes first: what is asked does not depend on it
+  module _ (turn : ℕ) (parts : List ℕ) (parts-are : parts ≡ shares shortfall weights turn) where
+    pub cut-long : length out ≡ length parts
+    cut-long = asked .out-long ∙ ap length (sym same) ∙ sym (ap length parts-are ∙ shares-length shortfall weights turn)
 
-pub cut-spread : (shortfall : ℕ) (compensations : List ℕ) (first : ℕ) (out : List ℕ) → Cuttable shortfall compensations first out → Small compensations
-    → (turn : ℕ) → turn ≤ first → Spreadable shortfall compensations turn out
-cut-spread shortfall compensations first out asked low turn le =
-    record {
-      few = asked .few;
-      out-long = asked .out-long;
-      turn = λ some. omega (arith, le, asked .turn some);
-      fits = λ i. omega (arith, low i, share-le-weight shortfall compensations turn i (asked .covered));
-    }
+    pub cut-small : Small weights → Small parts
+    cut-small low i =
+        rw (parts-are, shares-at shortfall weights turn i)
+        (omega (arith, low i, share-le-weight shortfall weights turn i (rw same (asked .covered))))
+
+  pub cut-made : (parts : List ℕ) → parts ≡ shares shortfall weights first → (made : List ℕ) → made ≡ parts
+      → made ≡ shares shortfall compensations first
+  cut-made parts parts-are made is = is ∙ parts-are ∙ ap (λ (xs : List ℕ). shares shortfall xs first) same
 
 -- the first n of two whole arrays
 pub front-room : (n : ℕ) (xs ys : List ℕ) → n ≤ 256 → length xs ≡ 256 → length ys ≡ 256 → Room n (take n xs) (take n ys)

@@ -8,7 +8,7 @@ use lib.Dec.{eqb}
 use lib.ListN.{length, take, drop, replicate}
 use Rattle.columns.specs.Sum.{whole, sumWhere}
 use Rattle.columns.specs.Table.{at}
-use Rattle.share.specs.Share.{shares, share}
+use Rattle.share.specs.Share.{shares}
 use Rattle.levy.specs.Rounds.{Standing, opens, closed, next, run, final, openWeights, paid, shortfall}
 use Rattle.levy.specs.declared.Closed.{Closed}
 use Rattle.levy.specs.declared.Rest.{Rest}
@@ -85,6 +85,7 @@ Short r x = (n : ℕ) (marks : List ℕ) → x ≡ shortfall (standingOf n marks
 -- answered by the column of open weights
 pub record Still (n : ℕ) (weights marks still : List ℕ) : Type 0 where
   pub is : take n still ≡ openWeights (take n weights) (take n marks)
+  pub small : Small (take n still)
   pub long : length still ≡ 256
 
 -- asked by the payments: each fits its field
@@ -101,12 +102,20 @@ pub record Payable (n : ℕ) (weights caps marks : List ℕ) (r : Rest) (first :
 unfoldable pub paidFrom : List ℕ → List ℕ → List ℕ → ℕ → ℕ
 paidFrom caps marks parts i = cond (eqb (at marks i) 0) (at parts i) (at caps i)
 
--- asked where an amount is shared over a column: each share is a number of 32 bits
-pub record Spreadable (amount : ℕ) (ws : List ℕ) (first : ℕ) (out : List ℕ) : Type 0 where
-  pub few : length ws ≤ 256
-  pub out-long : length out ≡ length ws
-  pub turn : 0 < length ws → first < length ws
-  pub fits : (i : ℕ) → share amount ws first i < 2 ^ 32
+-- asked where shares and caps become payments
+pub record Made (caps marks parts out : List ℕ) : Type 0 where
+  pub few : length out ≤ 256
+  pub parts-long : length parts ≡ length out
+  pub fits : (i : ℕ) → i < length out → paidFrom caps marks parts i < 2 ^ 32
+
+-- asked where the money left is shared over the open weights: the payments that come of it fit
+pub record Spread (money : ℕ) (still caps marks : List ℕ) (first : ℕ) (parts out : List ℕ) : Type 0 where
+  pub few : length still ≤ 256
+  pub small : Small still
+  pub parts-long : length parts ≡ length still
+  pub out-long : length out ≡ length still
+  pub turn : 0 < length still → first < length still
+  pub fits : (i : ℕ) → i < length out → paidFrom caps marks (shares money still first) i < 2 ^ 32
 
 -- room for two columns of n
 pub record Room (n : ℕ) (one two : List ℕ) : Type 0 where

@@ -17,7 +17,7 @@ fn closes_now(mark: u32, w: u32, c: u32, money: Fen, weight: u64) -> bool
 }
 
 // A figure that counts if the test passed.
-fn counted(t: bool, x: u32) -> u64
+pub fn counted(t: bool, x: u32) -> u64
     ensures { λ r. ⌜ (r ≡ cond t x 0) × (r < 2 ^ 32) ⌝ }
 {
     if t {

@@ -1,34 +1,33 @@
 -- `levy::open_weights` meets its contract: the positions passed have their weight, or 0 if they closed.
 use Prim.Native.Nat.{_-_}
-use Rattle.columns.proofs.Fill.{Reached, reached-none}
-use Rattle.levy.proofs.Fill.{openAt, open-on, open-end}
 use borrow.Author.Needs.{needs}
+use Rattle.levy.proofs.Fill.{Fill, openAt, fill-none, open-on, open-end}
 use Rattle.levy.proofs.paying.open_weights.Statement.{statement}
 use Rattle.levy.proofs.paying.open_weights.Tie as tie
 
 abbrev Inv-loop : tie.InvT-loop
-Inv-loop n weights marks still₀ i₀ still i = Reached 0 (openAt weights marks) still₀ still i
+Inv-loop n weights marks still₀ i₀ still i = Fill (openAt weights marks) still₀ still i
 
 abbrev μ-loop : tie.MeasureT-loop
 μ-loop n weights marks still₀ i₀ still i = n - i
 
 loop-holds : tie.Need-loop-holds Inv-loop μ-loop
-loop-holds c = search reached-none
+loop-holds c = search fill-none
 
-mul-still-open : tie.Need-mul-still-open Inv-loop μ-loop
-mul-still-open c = search needs
+mul-counted : tie.Need-mul-counted Inv-loop μ-loop
+mul-counted c = search needs
 
-element-copy-out-still-open : tie.Need-element-copy-out-still-open Inv-loop μ-loop
-element-copy-out-still-open c = search needs
+element-copy-out-counted : tie.Need-element-copy-out-counted Inv-loop μ-loop
+element-copy-out-counted c = search needs
 
-mul-still-open-2 : tie.Need-mul-still-open-2 Inv-loop μ-loop
-mul-still-open-2 c = search needs
+mul-counted-2 : tie.Need-mul-counted-2 Inv-loop μ-loop
+mul-counted-2 c = search needs
 
-element-copy-out-still-open-2 : tie.Need-element-copy-out-still-open-2 Inv-loop μ-loop
-element-copy-out-still-open-2 c = search needs
+element-copy-out-counted-2 : tie.Need-element-copy-out-counted-2 Inv-loop μ-loop
+element-copy-out-counted-2 c = search needs
 
-still-open-requires : tie.Need-still-open-requires Inv-loop μ-loop
-still-open-requires c κs = search needs
+counted-requires : tie.Need-counted-requires Inv-loop μ-loop
+counted-requires c κs = search needs
 
 mul-still : tie.Need-mul-still Inv-loop μ-loop
 mul-still c = search needs
@@ -55,11 +54,11 @@ open-weights-spec =
     Inv-loop
     μ-loop
     loop-holds
-    mul-still-open
-    element-copy-out-still-open
-    mul-still-open-2
-    element-copy-out-still-open-2
-    still-open-requires
+    mul-counted
+    element-copy-out-counted
+    mul-counted-2
+    element-copy-out-counted-2
+    counted-requires
     mul-still
     element-write-still
     add-i

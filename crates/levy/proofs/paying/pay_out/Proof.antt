@@ -1,20 +1,19 @@
 -- `levy::pay_out` meets its contract: the positions passed have what they pay.
 use Prim.Native.Nat.{_-_}
-use Rattle.columns.proofs.Fill.{Reached, reached-none}
-use Rattle.levy.specs.Asked.{paidFrom}
-use Rattle.levy.proofs.Fill.{paid-on, paid-end}
 use borrow.Author.Needs.{needs}
+use Rattle.levy.specs.Asked.{paidFrom}
+use Rattle.levy.proofs.Fill.{Fill, fill-none, fill-on, fill-end, paid-at, made-at}
 use Rattle.levy.proofs.paying.pay_out.Statement.{statement}
 use Rattle.levy.proofs.paying.pay_out.Tie as tie
 
 abbrev Inv-loop : tie.InvT-loop
-Inv-loop caps marks out₀ n i₀ out i = Reached 0 (paidFrom caps marks out₀) out₀ out i
+Inv-loop parts caps marks out₀ n i₀ out i = Fill (paidFrom caps marks parts) out₀ out i
 
 abbrev μ-loop : tie.MeasureT-loop
-μ-loop caps marks out₀ n i₀ out i = n - i
+μ-loop parts caps marks out₀ n i₀ out i = n - i
 
 loop-holds : tie.Need-loop-holds Inv-loop μ-loop
-loop-holds c = search reached-none
+loop-holds c = search fill-none
 
 mul-paid-by : tie.Need-mul-paid-by Inv-loop μ-loop
 mul-paid-by c = search needs
@@ -25,8 +24,8 @@ element-copy-out-paid-by c = search needs
 mul-paid-by-2 : tie.Need-mul-paid-by-2 Inv-loop μ-loop
 mul-paid-by-2 c = search needs
 
-slice-read-paid-by : tie.Need-slice-read-paid-by Inv-loop μ-loop
-slice-read-paid-by c = search needs
+shared-slice-read-paid-by : tie.Need-shared-slice-read-paid-by Inv-loop μ-loop
+shared-slice-read-paid-by c = search needs
 
 mul-paid-by-3 : tie.Need-mul-paid-by-3 Inv-loop μ-loop
 mul-paid-by-3 c = search needs
@@ -35,7 +34,7 @@ element-copy-out-paid-by-2 : tie.Need-element-copy-out-paid-by-2 Inv-loop μ-loo
 element-copy-out-paid-by-2 c = search needs
 
 paid-by-requires : tie.Need-paid-by-requires Inv-loop μ-loop
-paid-by-requires c κs = search needs
+paid-by-requires c κs = search (made-at, needs)
 
 mul-out : tie.Need-mul-out Inv-loop μ-loop
 mul-out c = search needs
@@ -50,13 +49,13 @@ loop-less : tie.Need-loop-less Inv-loop μ-loop
 loop-less c = search needs
 
 loop-again : tie.Need-loop-again Inv-loop μ-loop
-loop-again c = search paid-on
+loop-again c = search (fill-on, paid-at)
 
 same-length : tie.Need-same-length Inv-loop μ-loop
 same-length c = search needs
 
 returns : tie.Need-returns Inv-loop μ-loop
-returns c = search paid-end
+returns c = search fill-end
 
 pub pay-out-spec : {M : Type 1} → statement M
 pay-out-spec =
@@ -68,7 +67,7 @@ pay-out-spec =
     mul-paid-by
     element-copy-out-paid-by
     mul-paid-by-2
-    slice-read-paid-by
+    shared-slice-read-paid-by
     mul-paid-by-3
     element-copy-out-paid-by-2
     paid-by-requires

@@ -1,7 +1,7 @@
--- `levy::payments` meets its contract: the money left shared over the open weights, then payments in the place of shares.
+-- `levy::payments` meets its contract: it only lends columns.
 use borrow.Author.Needs.{needs}
 use Rattle.columns.proofs.Table.{front-long}
-use Rattle.levy.proofs.Making.{pay-spread, pay-few, payments-made}
+use Rattle.levy.proofs.Making.{pay-spread, payments-made}
 use Rattle.levy.proofs.paying.payments.Statement.{statement}
 use Rattle.levy.proofs.paying.payments.Tie as tie
 
@@ -11,14 +11,17 @@ open-weights-requires c κs = search needs
 array-share-prefix-still : tie.Need-array-share-prefix-still
 array-share-prefix-still c = search needs
 
-slice-aggregate-spread : tie.Need-slice-aggregate-spread
-slice-aggregate-spread c = search front-long
+slice-aggregate-pay-open : tie.Need-slice-aggregate-pay-open
+slice-aggregate-pay-open c = search front-long
 
-spread-requires : tie.Need-spread-requires
-spread-requires c κs = search pay-spread
+array-borrow-prefix-parts : tie.Need-array-borrow-prefix-parts
+array-borrow-prefix-parts c = search needs
 
-pay-out-requires : tie.Need-pay-out-requires
-pay-out-requires c κs = search pay-few
+slice-aggregate-pay-open-2 : tie.Need-slice-aggregate-pay-open-2
+slice-aggregate-pay-open-2 c = search front-long
+
+pay-open-requires : tie.Need-pay-open-requires
+pay-open-requires c κs = search pay-spread
 
 same-length : tie.Need-same-length
 same-length c = search needs
@@ -32,8 +35,9 @@ payments-spec =
     (tie.spec
     open-weights-requires
     array-share-prefix-still
-    slice-aggregate-spread
-    spread-requires
-    pay-out-requires
+    slice-aggregate-pay-open
+    array-borrow-prefix-parts
+    slice-aggregate-pay-open-2
+    pay-open-requires
     same-length
     returns)

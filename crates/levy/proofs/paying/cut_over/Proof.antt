@@ -1,17 +1,17 @@
--- `levy::spread_in` meets its contract: the shares over the roomy column, each of which fits.
+-- `levy::cut_over` meets its contract: a cut is a share, and a share of the shortfall fits.
 use borrow.Author.Needs.{needs}
-use Rattle.levy.proofs.Making.{spread-split, spread-long, spread-small, spread-made}
-use Rattle.levy.proofs.paying.spread_in.Statement.{statement}
-use Rattle.levy.proofs.paying.spread_in.Tie as tie
+use Rattle.levy.proofs.Making.{cut-split, cut-long, cut-small, cut-made}
+use Rattle.levy.proofs.paying.cut_over.Statement.{statement}
+use Rattle.levy.proofs.paying.cut_over.Tie as tie
 
 widen-requires : tie.Need-widen-requires
 widen-requires c κs = search needs
 
 split-requires : tie.Need-split-requires
-split-requires c κs = search spread-split
+split-requires c κs = search (cut-split, needs)
 
 narrow-requires : tie.Need-narrow-requires
-narrow-requires c κs = search (spread-long, spread-small)
+narrow-requires c κs = search (cut-long, cut-small)
 
 same-length : tie.Need-same-length
 same-length c = search needs
@@ -23,10 +23,10 @@ same-length-3 : tie.Need-same-length-3
 same-length-3 c = search needs
 
 returns : tie.Need-returns
-returns c = search spread-made
+returns c = search cut-made
 
-pub spread-in-spec : {M : Type 1} → statement M
-spread-in-spec =
+pub cut-over-spec : {M : Type 1} → statement M
+cut-over-spec =
     tie.close
     (tie.spec
     widen-requires
