@@ -2,6 +2,7 @@ pub mod Sizes
 pub mod Staged
 pub mod Lending
 pub mod Tiers
+pub mod Trading
 pub mod Paying
 pub mod Reading
 pub mod Levying

@@ -1,7 +1,7 @@
 -- The stages of an accepted pair of files, one after the other as the code runs them: what each asks is there, and at the end the
 -- buffer holds the statement. Each lemma takes what the stages before it left.
 --   read-lines                      the first stage's lines are those of the columns of duties
---   asked-1, asked-2                the tiers
+--   asked-trade                     both tiers
 --   asked-pay, asked-levy, asked-cut    compensations, rounds and payments, cuts
 --   head-room, stated               the head may be put, and then the buffer holds the statement
 use Prim.Native.Nat.{ℕ, _+_, _-_, _*_, _≤_, _<_}
@@ -36,8 +36,9 @@ use Rattle.settle.specs.Settlement.{Figures}
 use Rattle.settle.specs.Statement.{statementHead, lineOf, statementBytes}
 use Rattle.settle.specs.Answer.{dutiesIn, figuresOf, statementOf}
 use Rattle.settle.specs.Within.{Within}
-use Rattle.settle.specs.Work.{lined, rowLine, Offered, Called, Payable, Paid, Leviable, Levied, Cuttable, cutFrom}
+use Rattle.settle.specs.Work.{lined, rowLine, Offered, Called, Tradable, Traded, Payable, Paid, Leviable, Levied, Cuttable, cutFrom}
 use Rattle.settle.specs.declared.market.Cleared.{Cleared}
+use Rattle.settle.specs.declared.market.Market.{Market}
 use Rattle.settle.proofs.Accepted.{duties-within}
 use Rattle.settle.proofs.Staged as stage
 
@@ -89,7 +90,7 @@ module _ (s k : List ℕ) (n : ℕ) (ok : verdictOf s k ≡ Accepted n) (out : L
     read-lines : t0 ≡ lined out n L0
     read-lines = read ∙ sheet-same headSize letterL lineWidths out n (rowLine (h .tariff .0) s k) L0 row-line
 
-    pub asked-1 : Offered n 0 line.called1 line.closing t0
+    asked-1 : Offered n 0 line.called1 line.closing t0
     asked-1 = rw read-lines (stage.called1-asked n d within need 0 (λ p. p) id out room)
 
     module _ (t1 : List ℕ) (c1 : Cleared) (one : Called (h .need .0) 0 n line.called1 line.closing t0 t1 c1) where
@@ -106,7 +107,7 @@ module _ (s k : List ℕ) (n : ℕ) (ok : verdictOf s k ≡ Accepted n) (out : L
       left-1 : c1 .left .0 ≡ need - whole (d .widths1)
       left-1 = stage.called1-left n d within need 0 (λ p. p) id out room t1 c1 called-1
 
-      pub asked-2 : Offered n 0 line.called2 line.paid t1
+      asked-2 : Offered n 0 line.called2 line.paid t1
       asked-2 = rw lines-1 (stage.called2-asked n d within need 0 (λ p. p) id out room)
 
       module _ (t2 : List ℕ) (c2 : Cleared) (two : Called (c1 .left .0) 0 n line.called2 line.paid t1 t2 c2) where
@@ -127,9 +128,9 @@ module _ (s k : List ℕ) (n : ℕ) (ok : verdictOf s k ≡ Accepted n) (out : L
         unfolding figuresOf
         left-2 = stage.called2-left n d within need 0 (λ p. p) id out room (c1 .left .0) left-1 t2 c2 called-2
 
-        pub asked-pay : Payable n (c1 .price .0) (c2 .price .0) t2
+        pay-asked : Payable n (c1 .price .0) (c2 .price .0) t2
         unfolding figuresOf
-        asked-pay = rw (lines-2, price-1, price-2) (stage.paid-asked n d within need 0 (λ p. p) id out room)
+        pay-asked = rw (lines-2, price-1, price-2) (stage.paid-asked n d within need 0 (λ p. p) id out room)
 
         module _ (t3 : List ℕ) (total : Fen) (three : Paid n (c1 .price .0) (c2 .price .0) t2 t3 (total .0)) where
           abbrev L2 : ℕ → List ℕ
@@ -146,9 +147,9 @@ module _ (s k : List ℕ) (n : ℕ) (ok : verdictOf s k ≡ Accepted n) (out : L
           unfolding figuresOf
           total-3 = stage.paid-total n d within need 0 (λ p. p) id out room t3 (total .0) paid-3
 
-          pub asked-levy : Leviable n 0 (total .0) t3
+          levy-asked : Leviable n 0 (total .0) t3
           unfolding figuresOf
-          asked-levy = rw (lines-3, total-3) (stage.levied-asked n d within need 0 (λ p. p) id out room)
+          levy-asked = rw (lines-3, total-3) (stage.levied-asked n d within need 0 (λ p. p) id out room)
 
           module _ (t4 : List ℕ) (r : Rest) (four : Levied n 0 (total .0) t3 t4 r) (x : Fen) (short : Short r (x .0)) where
             abbrev L3 : ℕ → List ℕ
@@ -169,9 +170,9 @@ module _ (s k : List ℕ) (n : ℕ) (ok : verdictOf s k ≡ Accepted n) (out : L
             unfolding figuresOf
             short-4 = stage.levied-short n d within need 0 (λ p. p) id out room t4 r levied-4 (x .0) [] (short 0 [])
 
-            pub asked-cut : Cuttable n 0 (x .0) t4
+            cut-asked : Cuttable n 0 (x .0) t4
             unfolding figuresOf
-            asked-cut = rw (lines-4, short-4) (stage.cut-asked n d within need 0 (λ p. p) id out room)
+            cut-asked = rw (lines-4, short-4) (stage.cut-asked n d within need 0 (λ p. p) id out room)
 
             module _ (t5 : List ℕ) (five : t5 ≡ cutFrom n 0 (x .0) t4) where
               lines-5 : t5 ≡ lined out n (λ i. lineOf (id i) f i)
@@ -181,11 +182,11 @@ module _ (s k : List ℕ) (n : ℕ) (ok : verdictOf s k ≡ Accepted n) (out : L
                   ∙ sheet-same headSize letterL lineWidths out n (stage.lines5 n d within need 0 (λ p. p) id out room) (λ i. lineOf (id i) f i)
                   (λ i l. stage.figure-lines n d within need 0 (λ p. p) id out room i)
 
-              pub head-room : headSize ≤ length t5
-              head-room =
+              room-head : headSize ≤ length t5
+              room-head =
                   omega (arith, room, ap length lines-5, stage.lines-long n out room (λ i. lineOf (id i) f i) (λ i. refl))
 
-              pub stated : (t6 : List ℕ)
+              all-stated : (t6 : List ℕ)
                   → t6 ≡ put t5 0
                   (statementHeadBytes
                   (record {
@@ -201,7 +202,7 @@ module _ (s k : List ℕ) (n : ℕ) (ok : verdictOf s k ≡ Accepted n) (out : L
                   }))
                   → t6 ≡ put out 0 (statementOf s k)
               unfolding statementOf statementBytes statementHead
-              stated t6 six =
+              all-stated t6 six =
                   let top = statementHeadBytes (statementHead (headAt s) n f) in
                   let lines : ℕ → List ℕ = λ i. lineOf (id i) f i in
                   six
@@ -221,3 +222,51 @@ module _ (s k : List ℕ) (n : ℕ) (ok : verdictOf s k ≡ Accepted n) (out : L
                   ∙ ap (λ (m : ℕ). put (sheet m letterL lineWidths out n lines) 0 top) (sym (head-length (statementHead (headAt s) n f)))
                   ∙ sheet-head top letterL lineWidths out n lines (omega (arith, room, head-length (statementHead (headAt s) n f)))
                   ∙ ap (λ (m : ℕ). put out 0 (statementHeadBytes (statementHead (headAt s) m f) ++ recordsBytes letterL lineWidths (table m lines))) (sym count)
+
+    -- ---- the same by the market that both tiers leave
+
+    pub asked-trade : Tradable (h .need .0) 0 n t0
+    asked-trade = record { one = asked-1; two = asked-2 }
+
+    module _ (t2 : List ℕ) (m : Market) (traded : Traded (h .need .0) 0 n t0 t2 m) where
+      abbrev t1 : List ℕ
+      t1 = traded .between
+
+      pub asked-pay : Payable n (m .price1 .0) (m .price2 .0) t2
+      asked-pay =
+          rw (traded .price1, traded .price2) (pay-asked t1 (traded .one) (traded .called1) t2 (traded .two) (traded .called2))
+
+      module _ (t3 : List ℕ) (total : Fen) (three : Paid n (m .price1 .0) (m .price2 .0) t2 t3 (total .0)) where
+        paid : Paid n (traded .one .price .0) (traded .two .price .0) t2 t3 (total .0)
+        paid = rw (traded .price1, traded .price2) at three
+
+        pub asked-levy : Leviable n 0 (total .0) t3
+        asked-levy = levy-asked t1 (traded .one) (traded .called1) t2 (traded .two) (traded .called2) t3 total paid
+
+        module _ (t4 : List ℕ) (r : Rest) (four : Levied n 0 (total .0) t3 t4 r) (x : Fen) (short : Short r (x .0)) where
+          pub asked-cut : Cuttable n 0 (x .0) t4
+          asked-cut = cut-asked t1 (traded .one) (traded .called1) t2 (traded .two) (traded .called2) t3 total paid t4 r four x short
+
+          module _ (t5 : List ℕ) (five : t5 ≡ cutFrom n 0 (x .0) t4) where
+            pub head-room : headSize ≤ length t5
+            head-room =
+                room-head t1 (traded .one) (traded .called1) t2 (traded .two) (traded .called2) t3 total paid t4 r four x short t5 five
+
+            pub stated : (t6 : List ℕ)
+                → t6 ≡ put t5 0
+                (statementHeadBytes
+                (record {
+                  day = h .day;
+                  quarter = h .quarter;
+                  price1 = m .price1;
+                  price2 = m .price2;
+                  total = total;
+                  shortfall = x;
+                  rounds = r .rounds;
+                  uncovered = m .uncovered;
+                  rows = n;
+                }))
+                → t6 ≡ put out 0 (statementOf s k)
+            stated t6 six =
+                all-stated t1 (traded .one) (traded .called1) t2 (traded .two) (traded .called2) t3 total paid t4 r four x short t5 five t6
+                (rw (traded .price1, traded .price2, traded .uncovered) at six)

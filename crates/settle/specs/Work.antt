@@ -2,7 +2,9 @@
 -- that belong there replace them. No promise of the engine speaks of this page.
 use Prim.Native.Nat.{ℕ, _+_, _-_, _^_, _≤_, _<_}
 use mathlib.Core.Path.{_≡_}
+use mathlib.Core.Bool.{cond}
 use mathlib.Core.List.{List, [], _∷_}
+use lib.Dec.{eqb}
 use lib.ListN.{length}
 use Rattle.columns.specs.Sum.{whole}
 use Rattle.columns.specs.Table.{at, table}
@@ -23,6 +25,7 @@ use Rattle.statement.specs.Statement.{letterL, lineWidths, headSize}
 use Rattle.statement.specs.Line as line
 use Rattle.settle.specs.Within.{Turn}
 use Rattle.settle.specs.declared.market.Cleared.{Cleared}
+use Rattle.settle.specs.declared.market.Market.{Market}
 
 -- n lines in a buffer
 abbrev pub lined : List ℕ → ℕ → (ℕ → List ℕ) → List ℕ
@@ -79,6 +82,29 @@ pub record Called (need first n : ℕ) (width bid : Field) (s t : List ℕ) (r :
   pub bytes : t ≡ withColumn width (callsIn need first n width bid s) s
   pub left : r .left .0 ≡ need - whole (columnOf width n s)
   pub price : r .price .0 ≡ price (columnOf bid n s) (callsIn need first n width bid s)
+
+-- the fields of a tier's widths and of its bids; tier 1 is 0 here
+abbrev pub widthOf : ℕ → Field
+widthOf tier = cond (eqb tier 0) line.called1 line.called2
+
+abbrev pub bidOf : ℕ → Field
+bidOf tier = cond (eqb tier 0) line.closing line.paid
+
+-- both tiers' offers stand in their fields, the second's still once the first is called
+pub record Tradable (need first n : ℕ) (s : List ℕ) : Type 0 where
+  pub one : Offered n first line.called1 line.closing s
+  pub two : (t : List ℕ) (r : Cleared) → Called need first n line.called1 line.closing s t r → Offered n first line.called2 line.paid t
+
+-- both tiers are called, the second with what the first leaves of the need
+pub record Traded (need first n : ℕ) (s t : List ℕ) (m : Market) : Type 0 where
+  pub between : List ℕ
+  pub one : Cleared
+  pub two : Cleared
+  pub called1 : Called need first n line.called1 line.closing s between one
+  pub called2 : Called (one .left .0) first n line.called2 line.paid between t two
+  pub uncovered : m .uncovered ≡ two .left
+  pub price1 : m .price1 ≡ one .price
+  pub price2 : m .price2 ≡ two .price
 
 -- what the row at position i is paid
 abbrev pub payAt : ℕ → ℕ → List ℕ → ℕ → ℕ

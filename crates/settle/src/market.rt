@@ -7,8 +7,10 @@ use records::put_cell;
 use records::put_column;
 use statement::CALLED1;
 use statement::CALLED2;
+use statement::CLOSING;
 use statement::COMPENSATION;
 use statement::CUT;
+use statement::PAID;
 use units::Fen;
 use units::Kwh;
 use units::Li;
@@ -18,12 +20,19 @@ ghost use lib.ListN.{length};
 ghost use Rattle.records.specs.Sheet.{cellAt, cell};
 ghost use Rattle.statement.specs.Statement.{lineStart};
 ghost use Rattle.merit.specs.Ready.{Ready};
-ghost use Rattle.settle.specs.Work.{Offered, Lent, TierCleared, ClearedIn, Called, payAt, Payable, Paid};
+ghost use Rattle.settle.specs.Work.{Offered, Lent, TierCleared, ClearedIn, Called, widthOf, bidOf, Tradable, Traded, payAt, Payable, Paid};
 
 // What a tier comes to: the need that it leaves, and its clearing price.
 pub struct Cleared {
     pub left: Kwh,
     pub price: Li,
+}
+
+// What both tiers come to: the need beyond all bands, and a price for each.
+pub struct Market {
+    pub uncovered: Kwh,
+    pub price1: Li,
+    pub price2: Li,
 }
 
 // A tier's calls and its price, from its columns.
@@ -74,14 +83,7 @@ fn call_in(
 }
 
 // One tier's calls and price: `width` and `bid` are the fields in which the rows' offers stand.
-pub fn call(
-    need: Kwh,
-    first: usize,
-    n: usize,
-    width: Field,
-    bid: Field,
-    sheet: &mut [u8],
-) -> Cleared
+fn call(need: Kwh, first: usize, n: usize, width: Field, bid: Field, sheet: &mut [u8]) -> Cleared
     requires { ⌜ Offered n first width bid (now sheet) ⌝ }
     ensures { λ r. ⌜ Called (need .0) first n width bid (now (sheet .entry)) (now (sheet .exit)) r ⌝ }
 {
@@ -98,6 +100,49 @@ pub fn call(
         &mut called[..n],
         sheet,
     )
+}
+
+// The field in which a tier's widths stand, tier 1 being 0 here, and later its calls.
+fn width_of(tier: usize) -> Field
+    ensures { λ r. ⌜ r ≡ widthOf tier ⌝ }
+{
+    if tier == 0 {
+        return CALLED1;
+    }
+    CALLED2
+}
+
+// The field in which a tier's bids stand.
+fn bid_of(tier: usize) -> Field
+    ensures { λ r. ⌜ r ≡ bidOf tier ⌝ }
+{
+    if tier == 0 {
+        return CLOSING;
+    }
+    PAID
+}
+
+// Both tiers, the second with what the first leaves of the need. There is one call, so that its columns share the engine's frame.
+pub fn trade(need: Kwh, first: usize, n: usize, sheet: &mut [u8]) -> Market
+    requires { ⌜ Tradable (need .0) first n (now sheet) ⌝ }
+    ensures { λ r. ⌜ Traded (need .0) first n (now (sheet .entry)) (now (sheet .exit)) r ⌝ }
+{
+    let mut left = need;
+    let mut before = Li(0);
+    let mut price = Li(0);
+    let mut tier = 0;
+    while tier < 2 {
+        let cleared = call(left, first, n, width_of(tier), bid_of(tier), sheet);
+        left = cleared.left;
+        before = price;
+        price = cleared.price;
+        tier += 1;
+    }
+    Market {
+        uncovered: left,
+        price1: before,
+        price2: price,
+    }
 }
 
 // The energy that stands in a field of a line.

@@ -1,15 +1,11 @@
 // A settlement as a flat run of stages over the lent buffer, which is the work sheet: a line for each row, each stage one field of it.
 // The head comes last.
-use crate::market::call;
 use crate::market::compensate;
+use crate::market::trade;
 use crate::payers::collect;
 use crate::payers::cut;
 use crate::rows::read;
 use files::Verdict;
-use statement::CALLED1;
-use statement::CALLED2;
-use statement::CLOSING;
-use statement::PAID;
 use statement::StatementHead;
 use statement::put_statement_head;
 ghost use mathlib.Core.Path.{_≡_};
@@ -33,12 +29,10 @@ pub fn write_statement(interval: &[u8], correction: &[u8], n: usize, sheet: &mut
     let tariff = head.tariff;
     let need = head.need;
     read(interval, correction, n, tariff, sheet);
-    let tier1 = call(need, FIRST_TURN, n, CALLED1, CLOSING, sheet);
-    let left = tier1.left;
-    let price1 = tier1.price;
-    let tier2 = call(left, FIRST_TURN, n, CALLED2, PAID, sheet);
-    let price2 = tier2.price;
-    let uncovered = tier2.left;
+    let market = trade(need, FIRST_TURN, n, sheet);
+    let price1 = market.price1;
+    let price2 = market.price2;
+    let uncovered = market.uncovered;
     let total = compensate(n, price1, price2, sheet);
     let rest = collect(total, FIRST_TURN, n, sheet);
     let shortfall = levy::shortfall(rest);

@@ -4,7 +4,7 @@ use Prim.Native.Nat.{_+_, _≤_}
 use native.Mathlib.Omega.{arith}
 use borrow.Author.Needs.{needs}
 use Rattle.settle.proofs.Answered.{few-rows, head-there, stated-long}
-use Rattle.settle.proofs.Stated.{asked-1, asked-2, asked-pay, asked-levy, asked-cut, head-room, stated}
+use Rattle.settle.proofs.Stated.{asked-trade, asked-pay, asked-levy, asked-cut, head-room, stated}
 use Rattle.settle.proofs.stages.write_statement.Statement.{statement}
 use Rattle.settle.proofs.stages.write_statement.Tie as tie
 
@@ -14,14 +14,11 @@ before-shortfall c = c .before .before .before
 abbrev before-collect : tie.After-collect → tie.After-compensate
 before-collect c = c .before .before .before .before
 
-abbrev before-compensate : tie.After-compensate → tie.After-call2
-before-compensate c = c .before .before .before .before .before .before
+abbrev before-compensate : tie.After-compensate → tie.After-trade
+before-compensate c = c .before .before .before .before .before .before .before
 
-abbrev before-call2 : tie.After-call2 → tie.After-call
-before-call2 c = c .before .before .before .before .before .before
-
-abbrev before-call : tie.After-call → tie.After-read
-before-call c = c .before .before .before .before
+abbrev before-trade : tie.After-trade → tie.After-read
+before-trade c = c .before .before .before .before
 
 abbrev before-read : tie.After-read → tie.After-head-at
 before-read c = c .before .before .before .before
@@ -32,39 +29,29 @@ head-at-requires c κs = search head-there
 read-requires : tie.Need-read-requires
 read-requires c κs = search needs
 
-call-requires : tie.Need-call-requires
-call-requires c κs =
+trade-requires : tie.Need-trade-requires
+trade-requires c κs =
     let r = c .before .before .before in
     let h = before-read r in
     let p = h .before .before .before .before .pre in
-    asked-1 _ _ _ (p .0) _ (p .1) _ (h .head-at .ensures) _ (r .read .ensures)
-
-call-requires-2 : tie.Need-call-requires-2
-call-requires-2 c κs =
-    let a = c .before .before .before .before .before in
-    let r = before-call a in
-    let h = before-read r in
-    let p = h .before .before .before .before .pre in
-    asked-2 _ _ _ (p .0) _ (p .1) _ (h .head-at .ensures) _ (r .read .ensures) _ _ (a .call .ensures)
+    asked-trade _ _ _ (p .0) _ (p .1) _ (h .head-at .ensures) _ (r .read .ensures)
 
 compensate-requires : tie.Need-compensate-requires
 compensate-requires c κs =
-    let b = c .before .before .before .before .before in
-    let a = before-call2 b in
-    let r = before-call a in
+    let a = c .before .before .before .before .before .before in
+    let r = before-trade a in
     let h = before-read r in
     let p = h .before .before .before .before .pre in
-    asked-pay _ _ _ (p .0) _ (p .1) _ (h .head-at .ensures) _ (r .read .ensures) _ _ (a .call .ensures) _ _ (b .call2 .ensures)
+    asked-pay _ _ _ (p .0) _ (p .1) _ (h .head-at .ensures) _ (r .read .ensures) _ _ (a .trade .ensures)
 
 collect-requires : tie.Need-collect-requires
 collect-requires c κs =
     let e = c .before .before .before in
-    let b = before-compensate e in
-    let a = before-call2 b in
-    let r = before-call a in
+    let a = before-compensate e in
+    let r = before-trade a in
     let h = before-read r in
     let p = h .before .before .before .before .pre in
-    asked-levy _ _ _ (p .0) _ (p .1) _ (h .head-at .ensures) _ (r .read .ensures) _ _ (a .call .ensures) _ _ (b .call2 .ensures) _ _
+    asked-levy _ _ _ (p .0) _ (p .1) _ (h .head-at .ensures) _ (r .read .ensures) _ _ (a .trade .ensures) _ _
     (e .compensate .ensures)
 
 shortfall-requires : tie.Need-shortfall-requires
@@ -75,18 +62,17 @@ cut-requires c κs =
     let q = c .before in
     let g = before-shortfall q in
     let e = before-collect g in
-    let b = before-compensate e in
-    let a = before-call2 b in
-    let r = before-call a in
+    let a = before-compensate e in
+    let r = before-trade a in
     let h = before-read r in
     let p = h .before .before .before .before .pre in
-    asked-cut _ _ _ (p .0) _ (p .1) _ (h .head-at .ensures) _ (r .read .ensures) _ _ (a .call .ensures) _ _ (b .call2 .ensures) _ _
+    asked-cut _ _ _ (p .0) _ (p .1) _ (h .head-at .ensures) _ (r .read .ensures) _ _ (a .trade .ensures) _ _
     (e .compensate .ensures) _ _ (g .collect .ensures) _ (q .shortfall .ensures)
 
-cast-t33 : tie.Need-cast-t33
-cast-t33 c =
+cast-t27 : tie.Need-cast-t27
+cast-t27 c =
     let e = before-collect (before-shortfall (c .before .before .before .before)) in
-    let h = before-read (before-call (before-call2 (before-compensate e))) in
+    let h = before-read (before-trade (before-compensate e)) in
     record { fits = omega (arith, few-rows _ _ _ (h .before .before .before .before .pre .0)) }
 
 put-statement-head-requires : tie.Need-put-statement-head-requires
@@ -95,12 +81,11 @@ put-statement-head-requires c κs =
     let q = l .before .before in
     let g = before-shortfall q in
     let e = before-collect g in
-    let b = before-compensate e in
-    let a = before-call2 b in
-    let r = before-call a in
+    let a = before-compensate e in
+    let r = before-trade a in
     let h = before-read r in
     let p = h .before .before .before .before .pre in
-    head-room _ _ _ (p .0) _ (p .1) _ (h .head-at .ensures) _ (r .read .ensures) _ _ (a .call .ensures) _ _ (b .call2 .ensures) _ _
+    head-room _ _ _ (p .0) _ (p .1) _ (h .head-at .ensures) _ (r .read .ensures) _ _ (a .trade .ensures) _ _
     (e .compensate .ensures) _ _ (g .collect .ensures) _ (q .shortfall .ensures) _ (l .cut .ensures)
 
 returns : tie.Need-returns
@@ -110,18 +95,17 @@ returns c =
     let q = l .before .before in
     let g = before-shortfall q in
     let e = before-collect g in
-    let b = before-compensate e in
-    let a = before-call2 b in
-    let r = before-call a in
+    let a = before-compensate e in
+    let r = before-trade a in
     let h = before-read r in
     let p = h .before .before .before .before .pre in
-    stated _ _ _ (p .0) _ (p .1) _ (h .head-at .ensures) _ (r .read .ensures) _ _ (a .call .ensures) _ _ (b .call2 .ensures) _ _
+    stated _ _ _ (p .0) _ (p .1) _ (h .head-at .ensures) _ (r .read .ensures) _ _ (a .trade .ensures) _ _
     (e .compensate .ensures) _ _ (g .collect .ensures) _ (q .shortfall .ensures) _ (l .cut .ensures) _ (t .put-statement-head .ensures)
 
 same-length : tie.Need-same-length
 same-length c =
     let e = before-collect (before-shortfall (c .before .before .before .before .before .before .before .before)) in
-    let h = before-read (before-call (before-call2 (before-compensate e))) in
+    let h = before-read (before-trade (before-compensate e)) in
     let p = h .before .before .before .before .pre in
     stated-long _ _ _ (p .0) _ (p .1) _ (returns c)
 
@@ -131,13 +115,12 @@ write-statement-spec =
     (tie.spec
     head-at-requires
     read-requires
-    call-requires
-    call-requires-2
+    trade-requires
     compensate-requires
     collect-requires
     shortfall-requires
     cut-requires
-    cast-t33
+    cast-t27
     put-statement-head-requires
     same-length
     returns)
