@@ -38,7 +38,7 @@ sixty c = load c 60
 abbrev pub seventy : ℕ → ℕ
 seventy c = load c 70
 
--- Article 23: tier 1 runs from the baseline down to the larger of the minimum and 40 percent; a row that offers nothing has no band
+-- Article 25: tier 1 runs from the baseline down to the larger of the minimum and 40 percent; a row that offers nothing has no band
 unfoldable pub width1 : Terms → Row → ℕ
 width1 t r = cond (eqb (r .offered) 1) (baseline t (r .capacity) - max (r .minimum .0) (foot (r .capacity))) 0
 

@@ -1,4 +1,4 @@
-// The two bands of an offering row below its baseline (01, Calls and prices; Articles 23 to 25).
+// The two bands of an offering row below its baseline (01, Calls and prices; Articles 19 and 25).
 use crate::FOOT;
 use crate::baseline;
 use files::Row;

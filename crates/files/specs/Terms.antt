@@ -1,4 +1,4 @@
--- The terms of a trade (01, Calls and prices; Articles 23 to 25): the baseline in percent of full load and the limits of both tiers' bids.
+-- The terms of a trade (01, Calls and prices; Articles 19 and 25): the baseline in percent of full load and the limits of both tiers' bids.
 use Prim.Native.Nat.{ℕ, _≤_, _<_}
 use Rattle.units.specs.Load.{load}
 use mathlib.Core.List.{List}

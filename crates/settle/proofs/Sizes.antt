@@ -1,9 +1,7 @@
--- How large the figures of a statement get: first of any columns within sizes, then of an accepted pair of files.
+-- How large the figures of a statement get, of any columns within sizes; proofs/Accepted.antt has it of an accepted pair of files.
+--   pay-length, pay-small, total-rich     the column of compensations, its numbers, its sum
 --   figures-long         a number in every column for each row
 --   figures-sized        every figure by its bound (record Sized)
---   head-fits, line-fits     so the statement's head and lines fit their fields
---   duties-level, duties-within     the columns of an accepted pair are within sizes
---   accepted-sized, accepted-head-fits, accepted-line-fits     the same of an accepted pair of files
 use Prim.Native.Nat.{ℕ, zero, suc, _+_, _*_, _^_, _≤_, _<_}
 use mathlib.Core.Path.{_≡_, refl, sym, ap, _∙_}
 use mathlib.Core.List.{List}

@@ -1,6 +1,6 @@
 -- The stages put together: from lines of duties to lines of figures. Each stage is given by what it leaves in the sheet (specs/Work.antt);
 -- the sheet is n lines throughout, and every stage changes one field of each.
---   duty-lines          the lines that the first stage puts, from the columns of duties
+--   read, written, ruled     a field of the lines read as a column, a column put into a field, and that its cells are there
 --   called1-asked, called1-lines    tier 1: what it asks, and the lines that it leaves; so for the other stages
 --   figure-lines        after the last stage the lines are those of the figures
 use Prim.Native.Nat.{ℕ, zero, suc, _+_, _-_, _*_, _^_, _≤_, _<_}
