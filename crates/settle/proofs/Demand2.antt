@@ -70,8 +70,10 @@ module _ (s k out : List ℕ) (h : numberOf (answerOf s k (length out)) ≡ 0) w
     pub statement-read-line : (j i : ℕ) → j < 9 → i < rowCount s
         → cell (fieldOf headSize lineWidths j) (bufferAfter s k out) i ≡ at (lineOf (countingRow s k i .id) (figuresOf s k) i) j
     statement-read-line j i known l =
+        let space = settled-room s k (length out) h in
+        let long = put-length out 0 (statementHeadBytes head) (omega (arith, head-length head, space)) in
         rw laid
-        (sheet-cell-of headSize letterL lineWidths (put out 0 (statementHeadBytes head)) n lines j (λ i. refl) known (omega (arith, put-length out 0 (statementHeadBytes head) (omega (arith, head-length head, settled-room s k (length out) h)), settled-room s k (length out) h)) i l
+        (sheet-cell-of headSize letterL lineWidths (put out 0 (statementHeadBytes head)) n lines j (λ i. refl) known (omega (arith, long, space)) i l
         (accepted-line-fits s k n accepted bytes j i))
 
     column : (j : ℕ) (xs : List ℕ) → j < 9 → length xs ≡ n → ((i : ℕ) → at (lines i) j ≡ at xs i)
