@@ -1,7 +1,52 @@
--- Two results that the contract of `duty_of` allows are equal: a theorem of the contract itself (`Learnt`).
-use mathlib.Core.Path.{_≡_, sym, _∙_}
+-- Two results that one contract allows are equal, for each public function: theorems of the contract itself (`Learnt`).
+use Prim.Native.Nat.{ℕ}
+use mathlib.Core.Path.{_≡_, ap, sym, _∙_}
 use Rattle.columns.proofs.Unique.{One-result}
 use Rattle.duties.proofs.duty_of.Reads as duty-of
+use Rattle.duties.proofs.weighing.pays.Reads as pays
+use Rattle.duties.proofs.bands.width1.Reads as width1
+use Rattle.duties.proofs.bands.width2.Reads as width2
+use Rattle.duties.proofs.delivery.energy_in1.Reads as energy-in1
+use Rattle.duties.proofs.delivery.energy_in2.Reads as energy-in2
+use Rattle.duties.proofs.delivery.energy1.Reads as energy1
+use Rattle.duties.proofs.delivery.energy2.Reads as energy2
+use Rattle.duties.proofs.baseline.Reads as baseline
+use Rattle.duties.proofs.weighing.thermal_weight.Reads as thermal-weight
+use Rattle.duties.proofs.weighing.weight.Reads as weight
+use Rattle.duties.proofs.weighing.cap.Reads as cap
 
 pub duty-of-unique : One-result duty-of.Learnt
 duty-of-unique κs a x y e f p q = p ∙ sym q
+
+pub pays-unique : One-result pays.Learnt
+pays-unique κs a x y e f p q = p ∙ sym q
+
+pub width1-unique : One-result width1.Learnt
+width1-unique κs a x y e f p q = ap (λ (m : ℕ). record { 0 = m }) (p ∙ sym q)
+
+pub width2-unique : One-result width2.Learnt
+width2-unique κs a x y e f p q = ap (λ (m : ℕ). record { 0 = m }) (p ∙ sym q)
+
+pub energy-in1-unique : One-result energy-in1.Learnt
+energy-in1-unique κs a x y e f p q = ap (λ (m : ℕ). record { 0 = m }) (p ∙ sym q)
+
+pub energy-in2-unique : One-result energy-in2.Learnt
+energy-in2-unique κs a x y e f p q = ap (λ (m : ℕ). record { 0 = m }) (p ∙ sym q)
+
+pub energy1-unique : One-result energy1.Learnt
+energy1-unique κs a x y e f p q = ap (λ (m : ℕ). record { 0 = m }) (p ∙ sym q)
+
+pub energy2-unique : One-result energy2.Learnt
+energy2-unique κs a x y e f p q = ap (λ (m : ℕ). record { 0 = m }) (p ∙ sym q)
+
+pub baseline-unique : One-result baseline.Learnt
+baseline-unique κs a x y e f p q = ap (λ (m : ℕ). record { 0 = m }) (p ∙ sym q)
+
+pub thermal-weight-unique : One-result thermal-weight.Learnt
+thermal-weight-unique κs a x y e f p q = ap (λ (m : ℕ). record { 0 = m }) (p ∙ sym q)
+
+pub weight-unique : One-result weight.Learnt
+weight-unique κs a x y e f p q = ap (λ (m : ℕ). record { 0 = m }) (p ∙ sym q)
+
+pub cap-unique : One-result cap.Learnt
+cap-unique κs a x y e f p q = ap (λ (m : ℕ). record { 0 = m }) (p ∙ sym q)

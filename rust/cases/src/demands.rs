@@ -74,10 +74,12 @@ fn books(lines: &[Line]) -> Result<(), String> {
     demand(sum(lines, |line| line.paid) == kept, "what payers pay equals what receivers keep")
 }
 
-/// Rounds are those in which a payer reached its cap, and no more than the payers of weight above 0.
+/// Rounds are those in which a payer reached its cap: no more than the payers of weight above 0, nor than the capped ones.
 fn numbering(lines: &[Line], rounds: u128) -> Result<(), String> {
     let payers = lines.iter().filter(|line| line.weight > 0).count() as u128;
+    let capped = lines.iter().filter(|line| line.closing > 0).count() as u128;
     demand(rounds <= payers, "rounds are at most the payers of weight above 0")?;
+    demand(rounds <= capped, "rounds are at most the capped payers")?;
     demand(lines.iter().all(|line| line.closing <= rounds), "nobody closes after the last round")?;
     demand(lines.iter().all(|line| line.weight > 0 || line.closing == 0), "only payers of weight above 0 close")?;
     let somebody = (1..=rounds).all(|round| lines.iter().any(|line| line.closing == round));
