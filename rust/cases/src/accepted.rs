@@ -22,6 +22,8 @@ pub enum Shape {
     HalfLoad,
     /// Minimums at or above 40 percent, many at 50: bands without width.
     NoWidth,
+    /// Offers only, most of them called and delivered in part or not at all, of any status: few rows set a price.
+    Undelivered,
     NeedNothing,
     NeedBeyond,
     LowestTariff,
@@ -34,7 +36,7 @@ pub enum Shape {
     Full,
 }
 
-pub const SHAPES: [Shape; 17] = [
+pub const SHAPES: [Shape; 18] = [
     Shape::Mixed,
     Shape::Edges,
     Shape::TiedBids,
@@ -43,6 +45,7 @@ pub const SHAPES: [Shape; 17] = [
     Shape::ManyRounds,
     Shape::HalfLoad,
     Shape::NoWidth,
+    Shape::Undelivered,
     Shape::NeedNothing,
     Shape::NeedBeyond,
     Shape::LowestTariff,
@@ -155,10 +158,11 @@ fn row(random: &mut Random, shape: Shape) -> Row {
     };
     let kind = match shape {
         Shape::TiedBids | Shape::NoWidth | Shape::NobodyPays => THERMAL,
+        Shape::Undelivered if !random.once_in(8) => THERMAL,
         _ => random.one_of(&[THERMAL, THERMAL, THERMAL, WIND, SOLAR]),
     };
     let receives = match shape {
-        Shape::NobodyPays => true,
+        Shape::NobodyPays | Shape::Undelivered => true,
         Shape::TiedBids | Shape::NoWidth => !random.once_in(4),
         _ => random.once_in(2),
     };
@@ -167,11 +171,15 @@ fn row(random: &mut Random, shape: Shape) -> Row {
         Shape::HalfLoad if kind == THERMAL && !receives => 125 * u32::from(capacity),
         Shape::TiedRemainders if !receives => 60_000,
         Shape::NobodyPays if random.once_in(2) => 0,
+        Shape::Undelivered => {
+            let load = random.one_of(&[100, 125, 125, 125, 200]);
+            (load * u32::from(capacity) + random.within(0..=2)).saturating_sub(1)
+        }
         _ => metered(random, capacity, receives),
     };
     let status = match (kind, shape) {
         (_, Shape::AllCapped | Shape::TiedRemainders) => 0,
-        (THERMAL, Shape::Edges) => random.within(0..=3) as u8,
+        (THERMAL, Shape::Edges | Shape::Undelivered) => random.within(0..=3) as u8,
         (THERMAL, _) if random.once_in(6) => random.within(1..=3) as u8,
         (THERMAL, _) => 0,
         _ => random.one_of(&[0, 0, 0, 3]),
@@ -203,6 +211,7 @@ fn offer(random: &mut Random, shape: Shape, row: Row) -> Row {
     let bids = match shape {
         Shape::Edges => [random.one_of(&[100, 101, 319, 320]), random.one_of(&[320, 321, 749, 750])],
         Shape::TiedBids => [random.one_of(&[200, 200, 320]), random.one_of(&[320, 320, 500])],
+        Shape::Undelivered if random.once_in(2) => [200, 400],
         Shape::TiedRemainders => [150, 400],
         _ => [random.within(100..=320) as u16, random.within(320..=750) as u16],
     };

@@ -3,6 +3,7 @@
 use crate::file::{LINE, STATEMENT_HEAD};
 
 struct Line {
+    called: [u128; 2],
     compensation: u128,
     cut: u128,
     weight: u128,
@@ -17,6 +18,7 @@ fn number(bytes: &[u8]) -> u128 {
 
 fn line(bytes: &[u8]) -> Line {
     Line {
+        called: [number(&bytes[4..8]), number(&bytes[8..12])],
         compensation: number(&bytes[12..16]),
         cut: number(&bytes[16..20]),
         weight: number(&bytes[20..24]),
@@ -43,6 +45,7 @@ pub fn check(statement: &[u8]) -> Result<(), String> {
     demand(rising, "ids rise")?;
     let lines: Vec<Line> = body.chunks_exact(LINE).map(line).collect();
     demand(total == sum(&lines, |line| line.compensation), "the total is the sum of the compensations")?;
+    prices(&lines, [number(&head[7..9]), number(&head[9..11])])?;
     books(&lines)?;
     numbering(&lines, rounds)?;
     let (closed, open): (Vec<&Line>, Vec<&Line>) =
@@ -62,6 +65,14 @@ pub fn check(statement: &[u8]) -> Result<(), String> {
 
 fn sum(lines: &[Line], field: impl Fn(&Line) -> u128) -> u128 {
     lines.iter().map(field).sum()
+}
+
+/// Who delivered sets the price and is paid by it: a kWh at the lowest bid, 100 li, already comes to 10 fen.
+fn prices(lines: &[Line], prices: [u128; 2]) -> Result<(), String> {
+    let priced = |line: &Line| (0..2).any(|tier| line.called[tier] > 0 && prices[tier] > 0);
+    demand(lines.iter().all(|line| line.compensation == 0 || priced(line)), "nobody is paid where there is no price")?;
+    let paid = |tier: usize| lines.iter().any(|line| line.called[tier] > 0 && line.compensation > 0);
+    demand((0..2).all(|tier| prices[tier] == 0 || paid(tier)), "a tier has a price only if a row called there is paid")
 }
 
 /// What holds of payments and cuts whoever is capped.

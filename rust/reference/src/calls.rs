@@ -1,6 +1,7 @@
 //! Merit order: which bands are called, for how much, and each tier's clearing price.
 
 use crate::files::Row;
+use crate::money::paid_energy;
 use crate::share::share;
 
 #[derive(Clone, Debug, PartialEq, Eq)]
@@ -38,7 +39,6 @@ impl Band {
 /// Calls the bands of all offering rows by rising bid, tier 1 before tier 2, until the need is met.
 pub fn call(rows: &[Row], need: u32) -> Calls {
     let mut called = vec![[0; 2]; rows.len()];
-    let mut prices = [0; 2];
     let mut uncovered = need;
     let mut bands = bands(rows);
     bands.sort_unstable_by_key(Band::order);
@@ -59,10 +59,22 @@ pub fn call(rows: &[Row], need: u32) -> Calls {
             }
             uncovered = 0;
         }
-        // Every group is called for more than 0 in some band, and bids rise from group to group.
-        prices[usize::from(group[0].tier)] = group[0].bid;
     }
+    let prices = prices(rows, &called);
     Calls { called, prices, uncovered }
+}
+
+/// The last unit that delivered sets a tier's price: of the rows of status 0 called there, those with paid energy there
+/// count, and the highest of their bids is the price. Nobody delivered: 0 (document 02, request 1).
+fn prices(rows: &[Row], called: &[[u32; 2]]) -> [u16; 2] {
+    let mut prices = [0; 2];
+    for (row, called) in rows.iter().zip(called).filter(|(row, _)| row.status == 0) {
+        let delivered = paid_energy(row);
+        for tier in (0..2).filter(|&tier| called[tier] > 0 && delivered[tier] > 0) {
+            prices[tier] = row.bids[tier].max(prices[tier]);
+        }
+    }
+    prices
 }
 
 /// All bands that are not empty.

@@ -1,4 +1,5 @@
-//! The settlement of one quarter hour, written from document 01 alone, without a look at the definitions or the engine.
+//! The settlement of one quarter hour, written from document 01 and the requests of document 02
+//! that have landed, without a look at the definitions or the engine.
 //!
 //! It is what both are compared with: byte for byte in the differential tests, and in speed in the benchmark.
 //! Products stay in `u64`: with every field in its range the largest, a cut's `shortfall × compensation`, is below 2^57.

@@ -1,4 +1,4 @@
-//! The figures of document 01: P1 to P11 and those that are only run.
+//! The figures of document 01, P1 to P11 and those that are only run, and those worked out for the requests of document 02.
 
 use reference::{Calls, Interval, Row, call, fen, paid_energy, settle, share, tell, thermal_cap, thermal_weight};
 
@@ -145,4 +145,89 @@ fn a_refusal_leaves_the_buffer() {
     let mut statement = [7; 136];
     assert_eq!(settle(&bytes(&x(1300)), &[], &mut statement), Err((11, 0)));
     assert_eq!(statement, [7; 136]);
+}
+
+/// Interval X at tariff 1300 with row 1 at another meter reading.
+fn x_metered(metered: u32) -> Interval {
+    let mut interval = x(1300);
+    interval.rows[0].metered = metered;
+    interval
+}
+
+/// Row 1 of interval X and a dearer offer beside it, both called in full, and X's wind farm.
+fn x_beside(dearer: Row) -> Interval {
+    let rows = x(1300).rows;
+    Interval { need: 9_000, rows: vec![rows[0], dearer, rows[2]], ..x(1300) }
+}
+
+fn dearer(metered: u32) -> Row {
+    offering(2, metered, 8_000, [300, 500])
+}
+
+#[test]
+fn request_1_called_and_delivered_nothing() {
+    // Half load exactly: row 1 is called as before, but it delivers nothing and pays with a weight of 0.
+    let text = "0 0 0 0 0 0 0 0 3\n\
+                1 2500 500 0 0 0 40625 0 0\n\
+                2 0 0 0 0 15000 65000 0 0\n\
+                3 0 0 0 0 5000 32500 0 0\n";
+    assert_eq!(tell(&bytes(&x_metered(12_500))), text);
+}
+
+#[test]
+fn request_1_one_kwh_sets_the_price() {
+    // 1 kWh at 200 li are 20 fen, of which rows 2 and 3 pay three parts and one.
+    let text = "0 0 200 0 20 0 0 0 3\n\
+                1 2500 500 20 0 0 0 0 0\n\
+                2 0 0 0 0 15000 65000 15 0\n\
+                3 0 0 0 0 5000 32500 5 0\n";
+    assert_eq!(tell(&bytes(&x_metered(12_499))), text);
+}
+
+#[test]
+fn request_1_called_in_tier_2_delivered_in_tier_1() {
+    // 12,500 less 11,000 is 1,500 kWh at 200 li: 30,000 fen.
+    let text = "0 0 200 0 30000 0 0 0 3\n\
+                1 2500 500 30000 0 0 0 0 0\n\
+                2 0 0 0 0 15000 65000 22500 0\n\
+                3 0 0 0 0 5000 32500 7500 0\n";
+    assert_eq!(tell(&bytes(&x_metered(11_000))), text);
+    // 40 percent exactly delivers all of tier 1 and nothing of tier 2; a kWh less delivers there too.
+    assert_eq!(told(&x_metered(10_000))[0][2..5], [200, 0, 50_000]);
+    assert_eq!(told(&x_metered(9_999))[0][2..5], [200, 400, 50_040]);
+}
+
+#[test]
+fn request_1_the_dearer_row_stayed_above_half_load() {
+    // Row 2 is called in full at 300 and 500 li, but ran at 80 percent: prices stay those of row 1, and so does the rest.
+    let text = "0 0 200 400 90000 0 1 0 3\n\
+                1 2500 2000 90000 0 0 0 0 0\n\
+                2 2500 2000 0 0 15000 65000 65000 1\n\
+                3 0 0 0 0 5000 32500 25000 0\n";
+    assert_eq!(tell(&bytes(&x_beside(dearer(20_000)))), text);
+    // Had it delivered as row 1 did, it would have set both: 2,500 x 300 + 1,000 x 500 li for each of the two rows.
+    assert_eq!(told(&x_beside(dearer(9_000)))[0][2..5], [300, 500, 250_000]);
+}
+
+#[test]
+fn request_1_a_dearer_row_of_another_status() {
+    // Row 2 delivered as row 1 did, but is starting, reduced or in a grid accident: not paid, and it sets no price.
+    let text = "0 0 200 400 90000 57500 1 0 3\n\
+                1 2500 2000 90000 57500 0 0 0 0\n\
+                2 2500 2000 0 0 0 0 0 0\n\
+                3 0 0 0 0 5000 32500 32500 1\n";
+    for status in [1, 2, 3] {
+        assert_eq!(tell(&bytes(&x_beside(Row { status, ..dearer(9_000) }))), text, "status {status}");
+    }
+}
+
+#[test]
+fn request_1_called_for_nothing_sets_no_price() {
+    // A need of 1 kWh at one bid goes to the wider band. Its row delivered nothing; the row that did was called for 0.
+    let idle = Row { capacity: 200, minimum: 20_000, ..offering(2, 25_000, 0, [200, 320]) };
+    let calls = call(&[offering(1, 9_000, 10_000, [200, 320]), idle], 1);
+    assert_eq!(calls, Calls { called: vec![[0, 0], [1, 0]], prices: [0, 0], uncovered: 0 });
+    // At the same bid one row of those called that delivered is enough.
+    let calls = call(&[offering(1, 9_000, 10_000, [200, 320]), idle], 100);
+    assert_eq!(calls, Calls { called: vec![[33, 0], [67, 0]], prices: [200, 0], uncovered: 0 });
 }

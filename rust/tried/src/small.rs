@@ -5,8 +5,18 @@ use cases::file::{Correction, Interval, Row};
 
 /// The cases of every group, each under a name of its own.
 pub fn cases() -> Vec<Case> {
-    [figures(), calls(), pay(), rounds(), corrections(), interval_faults(), correction_faults(), several_faults()]
-        .concat()
+    [
+        figures(),
+        calls(),
+        prices(),
+        pay(),
+        rounds(),
+        corrections(),
+        interval_faults(),
+        correction_faults(),
+        several_faults(),
+    ]
+    .concat()
 }
 
 /// A case with a buffer of exactly the needed length.
@@ -95,6 +105,33 @@ fn calls() -> Vec<Case> {
     ];
     for need in [0, 1, 4_999, 5_000, 5_001, 7_999, 8_000, 8_001, 64_000_000] {
         cases.push(case(format!("tiers tied at 320, need {need}"), &offers(need, at_320())));
+    }
+    cases
+}
+
+/// Who sets a price: row 1 of interval X delivers in both tiers unless changed, and a dearer row beside it is called in full too.
+fn prices() -> Vec<Case> {
+    let beside = |dearer: Row| x_with(|x| (x.need, x.rows[1]) = (9_000, dearer));
+    let dearer = |metered| Row::thermal(2, 100, metered).offering(8_000, 300, 500);
+    let tied = |need| {
+        x_with(|x| {
+            x.need = need;
+            x.rows[0] = Row::thermal(1, 100, 9_000).offering(10_000, 200, 320);
+            x.rows[1] = Row::thermal(2, 200, 25_000).offering(20_000, 200, 320);
+        })
+    };
+    let mut cases = vec![
+        case("called in tier 2, delivered in tier 1", &x_with(|x| x.rows[0].metered = 11_000)),
+        case("nobody of those called delivered", &x_with(|x| x.rows[0].metered = 27_500)),
+        case("the only row that delivered is called for nothing", &tied(1)),
+        case("one of two at a bid delivered", &tied(100)),
+    ];
+    for metered in [0, 9_999, 10_000, 12_499, 12_500, 20_000] {
+        cases.push(case(format!("the dearer row metered {metered}"), &beside(dearer(metered))));
+    }
+    for status in [1, 2, 3] {
+        cases.push(case(format!("the dearer row of status {status}"), &beside(dearer(9_000).with_status(status))));
+        cases.push(case(format!("row 1 of status {status}"), &x_with(|x| x.rows[0].status = status)));
     }
     cases
 }
