@@ -96,7 +96,7 @@ static inline uint8_t wheatrudder_statement_quarter(const uint8_t *statement)
 {
     return wheatrudder_u8(statement + WHEATRUDDER_HEAD_QUARTER);
 }
-/* The clearing prices of the two tiers, 0 where a tier was not called. */
+/* The clearing prices of the two tiers, 0 where nobody who was called in the tier delivered. */
 static inline uint16_t wheatrudder_statement_price1(const uint8_t *statement)
 {
     return wheatrudder_u16(statement + WHEATRUDDER_HEAD_PRICE1);

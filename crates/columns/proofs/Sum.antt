@@ -13,14 +13,16 @@
 --     bit-le        a test counts for at most 1
 --     count-next, count-same, count-le, count-none, count-all, count-sub, count-some, count-zero     the same of counts
 --     max-next, max-term, max-bound, max-reached      the same of maxima
+--     max-where-next, max-where-term, max-where-bound, max-where-reached      the same over the positions that pass a test
+--     max-where-fewer      where fewer positions pass, the largest value is no larger
 use Prim.Native.Nat.{ℕ, zero, suc, _+_, _*_, _≤_, _<_, max, zero-le, suc-le-suc}
 use mathlib.Core.Path.{_≡_, refl, ap, sym, _∙_}
 use mathlib.Core.Logic.{_⊎_, inl, inr, ⊎-elim}
-use mathlib.Core.Bool.{Bool, true, false}
+use mathlib.Core.Bool.{Bool, true, false, cond}
 use native.Mathlib.Nat.{le-refl, mul-add, le-max-left, le-max-right, max-le, max-eq-left, max-eq-right}
 use native.Mathlib.Numerals.{add-one}
 use native.Mathlib.Omega.{arith}
-use Rattle.columns.specs.Sum.{bit, sumTo, countTo, maxTo}
+use Rattle.columns.specs.Sum.{bit, sumTo, countTo, maxTo, maxWhere}
 use Rattle.columns.specs.Table.{Below}
 
 pub lt-or-le : (a b : ℕ) → (a < b) ⊎ (b ≤ a)
@@ -154,3 +156,39 @@ max-reached (suc n) f =
     (λ (q : f n ≤ maxTo n f). ⊎-elim
     (λ (w : (k : ℕ) × (k < n) × (f k ≡ maxTo n f)). inl (w .0, omega arith, w .2 ∙ sym (max-eq-left q)))
     (λ (e : maxTo n f ≡ 0). inr (max-eq-left q ∙ e)) (max-reached n f)) (lt-or-le (maxTo n f) (f n))
+
+module _ (n : ℕ) (p : ℕ → Bool) (f : ℕ → ℕ) where
+  -- the value of a position that passes, 0 of one that does not
+  abbrev passing : ℕ → ℕ
+  passing k = cond (p k) (f k) 0
+
+  passed : (k : ℕ) (t : Bool) → p k ≡ t → ((p k ≡ true) × (passing k ≡ f k)) ⊎ (passing k ≡ 0)
+  passed k true e = inl (e, rw e refl)
+  passed k false e = inr (rw e refl)
+
+  pub max-where-next : maxWhere (n + 1) p f ≡ max (maxWhere n p f) (cond (p n) (f n) 0)
+  unfolding maxWhere
+  max-where-next = max-next n passing
+
+  pub max-where-term : (k : ℕ) → k < n → p k ≡ true → f k ≤ maxWhere n p f
+  unfolding maxWhere
+  max-where-term k l e = let here : passing k ≡ f k = rw e refl in omega (arith, max-term n passing k l)
+
+  pub max-where-bound : (b : ℕ) → Below n (λ k. p k ≡ true → f k ≤ b) → maxWhere n p f ≤ b
+  unfolding maxWhere
+  max-where-bound b h =
+      max-bound n b passing
+      (λ k l. ⊎-elim (λ (y : (p k ≡ true) × (passing k ≡ f k)). omega (arith, y .1, h k l (y .0)))
+      (λ (z : passing k ≡ 0). omega (arith, z)) (passed k (p k) refl))
+
+  pub max-where-reached : ((k : ℕ) × (k < n) × (p k ≡ true) × (f k ≡ maxWhere n p f)) ⊎ (maxWhere n p f ≡ 0)
+  unfolding maxWhere
+  max-where-reached =
+      ⊎-elim
+      (λ (w : (k : ℕ) × (k < n) × (passing k ≡ maxTo n passing)).
+      ⊎-elim (λ (y : (p (w .0) ≡ true) × (passing (w .0) ≡ f (w .0))). inl (w .0, w .1, y .0, sym (y .1) ∙ w .2))
+      (λ (z : passing (w .0) ≡ 0). inr (sym (w .2) ∙ z)) (passed (w .0) (p (w .0)) refl))
+      (λ (e : maxTo n passing ≡ 0). inr e) (max-reached n passing)
+
+pub max-where-fewer : (n : ℕ) (p q : ℕ → Bool) (f : ℕ → ℕ) → Below n (λ k. p k ≡ true → q k ≡ true) → maxWhere n p f ≤ maxWhere n q f
+max-where-fewer n p q f h = max-where-bound n p f (maxWhere n q f) (λ k l e. max-where-term n q f k l (h k l e))

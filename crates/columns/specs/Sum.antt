@@ -33,6 +33,10 @@ unfoldable pub maxTo : ℕ → (ℕ → ℕ) → ℕ
 maxTo zero f = 0
 maxTo (suc n) f = max (maxTo n f) (f n)
 
+-- the largest value of f over the positions below n that pass the test, and 0 if none does
+unfoldable pub maxWhere : ℕ → (ℕ → Bool) → (ℕ → ℕ) → ℕ
+maxWhere n p f = maxTo n (λ k. cond (p k) (f k) 0)
+
 -- the first position below n that passes the test, and n if none does
 unfoldable pub findTo : ℕ → (ℕ → Bool) → ℕ
 findTo zero p = 0

@@ -2,6 +2,9 @@
 --   of one row under terms:
 --     baseline-most, baseline-least            where the baseline lies
 --     width1-most, width2-most, energies-most, weight-most, cap-most     how large its figures get
+--     width1-offers, width2-offers             a row with a band offers
+--     energy1-paid, energy2-paid               a row with paid energy is thermal, of status 0, and delivered by its meter
+--     paid-energy1, paid-energy2               a thermal row of status 0 is paid for what its meter shows
 --     bids2-above                              the bid of a row with a band in tier 2 is at least that tier's lowest
 --     not-payer                                a row that does not pay has weight 0 and cap 0
 --     at-baseline                              a row at its baseline or above delivered nothing
@@ -17,16 +20,16 @@ use mathlib.Core.Bool.{Bool, true, false, cond}
 use native.Mathlib.Nat.{mul-le-mul, le-refl}
 use native.Mathlib.Omega.{arith}
 use lib.Dec.{eqb}
-use lib.ListN.{length}
-use borrow.Author.Tests.{eqb-true}
+use borrow.Author.Tests.{eqb-true, eq-eqb}
 use Rattle.columns.specs.Table.{at, table, Below}
+use Rattle.columns.proofs.First.{left-true, right-true}
 use Rattle.columns.proofs.Sum.{lt-or-le}
 use Rattle.columns.proofs.Table.{table-length, table-at, table-past, table-most}
 use Rattle.files.specs.declared.Row.{Row}
 use Rattle.files.specs.declared.Terms.{Terms}
 use Rattle.files.specs.Terms.{baseline, Sound}
 use Rattle.files.proofs.Ranges.{RowRanges}
-use Rattle.duties.specs.Duty.{width1, width2, receives, energy1, energy2, payer, weight, cap}
+use Rattle.duties.specs.Duty.{thermal, normal, width1, width2, delivered1, delivered2, receives, energy1, energy2, payer, weight, cap}
 use Rattle.duties.specs.Duties.{Duties, Level, dutiesOf}
 use Rattle.duties.specs.Ranged.{Ranged}
 
@@ -46,6 +49,44 @@ either false x y m h k = k
 chosen : (b : Bool) (x : ℕ) → 0 < cond b x 0 → b ≡ true
 chosen true x p = refl
 chosen false x p = absurd (omega arith)
+
+pub width1-offers : (t : Terms) (r : Row) → 0 < width1 t r → r .offered ≡ 1
+unfolding width1
+width1-offers t r p = eqb-true (r .offered) 1 (chosen (eqb (r .offered) 1) _ p)
+
+pub width2-offers : (t : Terms) (r : Row) → 0 < width2 t r → r .offered ≡ 1
+unfolding width2
+width2-offers t r p = eqb-true (r .offered) 1 (chosen (eqb (r .offered) 1) _ p)
+
+-- who is paid for some energy: a thermal row of status 0
+paid-for : (r : Row) (x : ℕ) → 0 < cond (receives r) x 0 → (r .kind ≡ thermal) × (r .status ≡ normal) × (0 < x)
+paid-for r x p =
+    let yes = chosen (receives r) x p in
+    let there : cond (receives r) x 0 ≡ x = rw yes refl in (
+      eqb-true (r .kind) thermal (left-true (eqb (r .kind) thermal) (eqb (r .status) normal) yes),
+      eqb-true (r .status) normal (right-true (eqb (r .kind) thermal) (eqb (r .status) normal) yes),
+      omega (arith, p, there),
+    )
+
+for-paid : (r : Row) (x : ℕ) → r .kind ≡ thermal → r .status ≡ normal → cond (receives r) x 0 ≡ x
+for-paid r x k z = rw (eq-eqb (r .kind) thermal k, eq-eqb (r .status) normal z) refl
+
+module _ (t : Terms) (r : Row) where
+  pub energy1-paid : 0 < energy1 t r → (r .kind ≡ thermal) × (r .status ≡ normal) × (0 < delivered1 t r)
+  unfolding energy1
+  energy1-paid p = paid-for r (delivered1 t r) p
+
+  pub energy2-paid : 0 < energy2 t r → (r .kind ≡ thermal) × (r .status ≡ normal) × (0 < delivered2 t r)
+  unfolding energy2
+  energy2-paid p = paid-for r (delivered2 t r) p
+
+  pub paid-energy1 : r .kind ≡ thermal → r .status ≡ normal → energy1 t r ≡ delivered1 t r
+  unfolding energy1
+  paid-energy1 k z = for-paid r (delivered1 t r) k z
+
+  pub paid-energy2 : r .kind ≡ thermal → r .status ≡ normal → energy2 t r ≡ delivered2 t r
+  unfolding energy2
+  paid-energy2 k z = for-paid r (delivered2 t r) k z
 
 pub in-range : (t : Terms) (r : Row) → RowRanges t r → Ranged r
 in-range t r h = record { metered = omega (arith, h .capacity-high, h .metered) }
@@ -97,8 +138,7 @@ module _ (t : Terms) (sound : Sound t) (r : Row) (h : RowRanges t r) where
 
   -- who has a band in tier 2 bids within its limits
   pub bids2-above : 0 < width2 t r → t .lowest2 .0 ≤ r .bid2 .0
-  unfolding width2
-  bids2-above p = h .offers (eqb-true (r .offered) 1 (chosen (eqb (r .offered) 1) _ p)) .bid2-low
+  bids2-above p = h .offers (width2-offers t r p) .bid2-low
 
 -- how large the columns' numbers get
 pub record Sized (d : Duties) : Type 0 where

@@ -12,32 +12,36 @@
 --     tier-first           at one bid tier 1 is earlier than tier 2
 --     called-group         the bands of one order are together called for what is due
 --     calls-sum            all calls of both tiers, and the uncovered need, add up to the need
---     price-none           the price is 0 if nobody is called
---     price-least          the price is at least the bid of each row called for more than 0
---     price-reached        it is the bid of some such row, or it is 0
---     price-le             it is at most B if all bids are
+--     price-reached        the price is the bid of a row that delivered, or it is 0
+--     price-least          no row that delivered bid above it
+--     price-zero, price-bids-zero      it is 0 exactly if every row that delivered bid 0 ..
+--     price-none           .. and so if nobody delivered
+--     price-le             it is at most B if the bids of all that delivered are
+--     price-le-called      it is at most what 01's rule gives for the same calls ..
+--     price-all-deliver    .. and the same if all that are called deliver
 --     price-unique, call-tier-unique      two results that one contract allows are equal
-use Prim.Native.Nat.{ℕ, zero, suc, _+_, _-_, _≤_, _<_, min, zero-le}
+use Prim.Native.Nat.{ℕ, zero, suc, _+_, _-_, _≤_, _<_, min}
 use mathlib.Core.Path.{_≡_, ap, sym, _∙_}
 use mathlib.Core.Logic.{_⊎_, inl, inr, ⊎-elim}
-use mathlib.Core.Bool.{cond}
+use mathlib.Core.Bool.{Bool, true, cond}
 use mathlib.Core.List.{List}
 use native.Mathlib.Omega.{arith}
 use lib.Dec.{ltb, eqb}
 use lib.ListN.{length}
-use borrow.Author.Tests.{lt-ltb, le-ltb}
+use borrow.Author.Tests.{lt-ltb, ltb-true}
 use Rattle.columns.specs.Sum.{sumTo, whole}
 use Rattle.columns.specs.Table.{at, Below}
-use Rattle.columns.proofs.Sum.{lt-or-le, term-le, max-term, max-bound, max-reached}
+use Rattle.columns.proofs.Sum.{lt-or-le, term-le, max-where-term, max-where-bound, max-where-reached, max-where-fewer}
+use Rattle.columns.proofs.First.{left-true, right-true}
 use Rattle.columns.proofs.Table.{table-length, table-at, table-past}
 use Rattle.columns.proofs.Whole.{whole-table}
 use Rattle.columns.proofs.Unique.{Leaves-one, One-result}
 use Rattle.merit.specs.Band.{Tier, one, two, Bands, widths, bids, rows, orderAt}
 use Rattle.merit.specs.Call.{cheaper, group, due, called, calls, uncovered}
-use Rattle.merit.specs.Price.{price}
+use Rattle.merit.specs.Price.{delivers, price, calledPrice}
 use Rattle.merit.proofs.call_tier.Reads as call-tier
 use Rattle.merit.proofs.price.Reads as price-reads
-use Rattle.merit.proofs.Keyed.{cond-le, before, before-next, before-zero, before-all}
+use Rattle.merit.proofs.Keyed.{before, before-next, before-zero, before-all}
 use Rattle.merit.proofs.Keyed.{peers, peers-sum, portion, shared, shared-le, shared-past, shared-met, shared-full, shared-sum}
 use Rattle.merit.proofs.Groups.{cheaper-next, cheaper-tier, cheaper-rise, cheaper-zero, cheaper-all, groups-apart}
 
@@ -147,35 +151,59 @@ module _ (need : ℕ) (b : Bands) (first : ℕ) where
     unfolding uncovered
     calls-sum level = omega (arith, reached-sum end, reached-all one, reached-all two, cheaper-all b level end below-end)
 
-module _ (bs cs : List ℕ) where
-  pub price-none : ((i : ℕ) → at cs i ≡ 0) → price bs cs ≡ 0
-  unfolding price
-  price-none h =
-      let l : price bs cs ≤ 0 =
-      max-bound (length bs) 0 (λ i. cond (ltb 0 (at cs i)) (at bs i) 0)
-      (λ i l. rw (le-ltb 0 (at cs i) (omega (arith, h i))) zero-le) in
-      omega arith
+module _ (bs cs es : List ℕ) where
+  -- the row at position i was called for more than 0 and delivered
+  abbrev pub Delivered : ℕ → Type 0
+  Delivered i = (i < length bs) × (0 < at cs i) × (0 < at es i)
 
-  pub price-least : (i : ℕ) → i < length bs → 0 < at cs i → at bs i ≤ price bs cs
-  unfolding price
-  price-least i l p =
-      let e : cond (ltb 0 (at cs i)) (at bs i) 0 ≡ at bs i = rw (lt-ltb 0 (at cs i) p) in
-      omega (arith, max-term (length bs) (λ j. cond (ltb 0 (at cs j)) (at bs j) 0) i l)
+  test : ℕ → Bool
+  test i = delivers (at cs i) (at es i)
 
-  pub price-reached : ((i : ℕ) × (i < length bs) × (0 < at cs i) × (at bs i ≡ price bs cs)) ⊎ (price bs cs ≡ 0)
-  unfolding price
+  told : (i : ℕ) → Delivered i → test i ≡ true
+  unfolding test
+  told i d = rw (lt-ltb 0 (at cs i) (d .1), lt-ltb 0 (at es i) (d .2))
+
+  meant : (i : ℕ) → i < length bs → test i ≡ true → Delivered i
+  unfolding test
+  meant i l e =
+      (l, ltb-true 0 (at cs i) (left-true _ (ltb 0 (at es i)) e), ltb-true 0 (at es i) (right-true (ltb 0 (at cs i)) _ e))
+
+  pub price-reached : ((i : ℕ) × Delivered i × (at bs i ≡ price bs cs es)) ⊎ (price bs cs es ≡ 0)
+  unfolding price test
   price-reached =
       ⊎-elim
-      (λ (w : (i : ℕ) × (i < length bs) × (cond (ltb 0 (at cs i)) (at bs i) 0 ≡ price bs cs)).
-      ⊎-elim (λ (p : 0 < at cs (w .0)). inl (w .0, w .1, p, rw (lt-ltb 0 (at cs (w .0)) p) at (w .2)))
-      (λ (z : at cs (w .0) ≤ 0). inr (sym (rw (le-ltb 0 (at cs (w .0)) z) at (w .2)))) (lt-or-le 0 (at cs (w .0))))
-      (λ (e : price bs cs ≡ 0). inr e) (max-reached (length bs) (λ j. cond (ltb 0 (at cs j)) (at bs j) 0))
+      (λ (w : (i : ℕ) × (i < length bs) × (test i ≡ true) × (at bs i ≡ price bs cs es)). inl (w .0, meant (w .0) (w .1) (w .2), w .3))
+      (λ (e : price bs cs es ≡ 0). inr e) (max-where-reached (length bs) test (at bs))
 
-  pub price-le : (m : ℕ) → ((i : ℕ) → at bs i ≤ m) → price bs cs ≤ m
-  unfolding price
-  price-le m h =
-      max-bound (length bs) m (λ i. cond (ltb 0 (at cs i)) (at bs i) 0)
-      (λ i l. omega (arith, cond-le (ltb 0 (at cs i)) (at bs i), h i))
+  pub price-least : (i : ℕ) → Delivered i → at bs i ≤ price bs cs es
+  unfolding price test
+  price-least i d = max-where-term (length bs) test (at bs) i (d .0) (told i d)
+
+  pub price-le : (m : ℕ) → ((i : ℕ) → Delivered i → at bs i ≤ m) → price bs cs es ≤ m
+  unfolding price test
+  price-le m h = max-where-bound (length bs) test (at bs) m (λ i l e. h i (meant i l e))
+
+  pub price-zero : price bs cs es ≡ 0 → (i : ℕ) → Delivered i → at bs i ≡ 0
+  price-zero e i d = omega (arith, price-least i d)
+
+  pub price-bids-zero : ((i : ℕ) → Delivered i → at bs i ≡ 0) → price bs cs es ≡ 0
+  price-bids-zero h = let l : price bs cs es ≤ 0 = price-le 0 (λ i d. omega (arith, h i d)) in omega arith
+
+  pub price-none : ((i : ℕ) → Delivered i → ⊥) → price bs cs es ≡ 0
+  price-none h = price-bids-zero (λ i d. absurd (h i d))
+
+  pub price-le-called : price bs cs es ≤ calledPrice bs cs
+  unfolding price calledPrice test
+  price-le-called =
+      max-where-fewer (length bs) test (λ i. ltb 0 (at cs i)) (at bs) (λ i l e. lt-ltb 0 (at cs i) (meant i l e .1))
+
+  pub price-all-deliver : ((i : ℕ) → i < length bs → 0 < at cs i → 0 < at es i) → price bs cs es ≡ calledPrice bs cs
+  unfolding price calledPrice test
+  price-all-deliver h =
+      let l =
+      max-where-fewer (length bs) (λ i. ltb 0 (at cs i)) test (at bs)
+      (λ i l e. let some : 0 < at cs i = ltb-true 0 (at cs i) e in told i (l, some, h i l some)) in
+      omega (arith, price-le-called, l)
 
 pub price-unique : One-result price-reads.Learnt
 price-unique κs a x y e f p q = ap (λ (m : ℕ). record { 0 = m }) (p ∙ sym q)

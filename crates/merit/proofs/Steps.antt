@@ -1,16 +1,15 @@
 -- What the small steps of the code come to, each lemma in the shape of one need.
-use Prim.Native.Nat.{ℕ, _+_, _*_, _≤_, _<_, min, max}
+use Prim.Native.Nat.{ℕ, _+_, _*_, _≤_, _<_, min}
 use mathlib.Core.Path.{_≡_, refl, ap, sym, _∙_}
-use mathlib.Core.Bool.{cond}
 use mathlib.Core.List.{List}
 use native.Mathlib.Numerals.{add-one}
 use native.Mathlib.Omega.{arith}
-use lib.Dec.{ltb, eqb}
+use lib.Dec.{eqb}
 use lib.ListN.{length, set, take}
 use borrow.Author.Tests.{lt-ltb, le-ltb, eq-eqb, ne-eqb}
-use Rattle.columns.specs.Sum.{sumTo, whole, maxTo}
+use Rattle.columns.specs.Sum.{sumTo, whole, maxTo, maxWhere}
 use Rattle.columns.specs.Table.{at, table}
-use Rattle.columns.proofs.Sum.{sum-next, sum-bound, max-next}
+use Rattle.columns.proofs.Sum.{sum-next, sum-bound, max-where-next}
 use Rattle.columns.proofs.Table.{table-list, table-length, front-long}
 use Rattle.columns.proofs.Fill.{Reached, reached-none, reached-next, reached-all}
 use Rattle.columns.proofs.Whole.{whole-table}
@@ -18,9 +17,9 @@ use Rattle.share.specs.Share.{shares}
 use Rattle.share.specs.Split.{Splittable}
 use Rattle.share.proofs.Laws.{shares-are-weights}
 use Rattle.merit.specs.OneTier.{equal, groupIn}
-use Rattle.merit.specs.Price.{price}
+use Rattle.merit.specs.Price.{delivers, price}
 use Rattle.merit.specs.Ready.{Columns, Ready}
-use Rattle.merit.specs.Walk.{Room, Blank, sooner, nextIn, nextBid, partsIn}
+use Rattle.merit.specs.Walk.{Room, Blank, sooner, nextIn, nextBid, partsIn, higher}
 use Rattle.merit.proofs.Keyed.{cond-le}
 
 module _ (k best w bid : ℕ) where
@@ -55,32 +54,39 @@ pub next-all : (k : ℕ) (ws bs : List ℕ) (i next : ℕ) → next ≡ nextIn k
 unfolding nextBid
 next-all k ws bs i next e l m = let s : i ≡ length ws = omega arith in rw (← s) e
 
-module _ (top bid call : ℕ) where
-  pub higher-none : call ≡ 0 → top ≡ max top (cond (ltb 0 call) bid 0)
-  higher-none e = rw (le-ltb 0 call (omega arith)) (omega arith)
+module _ (top i : ℕ) (bs cs es : List ℕ) where
+  pub higher-uncalled : at cs i ≡ 0 → top ≡ higher top i bs cs es
+  unfolding higher
+  higher-uncalled e = rw (le-ltb 0 (at cs i) (omega arith)) (omega arith)
 
-  pub higher-it : (call ≡ 0 → ⊥) → top < bid → bid ≡ max top (cond (ltb 0 call) bid 0)
-  higher-it h l = rw (lt-ltb 0 call (omega arith)) (omega arith)
+  pub higher-undelivered : (at cs i ≡ 0 → ⊥) → at es i ≡ 0 → top ≡ higher top i bs cs es
+  unfolding higher
+  higher-undelivered h e = rw (lt-ltb 0 (at cs i) (omega arith), le-ltb 0 (at es i) (omega arith)) (omega arith)
 
-  pub higher-not : (call ≡ 0 → ⊥) → bid ≤ top → top ≡ max top (cond (ltb 0 call) bid 0)
-  higher-not h l = rw (lt-ltb 0 call (omega arith)) (omega arith)
+  pub higher-it : (at cs i ≡ 0 → ⊥) → (at es i ≡ 0 → ⊥) → (bid : ℕ) → bid ≡ at bs i → top < bid → bid ≡ higher top i bs cs es
+  unfolding higher
+  higher-it h k bid e l = rw (lt-ltb 0 (at cs i) (omega arith), lt-ltb 0 (at es i) (omega arith)) (omega arith)
 
--- the highest bid among the first n rows that are called for more than 0
-unfoldable pub highest : List ℕ → List ℕ → ℕ → ℕ
-highest bs cs n = maxTo n (λ i. cond (ltb 0 (at cs i)) (at bs i) 0)
+  pub higher-not : (at cs i ≡ 0 → ⊥) → (at es i ≡ 0 → ⊥) → (bid : ℕ) → bid ≡ at bs i → bid ≤ top → top ≡ higher top i bs cs es
+  unfolding higher
+  higher-not h k bid e l = rw (lt-ltb 0 (at cs i) (omega arith), lt-ltb 0 (at es i) (omega arith)) (omega arith)
 
-pub highest-none : (bs cs : List ℕ) → 0 ≡ highest bs cs 0
-unfolding highest maxTo
-highest-none bs cs = refl
+-- the highest bid among the first n rows that deliver
+unfoldable pub highest : List ℕ → List ℕ → List ℕ → ℕ → ℕ
+highest bs cs es n = maxWhere n (λ i. delivers (at cs i) (at es i)) (at bs)
 
-pub highest-more : (bs cs : List ℕ) (i top bid call r : ℕ) → top ≡ highest bs cs i → bid ≡ at bs i → call ≡ at cs i
-    → r ≡ max top (cond (ltb 0 call) bid 0) → r ≡ highest bs cs (i + 1)
-unfolding highest
-highest-more bs cs i top bid call r e f g h = rw (h, e, f, g) (sym (max-next i (λ j. cond (ltb 0 (at cs j)) (at bs j) 0)))
+module _ (bs cs es : List ℕ) where
+  pub highest-none : 0 ≡ highest bs cs es 0
+  unfolding highest maxWhere maxTo
+  highest-none = refl
 
-pub highest-all : (bs cs : List ℕ) (i top : ℕ) → top ≡ highest bs cs i → i ≤ length bs → length bs ≤ i → top ≡ price bs cs
-unfolding highest price
-highest-all bs cs i top e l m = let s : i ≡ length bs = omega arith in rw (← s) e
+  pub highest-more : (i top r : ℕ) → top ≡ highest bs cs es i → r ≡ higher top i bs cs es → r ≡ highest bs cs es (i + 1)
+  unfolding highest higher
+  highest-more i top r e f = rw (f, e) (sym (max-where-next i (λ j. delivers (at cs j) (at es j)) (at bs)))
+
+  pub highest-all : (i top : ℕ) → top ≡ highest bs cs es i → i ≤ length bs → length bs ≤ i → top ≡ price bs cs es
+  unfolding highest price
+  highest-all i top e l m = let s : i ≡ length bs = omega arith in rw (← s) e
 
 pub copied-next : (s start now : List ℕ) (i : ℕ) → Reached 0 (at s) start now i → length start ≡ length s → i < length s
     → Reached 0 (at s) start (set now i (at s i)) (i + 1)

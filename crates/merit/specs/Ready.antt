@@ -1,4 +1,4 @@
--- What `call_tier` asks of its columns, and what it leaves in them; what it leaves of both tiers, one after the other.
+-- What `call_tier` asks of its columns, and what it leaves in them; what it leaves of both tiers, one after the other; what `price` asks.
 use Prim.Native.Nat.{ℕ, _-_, _≤_, _<_}
 use mathlib.Core.Path.{_≡_}
 use mathlib.Core.List.{List}
@@ -33,3 +33,8 @@ pub record Called (need : ℕ) (b : Bands) (first r : ℕ) (c1 c2 : List ℕ) : 
   pub called1 : c1 ≡ calls need b first one
   pub called2 : c2 ≡ calls need b first two
   pub beyond : r ≡ uncovered need b
+
+-- a call and an energy for each bid
+pub record OneLength (bids calls energies : List ℕ) : Type 0 where
+  pub calls-long : length calls ≡ length bids
+  pub energies-long : length energies ≡ length bids

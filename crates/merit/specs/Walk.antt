@@ -1,5 +1,5 @@
--- What the steps of the walk come to. No promise of a public function speaks of them.
-use Prim.Native.Nat.{ℕ, zero, suc, _<_, min}
+-- What the steps of the walk come to, and those of the search for the price. No promise of a public function speaks of them.
+use Prim.Native.Nat.{ℕ, zero, suc, _<_, min, max}
 use mathlib.Core.Path.{_≡_}
 use mathlib.Core.Bool.{cond}
 use mathlib.Core.List.{List}
@@ -8,6 +8,7 @@ use lib.ListN.{length}
 use Rattle.columns.specs.Sum.{whole}
 use Rattle.columns.specs.Table.{at}
 use Rattle.share.specs.Share.{shares}
+use Rattle.merit.specs.Price.{delivers}
 use Rattle.merit.specs.Ready.{Ready}
 
 -- past every bid
@@ -40,3 +41,7 @@ pub record Room (ws : List ℕ) (first : ℕ) (out : List ℕ) : Type 0 where
 pub record Blank (ws bs : List ℕ) (first : ℕ) (cs ps : List ℕ) : Type 0 where
   pub ready : Ready ws bs first cs
   pub parts : Room ws first ps
+
+-- the higher of a bid and that of row i, if the row delivers
+unfoldable pub higher : ℕ → ℕ → List ℕ → List ℕ → List ℕ → ℕ
+higher top i bids calls energies = max top (cond (delivers (at calls i) (at energies i)) (at bids i) 0)

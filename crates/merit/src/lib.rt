@@ -1,44 +1,42 @@
-// Merit order (01, Calls and prices), one tier's columns at a time: the walk over its bids and bands, the calls it makes, the clearing
-// price. Columns hold bare numbers: widths and calls in kWh, bids in li.
+// Merit order (01, Calls and prices; 02, request 1), one tier's columns at a time: the walk over its bids and bands, the calls it makes, the
+// clearing price. Columns hold bare numbers: widths, calls and energies in kWh, bids in li.
 ghost use mathlib.Core.Path.{_≡_};
-ghost use mathlib.Core.Bool.{cond};
-ghost use Prim.Native.Nat.{_<_, _≤_, max};
-ghost use lib.Dec.{ltb};
+ghost use Prim.Native.Nat.{_<_, _≤_};
 ghost use lib.ListN.{length};
 ghost use Rattle.columns.specs.Sum.{whole};
 ghost use Rattle.columns.specs.Table.{at};
 ghost use Rattle.share.specs.Split.{Splittable};
 ghost use Rattle.merit.specs.OneTier.{equal, groupIn};
 ghost use Rattle.merit.specs.Price.{price};
-ghost use Rattle.merit.specs.Ready.{Columns, Ready, TierCalled};
-ghost use Rattle.merit.specs.Walk.{Room, Blank, sooner, nextBid, partsIn};
+ghost use Rattle.merit.specs.Ready.{Columns, Ready, TierCalled, OneLength};
+ghost use Rattle.merit.specs.Walk.{Room, Blank, sooner, nextBid, partsIn, higher};
 use units::Kwh;
 use units::Li;
 
 // Past every bid: they are below 65,536.
 const PAST: u64 = 65536;
 
-// A row's energy in the tier, offered or called, and its bid there.
+// A row's band in the tier: its width and its bid.
 struct Offer {
-    energy: Kwh,
+    width: Kwh,
     bid: Li,
 }
 
-fn offer_at(i: usize, energies: &[u32], bids: &[u32]) -> Offer
-    requires { ⌜ (i < length (now energies)) × (length (now bids) ≡ length (now energies)) ⌝ }
-    ensures { λ r. ⌜ (r .energy .0 ≡ at (now (energies .entry)) i) × (r .bid .0 ≡ at (now (bids .entry)) i) ⌝ }
+fn offer_at(i: usize, widths: &[u32], bids: &[u32]) -> Offer
+    requires { ⌜ (i < length (now widths)) × (length (now bids) ≡ length (now widths)) ⌝ }
+    ensures { λ r. ⌜ (r .width .0 ≡ at (now (widths .entry)) i) × (r .bid .0 ≡ at (now (bids .entry)) i) ⌝ }
 {
     Offer {
-        energy: Kwh::from_column(energies[i]),
+        width: Kwh::from_column(widths[i]),
         bid: Li::from_column(bids[i]),
     }
 }
 
 // The lower of two bids, if the second is not below `from` and is that of a band with a width.
 fn sooner(from: Li, best: Li, offer: Offer) -> Li
-    ensures { λ r. ⌜ r .0 ≡ sooner (from .0) (best .0) (offer .energy .0) (offer .bid .0) ⌝ }
+    ensures { λ r. ⌜ r .0 ≡ sooner (from .0) (best .0) (offer .width .0) (offer .bid .0) ⌝ }
 {
-    if offer.energy.0 == 0 {
+    if offer.width.0 == 0 {
         return best;
     }
     if offer.bid.0 < from.0 {
@@ -71,7 +69,7 @@ fn member(bid: Li, i: usize, widths: &[u32], bids: &[u32]) -> Kwh
 {
     let offer = offer_at(i, widths, bids);
     if offer.bid.0 == bid.0 {
-        return offer.energy;
+        return offer.width;
     }
     Kwh(0)
 }
@@ -184,28 +182,33 @@ pub fn call_tier(need: Kwh, first: usize, widths: &[u32], bids: &[u32], called: 
     walk(need, first, widths, bids, called, &mut parts[..n])
 }
 
-// The higher of two bids, if the second is that of a row called for more than 0.
-fn higher(top: Li, offer: Offer) -> Li
-    ensures { λ r. ⌜ r .0 ≡ max (top .0) (cond (ltb 0 (offer .energy .0)) (offer .bid .0) 0) ⌝ }
+// The higher of a bid and that of row i, if the row was called and delivered.
+fn higher(top: Li, i: usize, bids: &[u32], called: &[u32], energies: &[u32]) -> Li
+    requires { ⌜ (i < length (now bids)) × OneLength (now bids) (now called) (now energies) ⌝ }
+    ensures { λ r. ⌜ r .0 ≡ higher (top .0) i (now (bids .entry)) (now (called .entry)) (now (energies .entry)) ⌝ }
 {
-    if offer.energy.0 == 0 {
+    if called[i] == 0 {
         return top;
     }
-    if top.0 < offer.bid.0 {
-        return offer.bid;
+    if energies[i] == 0 {
+        return top;
+    }
+    let bid = Li::from_column(bids[i]);
+    if top.0 < bid.0 {
+        return bid;
     }
     top
 }
 
-// A tier's clearing price: the highest bid among the rows called for more than 0, and 0 if there is none.
-pub fn price(bids: &[u32], called: &[u32]) -> Li
-    requires { ⌜ length (now called) ≡ length (now bids) ⌝ }
-    ensures { λ r. ⌜ r .0 ≡ price (now (bids .entry)) (now (called .entry)) ⌝ }
+// A tier's clearing price: the highest bid among the rows that were called there and delivered, and 0 if there is none.
+pub fn price(bids: &[u32], called: &[u32], energies: &[u32]) -> Li
+    requires { ⌜ OneLength (now bids) (now called) (now energies) ⌝ }
+    ensures { λ r. ⌜ r .0 ≡ price (now (bids .entry)) (now (called .entry)) (now (energies .entry)) ⌝ }
 {
     let mut top = Li(0);
     let mut i = 0;
     while i < bids.len() {
-        top = higher(top, offer_at(i, called, bids));
+        top = higher(top, i, bids, called, energies);
         i += 1;
     }
     top

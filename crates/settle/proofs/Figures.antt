@@ -1,16 +1,18 @@
--- The worked figures of document 01, proved together.
---   all-right   one test, computed by the checker over the whole table
---   worked-figures   every line of the table works out to what the paper says
+-- The worked figures of document 01, proved together, and those of the requests of document 02.
+--   all-right         one test, computed by the checker over both tables
+--   worked-figures    P1 to P11: every line of the table works out to what the paper says
+--   request-figures   so does every line of the requests' table
 use Prim.Native.Nat.{ℕ, zero, suc, _<_}
 use native.Mathlib.Nat.{le-of-suc-le-suc, not-suc-le-zero}
 use mathlib.Core.Path.{_≡_, refl, sym, subst, ap₂}
-use mathlib.Core.Bool.{Bool, true, false, _&&_}
+use mathlib.Core.Bool.{true, _&&_}
 use mathlib.Core.List.{List, [], _∷_}
 use lib.Dec.{T, eqb}
 use lib.ListN.{length, getD}
 use borrow.Author.Tests.{eqb-true}
-use Rattle.columns.specs.Sum.{sumTo, countTo, maxTo, findTo, whole}
+use Rattle.columns.specs.Sum.{sumTo, countTo, maxTo, maxWhere, findTo, whole}
 use Rattle.columns.specs.Table.{table}
+use Rattle.columns.proofs.First.{left-true, right-true}
 use Rattle.columns.specs.Checks.{firstRefusal, rowByRow, previous}
 use Rattle.records.specs.Number.{numberAt, numberBytes}
 use Rattle.records.specs.Fields.{fieldsBytes}
@@ -32,26 +34,19 @@ use Rattle.statement.specs.Statement.{statementHeadBytes, statementHeadAt}
 use Rattle.settle.specs.Settlement.{compensationsOf, levied, figures}
 use Rattle.settle.specs.Statement.{statementHead, statementBytes}
 use Rattle.settle.specs.Answer.{dutiesIn, figuresOf, statementOf, settleOrder, answerOf, bufferAfter}
+use Rattle.settle.specs.Requests.{threeRows, settledThree, requestTable}
 use Rattle.settle.specs.Table.{intervalX, settledX, Entry, entry, figuresTable, same, allRight}
 
-pub all-right : allRight figuresTable ≡ true
-unfolding sumTo countTo maxTo findTo whole table numberAt numberBytes fieldsBytes fieldsAt recordAt recordBytes recordsBytes put
+all-right : (allRight figuresTable && allRight requestTable) ≡ true
+unfolding sumTo countTo maxTo maxWhere findTo whole table numberAt numberBytes fieldsBytes fieldsAt recordAt recordBytes recordsBytes put
     quota rest turn before rank left share shares
     firstRefusal rowByRow previous headAt rowAt correctionHeadAt headTests headOk statusOk idleTests notOffering offerTests offering rowTests rowOk
     headChecks rowChecks rowChecksAt rowChecksOf intervalOrder fileOrder termsOf hasId findId countingRow
     width1 width2 energy1 energy2 payer weight cap dutiesOf cheaperIn cheaper group due called calls uncovered price
     closes closed next run opening final openWeights paid payments shortfall cuts compensationsOf levied figures
     statementHeadBytes statementHeadAt statementHead statementBytes
-    dutiesIn figuresOf statementOf settleOrder answerOf bufferAfter intervalX settledX figuresTable same allRight
+    dutiesIn figuresOf statementOf settleOrder answerOf bufferAfter intervalX settledX figuresTable threeRows settledThree requestTable same allRight
 all-right = refl
-
-both-left : (a b : Bool) → (a && b) ≡ true → a ≡ true
-both-left true b e = refl
-both-left false b e = e
-
-both-right : (a b : Bool) → (a && b) ≡ true → b ≡ true
-both-right true b e = e
-both-right false b e = absurd (subst T (sym e) tt)
 
 same-is : (xs ys : List ℕ) → same xs ys ≡ true → xs ≡ ys
 unfolding same
@@ -59,14 +54,17 @@ same-is [] [] e = refl
 same-is [] (y ∷ ys) e = absurd (subst T (sym e) tt)
 same-is (x ∷ xs) [] e = absurd (subst T (sym e) tt)
 same-is (x ∷ xs) (y ∷ ys) e =
-    ap₂ _∷_ (eqb-true x y (both-left (eqb x y) (same xs ys) e)) (same-is xs ys (both-right (eqb x y) (same xs ys) e))
+    ap₂ _∷_ (eqb-true x y (left-true (eqb x y) (same xs ys) e)) (same-is xs ys (right-true (eqb x y) (same xs ys) e))
 
 right-at : (es : List Entry) → allRight es ≡ true → (k : ℕ) → k < length es → getD es k (entry [] []) .worked ≡ getD es k (entry [] []) .paper
 unfolding allRight
 right-at [] e k l = absurd (not-suc-le-zero l)
-right-at (x ∷ es) e zero l = same-is (x .worked) (x .paper) (both-left (same (x .worked) (x .paper)) (allRight es) e)
+right-at (x ∷ es) e zero l = same-is (x .worked) (x .paper) (left-true (same (x .worked) (x .paper)) (allRight es) e)
 right-at (x ∷ es) e (suc k) l =
-    right-at es (both-right (same (x .worked) (x .paper)) (allRight es) e) k (le-of-suc-le-suc l)
+    right-at es (right-true (same (x .worked) (x .paper)) (allRight es) e) k (le-of-suc-le-suc l)
 
 pub worked-figures : (k : ℕ) → k < length figuresTable → getD figuresTable k (entry [] []) .worked ≡ getD figuresTable k (entry [] []) .paper
-worked-figures = right-at figuresTable all-right
+worked-figures = right-at figuresTable (left-true (allRight figuresTable) (allRight requestTable) all-right)
+
+pub request-figures : (k : ℕ) → k < length requestTable → getD requestTable k (entry [] []) .worked ≡ getD requestTable k (entry [] []) .paper
+request-figures = right-at requestTable (right-true (allRight figuresTable) (allRight requestTable) all-right)

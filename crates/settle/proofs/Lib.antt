@@ -12,5 +12,6 @@ pub mod Answered
 pub mod Figures
 pub mod Demand1
 pub mod Demand2
+pub mod Prices
 pub mod Demand3
 pub mod Unique

@@ -2,8 +2,8 @@
 --   pay-length, pay-small, total-rich     the column of compensations, its numbers, its sum
 --   figures-long         a number in every column for each row
 --   figures-sized        every figure by its bound (record Sized)
-use Prim.Native.Nat.{ℕ, zero, suc, _+_, _*_, _^_, _≤_, _<_}
-use mathlib.Core.Path.{_≡_, refl, sym, ap, _∙_}
+use Prim.Native.Nat.{ℕ, _≤_}
+use mathlib.Core.Path.{_≡_, refl, _∙_}
 use mathlib.Core.List.{List}
 use native.Mathlib.Omega.{arith}
 use lib.Dec.{ltb}
@@ -15,7 +15,6 @@ use Rattle.columns.proofs.Table.{table-length, table-most}
 use Rattle.columns.proofs.Whole.{whole-bound}
 use Rattle.merit.specs.Band.{one, two, Bands}
 use Rattle.merit.specs.Call.{calls, uncovered}
-use Rattle.merit.specs.Price.{price}
 use Rattle.merit.proofs.Laws.{calls-length, calls-at, called-le, price-le}
 use Rattle.pay.specs.Pay.{compensation}
 use Rattle.pay.proofs.Laws.{compensation-most}
@@ -116,8 +115,8 @@ module _ (need first n : ℕ) (d : Duties) where
   figures-sized within =
       let c1 = calls need b first one in
       let c2 = calls need b first two in
-      let p1 = price-le (d .bids1) c1 1000 (within .low1) in
-      let p2 = price-le (d .bids2) c2 1000 (within .low2) in
+      let p1 = price-le (d .bids1) c1 (d .energies1) 1000 (λ i _. within .low1 i) in
+      let p2 = price-le (d .bids2) c2 (d .energies2) 1000 (λ i _. within .low2 i) in
       let pay = f .compensations in
       let ws = d .weights in
       let cs = d .caps in

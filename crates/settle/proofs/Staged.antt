@@ -3,22 +3,20 @@
 --   read, written, ruled     a field of the lines read as a column, a column put into a field, and that its cells are there
 --   called1-asked, called1-lines    tier 1: what it asks, and the lines that it leaves; so for the other stages
 --   figure-lines        after the last stage the lines are those of the figures
-use Prim.Native.Nat.{ℕ, zero, suc, _+_, _-_, _*_, _^_, _≤_, _<_}
+use Prim.Native.Nat.{ℕ, _+_, _-_, _^_, _≤_, _<_}
 use mathlib.Core.Path.{_≡_, refl, sym, ap, _∙_}
 use mathlib.Core.List.{List, [], _∷_}
 use native.Mathlib.Omega.{arith}
-use lib.Dec.{lit<}
 use lib.ListN.{length, take, set}
 use Rattle.columns.specs.Sum.{whole}
-use Rattle.columns.specs.Table.{at, table, Below}
-use Rattle.columns.proofs.Table.{table-list, table-same, table-length}
+use Rattle.columns.specs.Table.{at, table}
+use Rattle.columns.proofs.Table.{table-list, table-same}
 use Rattle.records.specs.declared.Field.{Field}
 use Rattle.records.specs.Fields.{span}
-use Rattle.records.specs.Sheet.{Lined, cell, columnOf, withColumn, fieldOf, sheet}
+use Rattle.records.specs.Sheet.{cell, columnOf, withColumn, fieldOf, sheet}
 use Rattle.records.proofs.Sheet.{sheet-of, sheet-with, sheet-cell-of, sheet-length}
-use Rattle.duties.specs.Duties.{Duties, Level}
-use Rattle.merit.specs.Band.{one, two, Bands, Apart}
-use Rattle.merit.specs.Call.{calls, uncovered}
+use Rattle.duties.specs.Duties.{Duties}
+use Rattle.merit.specs.Band.{one, Apart}
 use Rattle.merit.specs.OneTier.{tierCalls}
 use Rattle.merit.specs.Price.{price}
 use Rattle.merit.proofs.Apart.{calls-one, calls-two, uncovered-tiers}
@@ -31,7 +29,7 @@ use Rattle.statement.specs.Line as line
 use Rattle.settle.specs.Settlement.{bandsOf, compensationsOf, Figures, levied, figures}
 use Rattle.settle.specs.Statement.{lineOf}
 use Rattle.settle.specs.Within.{Turn, Within}
-use Rattle.settle.specs.Work.{lined, Ruled, Offered, callsIn, Called, payAt, Payable, Paid, Leviable, standingIn, Levied, Cuttable, cutFrom}
+use Rattle.settle.specs.Work.{lined, Ruled, tierOne, tierTwo, Offered, callsIn, Called, payAt, Payable, Paid, Leviable, standingIn, Levied, Cuttable, cutFrom}
 use Rattle.settle.specs.declared.market.Cleared.{Cleared}
 use Rattle.settle.proofs.Sizes.{Sized, Long, figures-long, figures-sized}
 
@@ -110,19 +108,24 @@ module _ (n : ℕ) (d : Duties) (within : Within n d) (need first : ℕ) (turn :
   bids1-read =
       read n out room lines0 (λ i. refl) 8 (omega arith) (d .bids1) (within .level .bids1) (λ i. refl) (λ i. omega (arith, within .low1 i))
 
-  pub called1-asked : Offered n first line.called1 line.closing (lined out n lines0)
+  energies1-read : columnOf line.compensation n (lined out n lines0) ≡ d .energies1
+  energies1-read =
+      read n out room lines0 (λ i. refl) 3 (omega arith) (d .energies1) (within .level .energies1) (λ i. refl) (λ i. omega (arith, within .delivered i))
+
+  pub called1-asked : Offered n first tierOne (lined out n lines0)
   called1-asked =
       record {
         few = within .few;
         turn = turn;
         widths = ruled n out room lines0 (λ i. refl) 1 (omega arith) (omega arith);
         bids = ruled n out room lines0 (λ i. refl) 8 (omega arith) (omega arith);
+        energies = ruled n out room lines0 (λ i. refl) 3 (omega arith) (omega arith);
         narrow = λ i. rw widths1-read (within .narrow1 i);
         low = λ i. rw bids1-read (omega (arith, within .low1 i));
       }
 
-  module _ (t : List ℕ) (r : Cleared) (now : Called need first n line.called1 line.closing (lined out n lines0) t r) where
-    calls1 : callsIn need first n line.called1 line.closing (lined out n lines0) ≡ f .called1
+  module _ (t : List ℕ) (r : Cleared) (now : Called need first n tierOne (lined out n lines0) t r) where
+    calls1 : callsIn need first n tierOne (lined out n lines0) ≡ f .called1
     unfolding figures
     calls1 =
         ap (λ (ws : List ℕ). tierCalls need ws (columnOf line.closing n (lined out n lines0)) first) widths1-read
@@ -138,9 +141,7 @@ module _ (n : ℕ) (d : Duties) (within : Within n d) (need first : ℕ) (turn :
 
     pub called1-price : r .price .0 ≡ f .price1
     unfolding figures
-    called1-price =
-        now .price ∙ ap (λ (bs : List ℕ). price bs (callsIn need first n line.called1 line.closing (lined out n lines0))) bids1-read
-        ∙ ap (price (d .bids1)) calls1
+    called1-price = now .price ∙ (λ j. price (bids1-read j) (calls1 j) (energies1-read j))
 
   -- ---- tier 2
 
@@ -152,23 +153,28 @@ module _ (n : ℕ) (d : Duties) (within : Within n d) (need first : ℕ) (turn :
   bids2-read =
       read n out room lines1 (λ i. refl) 7 (omega arith) (d .bids2) (within .level .bids2) (λ i. refl) (λ i. omega (arith, within .low2 i))
 
-  pub called2-asked : Offered n first line.called2 line.paid (lined out n lines1)
+  energies2-read : columnOf line.cut n (lined out n lines1) ≡ d .energies2
+  energies2-read =
+      read n out room lines1 (λ i. refl) 4 (omega arith) (d .energies2) (within .level .energies2) (λ i. refl) (λ i. omega (arith, within .delivered i))
+
+  pub called2-asked : Offered n first tierTwo (lined out n lines1)
   called2-asked =
       record {
         few = within .few;
         turn = turn;
         widths = ruled n out room lines1 (λ i. refl) 2 (omega arith) (omega arith);
         bids = ruled n out room lines1 (λ i. refl) 7 (omega arith) (omega arith);
+        energies = ruled n out room lines1 (λ i. refl) 4 (omega arith) (omega arith);
         narrow = λ i. rw widths2-read (within .narrow2 i);
         low = λ i. rw bids2-read (omega (arith, within .low2 i));
       }
 
   module _ (left : ℕ) (is : left ≡ need - whole (d .widths1)) (t : List ℕ) (r : Cleared)
-      (now : Called left first n line.called2 line.paid (lined out n lines1) t r) where
-    calls2 : callsIn left first n line.called2 line.paid (lined out n lines1) ≡ f .called2
+      (now : Called left first n tierTwo (lined out n lines1) t r) where
+    calls2 : callsIn left first n tierTwo (lined out n lines1) ≡ f .called2
     unfolding figures
     calls2 =
-        ap (λ (m : ℕ). callsIn m first n line.called2 line.paid (lined out n lines1)) is
+        ap (λ (m : ℕ). callsIn m first n tierTwo (lined out n lines1)) is
         ∙ ap (λ (ws : List ℕ). tierCalls (need - whole (d .widths1)) ws (columnOf line.paid n (lined out n lines1)) first) widths2-read
         ∙ ap (λ (bs : List ℕ). tierCalls (need - whole (d .widths1)) (d .widths2) bs first) bids2-read
         ∙ sym (calls-two (bandsOf d) apart need first)
@@ -186,9 +192,7 @@ module _ (n : ℕ) (d : Duties) (within : Within n d) (need first : ℕ) (turn :
 
     pub called2-price : r .price .0 ≡ f .price2
     unfolding figures
-    called2-price =
-        now .price ∙ ap (λ (bs : List ℕ). price bs (callsIn left first n line.called2 line.paid (lined out n lines1))) bids2-read
-        ∙ ap (price (d .bids2)) calls2
+    called2-price = now .price ∙ (λ j. price (bids2-read j) (calls2 j) (energies2-read j))
 
   -- ---- compensations
 

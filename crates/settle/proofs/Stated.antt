@@ -4,9 +4,9 @@
 --   asked-trade                     both tiers
 --   asked-pay, asked-levy, asked-cut    compensations, rounds and payments, cuts
 --   head-room, stated               the head may be put, and then the buffer holds the statement
-use Prim.Native.Nat.{ℕ, _+_, _-_, _*_, _≤_, _<_}
+use Prim.Native.Nat.{ℕ, _+_, _-_, _≤_, _<_}
 use mathlib.Core.Path.{_≡_, refl, sym, ap, _∙_}
-use mathlib.Core.List.{List, [], _∷_, _++_}
+use mathlib.Core.List.{List, [], _++_}
 use native.Mathlib.Omega.{arith}
 use lib.ListN.{length}
 use Rattle.columns.specs.Sum.{whole}
@@ -30,13 +30,12 @@ use Rattle.levy.specs.Asked.{Short}
 use Rattle.levy.specs.declared.Rest.{Rest}
 use Rattle.statement.specs.Statement.{letterL, lineWidths, headSize, lineStart, statementHeadBytes}
 use Rattle.statement.specs.Line as line
-use Rattle.statement.specs.declared.StatementHead.{StatementHead}
 use Rattle.statement.proofs.Laws.{head-length}
 use Rattle.settle.specs.Settlement.{Figures}
 use Rattle.settle.specs.Statement.{statementHead, lineOf, statementBytes}
 use Rattle.settle.specs.Answer.{dutiesIn, figuresOf, statementOf}
 use Rattle.settle.specs.Within.{Within}
-use Rattle.settle.specs.Work.{lined, rowLine, Offered, Called, Tradable, Traded, Payable, Paid, Leviable, Levied, Cuttable, cutFrom}
+use Rattle.settle.specs.Work.{lined, rowLine, tierOne, tierTwo, Offered, Called, Tradable, Traded, Payable, Paid, Leviable, Levied, Cuttable, cutFrom}
 use Rattle.settle.specs.declared.market.Cleared.{Cleared}
 use Rattle.settle.specs.declared.market.Market.{Market}
 use Rattle.settle.proofs.Accepted.{duties-within}
@@ -90,11 +89,11 @@ module _ (s k : List ℕ) (n : ℕ) (ok : verdictOf s k ≡ Accepted n) (out : L
     read-lines : t0 ≡ lined out n L0
     read-lines = read ∙ sheet-same headSize letterL lineWidths out n (rowLine (h .tariff .0) s k) L0 row-line
 
-    asked-1 : Offered n 0 line.called1 line.closing t0
+    asked-1 : Offered n 0 tierOne t0
     asked-1 = rw read-lines (stage.called1-asked n d within need 0 (λ p. p) id out room)
 
-    module _ (t1 : List ℕ) (c1 : Cleared) (one : Called (h .need .0) 0 n line.called1 line.closing t0 t1 c1) where
-      called-1 : Called need 0 n line.called1 line.closing (lined out n L0) t1 c1
+    module _ (t1 : List ℕ) (c1 : Cleared) (one : Called (h .need .0) 0 n tierOne t0 t1 c1) where
+      called-1 : Called need 0 n tierOne (lined out n L0) t1 c1
       called-1 = rw (need-is, read-lines) at one
 
       lines-1 : t1 ≡ lined out n (stage.lines1 n d within need 0 (λ p. p) id out room)
@@ -107,14 +106,14 @@ module _ (s k : List ℕ) (n : ℕ) (ok : verdictOf s k ≡ Accepted n) (out : L
       left-1 : c1 .left .0 ≡ need - whole (d .widths1)
       left-1 = stage.called1-left n d within need 0 (λ p. p) id out room t1 c1 called-1
 
-      asked-2 : Offered n 0 line.called2 line.paid t1
+      asked-2 : Offered n 0 tierTwo t1
       asked-2 = rw lines-1 (stage.called2-asked n d within need 0 (λ p. p) id out room)
 
-      module _ (t2 : List ℕ) (c2 : Cleared) (two : Called (c1 .left .0) 0 n line.called2 line.paid t1 t2 c2) where
+      module _ (t2 : List ℕ) (c2 : Cleared) (two : Called (c1 .left .0) 0 n tierTwo t1 t2 c2) where
         abbrev L1 : ℕ → List ℕ
         L1 = stage.lines1 n d within need 0 (λ p. p) id out room
 
-        called-2 : Called (c1 .left .0) 0 n line.called2 line.paid (lined out n L1) t2 c2
+        called-2 : Called (c1 .left .0) 0 n tierTwo (lined out n L1) t2 c2
         called-2 = rw lines-1 at two
 
         lines-2 : t2 ≡ lined out n (stage.lines2 n d within need 0 (λ p. p) id out room)

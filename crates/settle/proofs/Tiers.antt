@@ -1,24 +1,27 @@
 -- A tier's stage, as its proofs ask for it.
+--   priced-by                     a price by energies that are read
 --   widths-asked, bids-asked      widths and bids may be read
---   tier-ready, tier-cleared      the columns read are such as `call_tier` asks for, and what comes of them
+--   tier-ready                    the columns read are such as `call_tier` asks for
+--   columns-level, energies-asked, tier-cleared     and then such as `price_in` asks for, and what comes of both
 --   calls-lined, tier-called      the calls may be put, and what the stage leaves
 --   front-offered, asked-front, lent-front, called-front     the same over fronts of fresh arrays
-use Prim.Native.Nat.{ℕ, _+_, _-_, _≤_, _<_}
+use Prim.Native.Nat.{ℕ, _-_}
 use mathlib.Core.Path.{_≡_, refl, sym, ap, _∙_}
 use mathlib.Core.List.{List}
 use native.Mathlib.Omega.{arith}
 use lib.ListN.{length, take}
 use lib.Seq.{length-take-le}
 use Rattle.columns.specs.Sum.{whole}
-use Rattle.columns.specs.Table.{at, table}
+use Rattle.columns.specs.Table.{at}
 use Rattle.columns.proofs.Table.{table-length}
 use Rattle.records.specs.Sheet.{Lined, cell, columnOf, withColumn}
 use Rattle.records.specs.declared.Field.{Field}
 use Rattle.merit.specs.OneTier.{tierCalls, calledIn}
 use Rattle.merit.specs.Price.{price}
-use Rattle.merit.specs.Ready.{Ready}
-use Rattle.settle.specs.Work.{Ruled, Offered, Lent, TierCleared, ClearedIn, callsIn, Called}
+use Rattle.merit.specs.Ready.{Ready, TierCalled, OneLength}
+use Rattle.settle.specs.Work.{Ruled, Offered, Lent, callsIn, ClearedIn, Called}
 use Rattle.settle.specs.declared.market.Cleared.{Cleared}
+use Rattle.settle.specs.declared.market.TierFields.{TierFields}
 use Rattle.settle.proofs.Lending.{fresh, front-count, front-blank}
 
 column-long : (f : Field) (n : ℕ) (s : List ℕ) → length (columnOf f n s) ≡ n
@@ -29,25 +32,28 @@ calls-long : (need first : ℕ) (ws bs : List ℕ) → length (tierCalls need ws
 unfolding tierCalls
 calls-long need first ws bs = table-length (length ws) (calledIn need ws bs first)
 
-module _ (ws bs cs s : List ℕ) (first : ℕ) (width bid : Field) (offered : Offered (length cs) first width bid s) (lent : Lent ws bs cs) where
-  pub widths-asked : Ruled (length ws) width s
+pub priced-by : (bs cs es read : List ℕ) (r : ℕ) → es ≡ read → r ≡ price bs cs es → r ≡ price bs cs read
+priced-by bs cs es read r e is = is ∙ ap (price bs cs) e
+
+module _ (ws bs cs s : List ℕ) (first : ℕ) (p : TierFields) (offered : Offered (length cs) first p s) (lent : Lent ws bs cs) where
+  pub widths-asked : Ruled (length ws) (p .width) s
   widths-asked = rw (lent .widths-long) (offered .widths)
 
-  pub bids-asked : Ruled (length bs) bid s
+  pub bids-asked : Ruled (length bs) (p .bid) s
   bids-asked = rw (lent .bids-long) (offered .bids)
 
-  module _ (ws1 bs1 : List ℕ) (widths-read : ws1 ≡ columnOf width (length ws) s) (bids-read : bs1 ≡ columnOf bid (length bs) s) where
-    widths-are : ws1 ≡ columnOf width (length cs) s
+  module _ (ws1 bs1 : List ℕ) (widths-read : ws1 ≡ columnOf (p .width) (length ws) s) (bids-read : bs1 ≡ columnOf (p .bid) (length bs) s) where
+    widths-are : ws1 ≡ columnOf (p .width) (length cs) s
     widths-are = rw (lent .widths-long) at widths-read
 
-    bids-are : bs1 ≡ columnOf bid (length cs) s
+    bids-are : bs1 ≡ columnOf (p .bid) (length cs) s
     bids-are = rw (lent .bids-long) at bids-read
 
     ws1-long : length ws1 ≡ length cs
-    ws1-long = ap length widths-are ∙ column-long width (length cs) s
+    ws1-long = ap length widths-are ∙ column-long (p .width) (length cs) s
 
     bs1-long : length bs1 ≡ length cs
-    bs1-long = ap length bids-are ∙ column-long bid (length cs) s
+    bs1-long = ap length bids-are ∙ column-long (p .bid) (length cs) s
 
     pub tier-ready : Ready ws1 bs1 first cs
     tier-ready =
@@ -63,43 +69,58 @@ module _ (ws bs cs s : List ℕ) (first : ℕ) (width bid : Field) (offered : Of
           blank = lent .blank;
         }
 
-    pub tier-cleared : (need : ℕ) (cs1 : List ℕ) (r : Cleared) → TierCleared need ws1 bs1 first cs1 r → ClearedIn need first (length cs) width bid s cs1 r
-    tier-cleared need cs1 r cleared =
-        let are : cs1 ≡ callsIn need first (length cs) width bid s = cleared .called ∙ (λ j. tierCalls need (widths-are j) (bids-are j) first) in
-        record {
-          called = are;
-          left = cleared .left ∙ ap (λ (xs : List ℕ). need - whole xs) widths-are;
-          price = cleared .price ∙ (λ j. price (bids-are j) (are j));
-        }
+    module _ (need left : ℕ) (cs1 : List ℕ) (called : TierCalled need ws1 bs1 first left cs1) where
+      calls-are : cs1 ≡ callsIn need first (length cs) p s
+      calls-are = called .called ∙ (λ j. tierCalls need (widths-are j) (bids-are j) first)
+
+      -- the column of the widths, read once more, may hold the energies
+      pub columns-level : OneLength bs1 cs1 ws1
+      columns-level =
+          record {
+            calls-long = ap length (called .called) ∙ calls-long need first ws1 bs1 ∙ ws1-long ∙ sym bs1-long;
+            energies-long = ws1-long ∙ sym bs1-long;
+          }
+
+      pub energies-asked : Ruled (length ws1) (p .energy) s
+      energies-asked = rw ws1-long (offered .energies)
+
+      pub tier-cleared : (r : Cleared) → r .left .0 ≡ left → r .price .0 ≡ price bs1 cs1 (columnOf (p .energy) (length ws1) s)
+          → ClearedIn need first (length cs) p s cs1 r
+      tier-cleared r is priced =
+          record {
+            called = calls-are;
+            left = is ∙ called .beyond ∙ ap (λ (xs : List ℕ). need - whole xs) widths-are;
+            price = priced ∙ (λ j. price (bids-are j) (calls-are j) (columnOf (p .energy) (ws1-long j) s));
+          }
 
 -- ---- the calls put into the sheet
 
-module _ (n first : ℕ) (width bid : Field) (s : List ℕ) (offered : Offered n first width bid s) (need : ℕ) (cs : List ℕ) (r : Cleared)
-    (cleared : ClearedIn need first n width bid s cs r) where
-  pub calls-lined : Lined width (length cs) s
+module _ (n first : ℕ) (p : TierFields) (s : List ℕ) (offered : Offered n first p s) (need : ℕ) (cs : List ℕ) (r : Cleared)
+    (cleared : ClearedIn need first n p s cs r) where
+  pub calls-lined : Lined (p .width) (length cs) s
   calls-lined =
-      let long : length cs ≡ n = ap length (cleared .called) ∙ calls-long need first (columnOf width n s) (columnOf bid n s) ∙ column-long width n s in
+      let long : length cs ≡ n = ap length (cleared .called) ∙ calls-long need first (columnOf (p .width) n s) (columnOf (p .bid) n s) ∙ column-long (p .width) n s in
       rw long (offered .widths .lined)
 
-  pub tier-called : (t : List ℕ) → t ≡ withColumn width cs s → Called need first n width bid s t r
+  pub tier-called : (t : List ℕ) → t ≡ withColumn (p .width) cs s → Called need first n p s t r
   tier-called t put =
       record {
-        bytes = put ∙ ap (λ (xs : List ℕ). withColumn width xs s) (cleared .called);
+        bytes = put ∙ ap (λ (xs : List ℕ). withColumn (p .width) xs s) (cleared .called);
         left = cleared .left;
         price = cleared .price;
       }
 
 -- ---- over fronts of fresh arrays
 
-module _ (n first : ℕ) (width bid : Field) (s : List ℕ) (offered : Offered n first width bid s) where
+module _ (n first : ℕ) (p : TierFields) (s : List ℕ) (offered : Offered n first p s) where
   pub front-offered : (xs : List ℕ) → length xs ≡ 256 → n ≡ length (take n xs)
   front-offered xs e = sym (length-take-le n xs (omega (arith, offered .few)))
 
-  pub asked-front : Offered (length (take n fresh)) first width bid s
+  pub asked-front : Offered (length (take n fresh)) first p s
   asked-front = rw (front-count n (offered .few)) offered
 
   pub lent-front : Lent (take n fresh) (take n fresh) (take n fresh)
   lent-front = record { widths-long = refl; bids-long = refl; blank = λ i. front-blank n i (offered .few) }
 
-  pub called-front : (need : ℕ) (t : List ℕ) (r : Cleared) → Called need first (length (take n fresh)) width bid s t r → Called need first n width bid s t r
+  pub called-front : (need : ℕ) (t : List ℕ) (r : Cleared) → Called need first (length (take n fresh)) p s t r → Called need first n p s t r
   called-front need t r c = rw (front-count n (offered .few)) at c

@@ -4,4 +4,5 @@ pub mod Statement
 pub mod Answer
 pub mod Work
 pub mod Table
+pub mod Requests
 pub mod Promise

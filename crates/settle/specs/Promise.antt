@@ -1,14 +1,18 @@
--- What the promises of the engine speak of besides its definitions: the figures that a statement's bytes hold, and demand 3
--- said of any figures.
+-- What the promises of the engine speak of besides its definitions: the figures that a statement's bytes hold, how prices follow from
+-- the rows, and demand 3 said of any figures.
 use Prim.Native.Nat.{ℕ, _+_, _-_, _*_, _≤_, _<_}
 use mathlib.Core.Path.{_≡_}
 use mathlib.Core.Bool.{Bool}
-use mathlib.Core.List.{List, [], _∷_, _++_}
-use lib.Dec.{ltb}
+use mathlib.Core.List.{List}
 use lib.ListN.{length}
 use Rattle.columns.specs.Sum.{sumTo, sumWhere, maxTo}
-use Rattle.columns.specs.Table.{at, table}
+use Rattle.columns.specs.Table.{at}
 use Rattle.columns.specs.Sum.{whole}
+use Rattle.files.specs.Layout.{rowCount}
+use Rattle.files.specs.Terms.{termsOf}
+use Rattle.files.specs.Counting.{countingRow}
+use Rattle.files.specs.declared.Row.{Row}
+use Rattle.duties.specs.Duty.{normal, delivered1, delivered2}
 use Rattle.levy.specs.Rounds.{payers}
 use Rattle.levy.specs.Capped.{hasClosed, outside, payersInside, capsInside, leftBy, weightsBeside, Capped}
 use Rattle.records.specs.Sheet.{columnOf}
@@ -41,6 +45,32 @@ figuresAt b =
       paid = columnOf line.paid n b;
       closing = columnOf line.closing n b;
     }
+
+-- ---- a tier's price (02, request 1), said of the rows that count
+
+-- a row delivers in a tier: it ran as usual, was called there for more than 0, and its meter shows energy there
+pub record Delivers (r : Row) (call energy : ℕ) : Type 0 where
+  pub normal : r .status ≡ normal
+  pub called : 0 < call
+  pub delivered : 0 < energy
+
+-- the price that n rows set which deliver or not and bid
+pub record SetBy (n : ℕ) (deliver : ℕ → Type 0) (bid : ℕ → ℕ) (price : ℕ) : Type 0 where
+  -- it is the bid of a row that delivers, unless it is 0
+  pub is-bid : 0 < price → (i : ℕ) × (i < n) × deliver i × (bid i ≡ price)
+  -- no row that delivers bid above it
+  pub highest : (i : ℕ) → i < n → deliver i → bid i ≤ price
+  -- it is 0 only if nobody delivers
+  pub nobody : price ≡ 0 → (i : ℕ) → i < n → deliver i → ⊥
+
+-- both prices of a pair of files, by the calls that are stated and by what the meters show
+pub record Prices (s k : List ℕ) (f : Figures) : Type 0 where
+  pub tier1 :
+      SetBy (rowCount s) (λ i. Delivers (countingRow s k i) (at (f .called1) i) (delivered1 (termsOf s) (countingRow s k i)))
+      (λ i. countingRow s k i .bid1 .0) (f .price1)
+  pub tier2 :
+      SetBy (rowCount s) (λ i. Delivers (countingRow s k i) (at (f .called2) i) (delivered2 (termsOf s) (countingRow s k i)))
+      (λ i. countingRow s k i .bid2 .0) (f .price2)
 
 -- ---- demand 3, said of any figures
 

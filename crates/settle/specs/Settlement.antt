@@ -1,5 +1,5 @@
--- The rules put together: from columns of duties to the figures of a statement (01, Calls and prices to Rounds). Nothing here
--- knows where the columns came from.
+-- The rules put together: from columns of duties to the figures of a statement (01, Calls and prices to Rounds; prices by 02,
+-- request 1). Nothing here knows where the columns came from.
 use Prim.Native.Nat.{ℕ}
 use mathlib.Core.List.{List}
 use lib.ListN.{length}
@@ -54,8 +54,8 @@ figures need first d =
     let b = bandsOf d in
     let c1 = calls need b first one in
     let c2 = calls need b first two in
-    let p1 = price (d .bids1) c1 in
-    let p2 = price (d .bids2) c2 in
+    let p1 = price (d .bids1) c1 (d .energies1) in
+    let p2 = price (d .bids2) c2 (d .energies2) in
     let pay = compensationsOf d c1 c2 p1 p2 in
     let st = levied pay (d .weights) (d .caps) in
     record {

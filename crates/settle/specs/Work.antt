@@ -1,6 +1,6 @@
 -- The stages of a settlement over the sheet: what each asks of it, and what it leaves in it. Lines hold duties until the figures
 -- that belong there replace them. No promise of the engine speaks of this page.
-use Prim.Native.Nat.{ℕ, _+_, _-_, _^_, _≤_, _<_}
+use Prim.Native.Nat.{ℕ, _+_, _-_, _≤_, _<_}
 use mathlib.Core.Path.{_≡_}
 use mathlib.Core.Bool.{cond}
 use mathlib.Core.List.{List, [], _∷_}
@@ -26,6 +26,7 @@ use Rattle.statement.specs.Line as line
 use Rattle.settle.specs.Within.{Turn}
 use Rattle.settle.specs.declared.market.Cleared.{Cleared}
 use Rattle.settle.specs.declared.market.Market.{Market}
+use Rattle.settle.specs.declared.market.TierFields.{TierFields}
 
 -- n lines in a buffer
 abbrev pub lined : List ℕ → ℕ → (ℕ → List ℕ) → List ℕ
@@ -46,14 +47,25 @@ pub record Ruled (n : ℕ) (f : Field) (s : List ℕ) : Type 0 where
   pub lined : Lined f n s
   pub narrow : f .width ≤ 4
 
--- a tier's offers stand in two fields
-pub record Offered (n first : ℕ) (width bid : Field) (s : List ℕ) : Type 0 where
+-- the fields of tier 1 and of tier 2; tier 1 is 0 here
+abbrev pub tierOne : TierFields
+tierOne = record { width = line.called1; bid = line.closing; energy = line.compensation }
+
+abbrev pub tierTwo : TierFields
+tierTwo = record { width = line.called2; bid = line.paid; energy = line.cut }
+
+abbrev pub fieldsOf : ℕ → TierFields
+fieldsOf tier = cond (eqb tier 0) tierOne tierTwo
+
+-- a tier's offers and what was delivered stand in its fields
+pub record Offered (n first : ℕ) (p : TierFields) (s : List ℕ) : Type 0 where
   pub few : n ≤ 256
   pub turn : Turn n first
-  pub widths : Ruled n width s
-  pub bids : Ruled n bid s
-  pub narrow : (i : ℕ) → at (columnOf width n s) i ≤ 250000
-  pub low : (i : ℕ) → at (columnOf bid n s) i < 65536
+  pub widths : Ruled n (p .width) s
+  pub bids : Ruled n (p .bid) s
+  pub energies : Ruled n (p .energy) s
+  pub narrow : (i : ℕ) → at (columnOf (p .width) n s) i ≤ 250000
+  pub low : (i : ℕ) → at (columnOf (p .bid) n s) i < 65536
 
 -- three columns of one length to work in, the last of them blank
 pub record Lent (widths bids called : List ℕ) : Type 0 where
@@ -61,47 +73,37 @@ pub record Lent (widths bids called : List ℕ) : Type 0 where
   pub bids-long : length bids ≡ length called
   pub blank : (i : ℕ) → at called i ≡ 0
 
--- a tier is cleared: its calls, the need that is left, the price
-pub record TierCleared (need : ℕ) (ws bs : List ℕ) (first : ℕ) (cs : List ℕ) (r : Cleared) : Type 0 where
-  pub called : cs ≡ tierCalls need ws bs first
-  pub left : r .left .0 ≡ need - whole ws
-  pub price : r .price .0 ≡ price bs cs
+-- the calls of a tier, and its price
+abbrev pub callsIn : ℕ → ℕ → ℕ → TierFields → List ℕ → List ℕ
+callsIn need first n p s = tierCalls need (columnOf (p .width) n s) (columnOf (p .bid) n s) first
 
--- the calls of a tier whose offers stand in two fields
-abbrev pub callsIn : ℕ → ℕ → ℕ → Field → Field → List ℕ → List ℕ
-callsIn need first n width bid s = tierCalls need (columnOf width n s) (columnOf bid n s) first
+abbrev pub priceIn : ℕ → ℕ → ℕ → TierFields → List ℕ → ℕ
+priceIn need first n p s = price (columnOf (p .bid) n s) (callsIn need first n p s) (columnOf (p .energy) n s)
 
--- the tier is cleared from the sheet
-pub record ClearedIn (need first n : ℕ) (width bid : Field) (s cs : List ℕ) (r : Cleared) : Type 0 where
-  pub called : cs ≡ callsIn need first n width bid s
-  pub left : r .left .0 ≡ need - whole (columnOf width n s)
-  pub price : r .price .0 ≡ price (columnOf bid n s) (callsIn need first n width bid s)
+-- the tier is cleared: its calls, the need that is left, the price
+pub record ClearedIn (need first n : ℕ) (p : TierFields) (s cs : List ℕ) (r : Cleared) : Type 0 where
+  pub called : cs ≡ callsIn need first n p s
+  pub left : r .left .0 ≡ need - whole (columnOf (p .width) n s)
+  pub price : r .price .0 ≡ priceIn need first n p s
 
 -- the tier is called: so it is cleared, and the calls stand in the place of the widths
-pub record Called (need first n : ℕ) (width bid : Field) (s t : List ℕ) (r : Cleared) : Type 0 where
-  pub bytes : t ≡ withColumn width (callsIn need first n width bid s) s
-  pub left : r .left .0 ≡ need - whole (columnOf width n s)
-  pub price : r .price .0 ≡ price (columnOf bid n s) (callsIn need first n width bid s)
-
--- the fields of a tier's widths and of its bids; tier 1 is 0 here
-abbrev pub widthOf : ℕ → Field
-widthOf tier = cond (eqb tier 0) line.called1 line.called2
-
-abbrev pub bidOf : ℕ → Field
-bidOf tier = cond (eqb tier 0) line.closing line.paid
+pub record Called (need first n : ℕ) (p : TierFields) (s t : List ℕ) (r : Cleared) : Type 0 where
+  pub bytes : t ≡ withColumn (p .width) (callsIn need first n p s) s
+  pub left : r .left .0 ≡ need - whole (columnOf (p .width) n s)
+  pub price : r .price .0 ≡ priceIn need first n p s
 
 -- both tiers' offers stand in their fields, the second's still once the first is called
 pub record Tradable (need first n : ℕ) (s : List ℕ) : Type 0 where
-  pub one : Offered n first line.called1 line.closing s
-  pub two : (t : List ℕ) (r : Cleared) → Called need first n line.called1 line.closing s t r → Offered n first line.called2 line.paid t
+  pub one : Offered n first tierOne s
+  pub two : (t : List ℕ) (r : Cleared) → Called need first n tierOne s t r → Offered n first tierTwo t
 
 -- both tiers are called, the second with what the first leaves of the need
 pub record Traded (need first n : ℕ) (s t : List ℕ) (m : Market) : Type 0 where
   pub between : List ℕ
   pub one : Cleared
   pub two : Cleared
-  pub called1 : Called need first n line.called1 line.closing s between one
-  pub called2 : Called (one .left .0) first n line.called2 line.paid between t two
+  pub called1 : Called need first n tierOne s between one
+  pub called2 : Called (one .left .0) first n tierTwo between t two
   pub uncovered : m .uncovered ≡ two .left
   pub price1 : m .price1 ≡ one .price
   pub price2 : m .price2 ≡ two .price

@@ -3,6 +3,7 @@ use crate::pairs::get_pair;
 use pay::compensation;
 use records::Field;
 use records::cell;
+use records::get_column;
 use records::put_cell;
 use records::put_column;
 use statement::CALLED1;
@@ -17,10 +18,11 @@ use units::Li;
 ghost use mathlib.Core.Path.{_≡_};
 ghost use Prim.Native.Nat.{_+_, _≤_};
 ghost use lib.ListN.{length};
-ghost use Rattle.records.specs.Sheet.{cellAt, cell};
+ghost use Rattle.records.specs.Sheet.{cellAt, cell, columnOf};
 ghost use Rattle.statement.specs.Statement.{lineStart};
-ghost use Rattle.merit.specs.Ready.{Ready};
-ghost use Rattle.settle.specs.Work.{Offered, Lent, TierCleared, ClearedIn, Called, widthOf, bidOf, Tradable, Traded, payAt, Payable, Paid};
+ghost use Rattle.merit.specs.Price.{price};
+ghost use Rattle.merit.specs.Ready.{OneLength};
+ghost use Rattle.settle.specs.Work.{Ruled, Offered, Lent, ClearedIn, Called, fieldsOf, Tradable, Traded, payAt, Payable, Paid};
 
 // What a tier comes to: the need that it leaves, and its clearing price.
 pub struct Cleared {
@@ -35,57 +37,82 @@ pub struct Market {
     pub price2: Li,
 }
 
-// A tier's calls and its price, from its columns.
-fn clear(need: Kwh, first: usize, widths: &[u32], bids: &[u32], called: &mut [u32]) -> Cleared
-    requires { ⌜ Ready (now widths) (now bids) first (now called) ⌝ }
-    ensures { λ r. ⌜ TierCleared (need .0) (now (widths .entry)) (now (bids .entry)) first (now (called .exit)) r ⌝ }
-{
-    let left = merit::call_tier(need, first, widths, bids, called);
-    let price = merit::price(bids, called);
-    Cleared { left, price }
+// The fields in which a tier stands in the lines: widths, which its calls replace, bids, and the energies delivered.
+pub struct TierFields {
+    pub width: Field,
+    pub bid: Field,
+    pub energy: Field,
 }
 
-// The same of the offers that stand in two fields of the sheet, in columns that the caller lends.
+// Those of a tier, tier 1 being 0 here.
+fn fields_of(tier: usize) -> TierFields
+    ensures { λ r. ⌜ r ≡ fieldsOf tier ⌝ }
+{
+    if tier == 0 {
+        return TierFields {
+            width: CALLED1,
+            bid: CLOSING,
+            energy: COMPENSATION,
+        };
+    }
+    TierFields {
+        width: CALLED2,
+        bid: PAID,
+        energy: CUT,
+    }
+}
+
+// A tier's clearing price, the energies delivered being those that stand in a field of the sheet.
+fn price_in(energy: Field, bids: &[u32], called: &[u32], energies: &mut [u32], sheet: &[u8]) -> Li
+    requires { ⌜ OneLength (now bids) (now called) (now energies) × Ruled (length (now energies)) energy (now sheet) ⌝ }
+    ensures { λ r. ⌜ r .0 ≡ price (now (bids .entry)) (now (called .entry)) (columnOf energy (length (now (energies .entry))) (now (sheet .entry))) ⌝ }
+{
+    get_column(sheet, energy, energies);
+    merit::price(bids, called, energies)
+}
+
+// A tier's calls and its price, in columns that the caller lends. That of the widths has served once the calls are made, and then
+// holds the energies.
 fn clear_in(
     need: Kwh,
     first: usize,
-    width: Field,
-    bid: Field,
+    fields: TierFields,
     widths: &mut [u32],
     bids: &mut [u32],
     called: &mut [u32],
     sheet: &[u8],
 ) -> Cleared
-    requires { ⌜ Offered (length (now called)) first width bid (now sheet) × Lent (now widths) (now bids) (now called) ⌝ }
-    ensures { λ r. ⌜ ClearedIn (need .0) first (length (now (called .entry))) width bid (now (sheet .entry)) (now (called .exit)) r ⌝ }
+    requires { ⌜ Offered (length (now called)) first fields (now sheet) × Lent (now widths) (now bids) (now called) ⌝ }
+    ensures { λ r. ⌜ ClearedIn (need .0) first (length (now (called .entry))) fields (now (sheet .entry)) (now (called .exit)) r ⌝ }
 {
-    get_pair(sheet, width, bid, widths, bids);
-    clear(need, first, widths, bids, called)
+    get_pair(sheet, fields.width, fields.bid, widths, bids);
+    let left = merit::call_tier(need, first, widths, bids, called);
+    let price = price_in(fields.energy, bids, called, widths, sheet);
+    Cleared { left, price }
 }
 
 // The same, with the calls put where the widths stood.
 fn call_in(
     need: Kwh,
     first: usize,
-    width: Field,
-    bid: Field,
+    fields: TierFields,
     widths: &mut [u32],
     bids: &mut [u32],
     called: &mut [u32],
     sheet: &mut [u8],
 ) -> Cleared
-    requires { ⌜ Offered (length (now called)) first width bid (now sheet) × Lent (now widths) (now bids) (now called) ⌝ }
-    ensures { λ r. ⌜ Called (need .0) first (length (now (called .entry))) width bid (now (sheet .entry)) (now (sheet .exit)) r ⌝ }
+    requires { ⌜ Offered (length (now called)) first fields (now sheet) × Lent (now widths) (now bids) (now called) ⌝ }
+    ensures { λ r. ⌜ Called (need .0) first (length (now (called .entry))) fields (now (sheet .entry)) (now (sheet .exit)) r ⌝ }
 {
-    let cleared = clear_in(need, first, width, bid, widths, bids, called, sheet);
-    put_column(sheet, width, called);
+    let cleared = clear_in(need, first, fields, widths, bids, called, sheet);
+    put_column(sheet, fields.width, called);
     cleared
 }
 
-// One tier's calls and price: `width` and `bid` are the fields in which the rows' offers stand.
-fn call(need: Kwh, first: usize, n: usize, width: Field, bid: Field, sheet: &mut [u8]) -> Cleared
-    requires { ⌜ Offered n first width bid (now sheet) ⌝ }
-    ensures { λ r. ⌜ Called (need .0) first n width bid (now (sheet .entry)) (now (sheet .exit)) r ⌝ }
+// One tier's calls and price.
+fn call(need: Kwh, first: usize, n: usize, fields: TierFields, sheet: &mut [u8]) -> Cleared
+    requires { ⌜ Offered n first fields (now sheet) ⌝ }
+    ensures { λ r. ⌜ Called (need .0) first n fields (now (sheet .entry)) (now (sheet .exit)) r ⌝ }
 {
     let mut widths = [0u32; 256];
     let mut bids = [0u32; 256];
@@ -93,33 +120,12 @@ fn call(need: Kwh, first: usize, n: usize, width: Field, bid: Field, sheet: &mut
     call_in(
         need,
         first,
-        width,
-        bid,
+        fields,
         &mut widths[..n],
         &mut bids[..n],
         &mut called[..n],
         sheet,
     )
-}
-
-// The field in which a tier's widths stand, tier 1 being 0 here, and later its calls.
-fn width_of(tier: usize) -> Field
-    ensures { λ r. ⌜ r ≡ widthOf tier ⌝ }
-{
-    if tier == 0 {
-        return CALLED1;
-    }
-    CALLED2
-}
-
-// The field in which a tier's bids stand.
-fn bid_of(tier: usize) -> Field
-    ensures { λ r. ⌜ r ≡ bidOf tier ⌝ }
-{
-    if tier == 0 {
-        return CLOSING;
-    }
-    PAID
 }
 
 // Both tiers, the second with what the first leaves of the need. There is one call, so that its columns share the engine's frame.
@@ -132,7 +138,7 @@ pub fn trade(need: Kwh, first: usize, n: usize, sheet: &mut [u8]) -> Market
     let mut price = Li(0);
     let mut tier = 0;
     while tier < 2 {
-        let cleared = call(left, first, n, width_of(tier), bid_of(tier), sheet);
+        let cleared = call(left, first, n, fields_of(tier), sheet);
         left = cleared.left;
         before = price;
         price = cleared.price;

@@ -29,6 +29,8 @@ pub struct Tally {
     pub refused: [u64; 12],
     pub rows_copied: u64,
     pub rewritten: u64,
+    /// Settlements in which a row that was called but did not deliver bid above a tier's price.
+    pub outbid: u64,
 }
 
 impl Tally {
@@ -41,6 +43,7 @@ impl Tally {
         self.refused.iter_mut().zip(other.refused).for_each(|(sum, more)| *sum += more);
         self.rows_copied += other.rows_copied;
         self.rewritten += other.rewritten;
+        self.outbid += other.outbid;
     }
 }
 
@@ -63,8 +66,10 @@ pub fn trial(seed: u64, number: u64, tally: &mut Tally) -> Result<(), String> {
     let outcome = same(&case, "settle", settle, reference::settle)?;
     match outcome.answer {
         Ok(length) => {
-            demands::check(&outcome.buffer[..length]).map_err(|what| format!("{what} ({})", case.name))?;
+            let statement = &outcome.buffer[..length];
+            demands::check(statement).map_err(|what| format!("{what} ({})", case.name))?;
             tally.settled += 1;
+            tally.outbid += u64::from(outbid(&case.interval, statement)?);
         }
         Err((number, _)) => tally.refused[usize::from(number)] += 1,
     }
@@ -75,6 +80,20 @@ pub fn trial(seed: u64, number: u64, tally: &mut Tally) -> Result<(), String> {
     let again = same(&case, "rewrite", rewrite, |interval, _, out| reference::rewrite(interval, out))?;
     tally.rewritten += u64::from(again.answer.is_ok());
     Ok(())
+}
+
+/// Whether a price is below the highest bid called in its tier, as it never was before request 1; above it no price may be.
+fn outbid(interval: &[u8], statement: &[u8]) -> Result<bool, String> {
+    let number = |bytes: &[u8], at: usize| u16::from_le_bytes([bytes[at], bytes[at + 1]]);
+    let highest = |bid: usize, called: usize| {
+        let rows = interval[15..].chunks_exact(21).zip(statement[35..].chunks_exact(34));
+        rows.filter(|(_, line)| line[called..called + 4] != [0; 4]).map(|(row, _)| number(row, bid)).max().unwrap_or(0)
+    };
+    let (prices, called) = ([number(statement, 7), number(statement, 9)], [highest(17, 4), highest(19, 8)]);
+    if (0..2).any(|tier| prices[tier] > called[tier]) {
+        return Err(format!("prices {prices:?} above the bids called, {called:?}"));
+    }
+    Ok(prices != called)
 }
 
 /// Accepted files, files with faults put in, and files damaged without a plan.

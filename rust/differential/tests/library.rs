@@ -29,6 +29,7 @@ fn the_engine_answers_as_the_reference() {
     assert_eq!(tally.trials(), trials);
     // A run that settled or refused too little would show nothing.
     assert!(trials < 20_000 || (tally.settled > trials / 4 && tally.refused[1..].iter().all(|&count| count > 0)));
+    assert!(trials < 20_000 || tally.outbid > tally.settled / 4);
 }
 
 #[test]

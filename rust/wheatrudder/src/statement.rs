@@ -9,7 +9,7 @@ pub struct Head {
     pub day: u32,
     /// The quarter hour of the day, 0 to 95.
     pub quarter: u8,
-    /// The clearing prices of tiers 1 and 2, 0 where a tier was not called.
+    /// The clearing prices of tiers 1 and 2, 0 where nobody who was called in the tier delivered.
     pub prices: [u16; 2],
     /// The compensations of all rows together.
     pub total: u64,

@@ -1,4 +1,4 @@
--- `merit::price` meets its contract: the top is the highest called bid of the positions passed.
+-- `merit::price` meets its contract: the top is the highest bid of those that deliver among the positions passed.
 use Prim.Native.Nat.{_-_, _≤_}
 use mathlib.Core.Path.{_≡_}
 use native.Mathlib.Omega.{arith}
@@ -9,16 +9,13 @@ use Rattle.merit.proofs.price.Statement.{statement}
 use Rattle.merit.proofs.price.Tie as tie
 
 abbrev Inv-loop : tie.InvT-loop
-Inv-loop bids called top₀ i₀ top i = (i ≤ length bids) × (top .0 ≡ highest bids called i)
+Inv-loop bids called energies top₀ i₀ top i = (i ≤ length bids) × (top .0 ≡ highest bids called energies i)
 
 abbrev μ-loop : tie.MeasureT-loop
-μ-loop bids called top₀ i₀ top i = length bids - i
+μ-loop bids called energies top₀ i₀ top i = length bids - i
 
 loop-holds : tie.Need-loop-holds Inv-loop μ-loop
 loop-holds c = (omega arith, search highest-none)
-
-offer-at-requires : tie.Need-offer-at-requires Inv-loop μ-loop
-offer-at-requires c κs = search needs
 
 higher-requires : tie.Need-higher-requires Inv-loop μ-loop
 higher-requires c κs = search needs
@@ -42,7 +39,6 @@ price-spec =
     Inv-loop
     μ-loop
     loop-holds
-    offer-at-requires
     higher-requires
     add-i
     loop-less

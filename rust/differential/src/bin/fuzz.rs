@@ -36,5 +36,6 @@ fn main() {
     let rate = tally.trials() as f64 / start.elapsed().as_secs_f64();
     println!("seed {seed}: {} pairs of files in {} s, {rate:.0} a second: no difference", tally.trials(), seconds);
     println!("settled {}, refused by number {:?}", tally.settled, &tally.refused[1..]);
+    println!("called bids above the price in {}", tally.outbid);
     println!("rows copied {}, files rewritten {}", tally.rows_copied, tally.rewritten);
 }

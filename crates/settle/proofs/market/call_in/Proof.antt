@@ -10,7 +10,7 @@ clear-in-requires c κs = search needs
 put-column-requires : tie.Need-put-column-requires
 put-column-requires c κs =
     let called = c .before .before .before .before .before .before .before .before in
-    calls-lined _ _ _ _ _ (called .before .before .before .before .before .before .before .before .before .pre .0) _ _ _ (called .clear-in .ensures)
+    calls-lined _ _ _ _ (called .before .before .before .before .before .before .before .before .before .pre .0) _ _ _ (called .clear-in .ensures)
 
 same-length : tie.Need-same-length
 same-length c = search needs

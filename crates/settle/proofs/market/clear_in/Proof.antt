@@ -1,5 +1,5 @@
 -- `settle::market::clear_in` meets its contract: the columns read are the fields'.
-use Rattle.settle.proofs.Tiers.{widths-asked, bids-asked, tier-ready, tier-cleared}
+use Rattle.settle.proofs.Tiers.{widths-asked, bids-asked, tier-ready, columns-level, energies-asked, tier-cleared}
 use borrow.Author.Needs.{needs}
 use Rattle.settle.proofs.market.clear_in.Statement.{statement}
 use Rattle.settle.proofs.market.clear_in.Tie as tie
@@ -7,8 +7,17 @@ use Rattle.settle.proofs.market.clear_in.Tie as tie
 get-pair-requires : tie.Need-get-pair-requires
 get-pair-requires c κs = search (widths-asked, bids-asked)
 
-clear-requires : tie.Need-clear-requires
-clear-requires c κs = search tier-ready
+call-tier-requires : tie.Need-call-tier-requires
+call-tier-requires c κs = search tier-ready
+
+price-in-requires : tie.Need-price-in-requires
+price-in-requires c κs =
+    let called = c .before .before .before .before .before in
+    let read = called .before .before .before .before .before .before .before .before in
+    let p = read .before .before .before .before .before .before .before .pre in
+    let is = read .get-pair .ensures in
+    let made = called .call-tier .ensures in
+    (columns-level _ _ _ _ _ _ (p .0) (p .1) _ _ (is .0) (is .1) _ _ _ made, energies-asked _ _ _ _ _ _ (p .0) (p .1) _ _ (is .0) (is .1) _ _ _ made)
 
 same-length : tie.Need-same-length
 same-length c = search needs
@@ -25,4 +34,11 @@ returns c = search tier-cleared
 pub clear-in-spec : {M : Type 1} → statement M
 clear-in-spec =
     tie.close
-    (tie.spec get-pair-requires clear-requires same-length same-length-2 same-length-3 returns)
+    (tie.spec
+    get-pair-requires
+    call-tier-requires
+    price-in-requires
+    same-length
+    same-length-2
+    same-length-3
+    returns)

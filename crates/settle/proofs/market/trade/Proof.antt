@@ -16,11 +16,8 @@ abbrev μ-loop : tie.MeasureT-loop
 loop-holds : tie.Need-loop-holds Inv-loop μ-loop
 loop-holds c = (search needs, search needs, search sofar-none)
 
-width-of-requires : tie.Need-width-of-requires Inv-loop μ-loop
-width-of-requires c κs = search needs
-
-bid-of-requires : tie.Need-bid-of-requires Inv-loop μ-loop
-bid-of-requires c κs = search needs
+fields-of-requires : tie.Need-fields-of-requires Inv-loop μ-loop
+fields-of-requires c κs = search needs
 
 call-requires : tie.Need-call-requires Inv-loop μ-loop
 call-requires c κs = search sofar-asked
@@ -47,8 +44,7 @@ trade-spec =
     Inv-loop
     μ-loop
     loop-holds
-    width-of-requires
-    bid-of-requires
+    fields-of-requires
     call-requires
     add-tier
     loop-less
