@@ -48,13 +48,13 @@ figuresAt b =
 
 -- ---- a tier's price (02, request 1), said of the rows that count
 
--- a row delivers in a tier: it ran as usual, was called there for more than 0, and its meter shows energy there
+-- a row delivers in a tier: it ran as usual, was called there for more than 0 (so it is thermal), and its meter shows energy there
 pub record Delivers (r : Row) (call energy : ℕ) : Type 0 where
   pub normal : r .status ≡ normal
   pub called : 0 < call
   pub delivered : 0 < energy
 
--- the price that n rows set which deliver or not and bid
+-- a price is set by n rows, of which some deliver, and their bids
 pub record SetBy (n : ℕ) (deliver : ℕ → Type 0) (bid : ℕ → ℕ) (price : ℕ) : Type 0 where
   -- it is the bid of a row that delivers, unless it is 0
   pub is-bid : 0 < price → (i : ℕ) × (i < n) × deliver i × (bid i ≡ price)
