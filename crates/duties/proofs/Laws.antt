@@ -3,8 +3,8 @@
 --     baseline-most, baseline-least            where the baseline lies
 --     width1-most, width2-most, energies-most, weight-most, cap-most     how large its figures get
 --     width1-offers, width2-offers             a row with a band offers
---     energy1-paid, energy2-paid               a row with paid energy is thermal, of status 0, and delivered by its meter
---     paid-energy1, paid-energy2               a thermal row of status 0 is paid for what its meter shows
+--     energy1-whose, energy2-whose             a row with paid energy is thermal, of status 0, and its meter shows energy
+--     energy1-is, energy2-is                   a thermal row of status 0 is paid for what its meter shows
 --     bids2-above                              the bid of a row with a band in tier 2 is at least that tier's lowest
 --     not-payer                                a row that does not pay has weight 0 and cap 0
 --     at-baseline                              a row at its baseline or above delivered nothing
@@ -29,7 +29,7 @@ use Rattle.files.specs.declared.Row.{Row}
 use Rattle.files.specs.declared.Terms.{Terms}
 use Rattle.files.specs.Terms.{baseline, Sound}
 use Rattle.files.proofs.Ranges.{RowRanges}
-use Rattle.duties.specs.Duty.{thermal, normal, width1, width2, delivered1, delivered2, receives, energy1, energy2, payer, weight, cap}
+use Rattle.duties.specs.Duty.{thermal, normal, width1, width2, meterEnergy1, meterEnergy2, receives, energy1, energy2, payer, weight, cap}
 use Rattle.duties.specs.Duties.{Duties, Level, dutiesOf}
 use Rattle.duties.specs.Ranged.{Ranged}
 
@@ -59,8 +59,8 @@ unfolding width2
 width2-offers t r p = eqb-true (r .offered) 1 (chosen (eqb (r .offered) 1) _ p)
 
 -- who is paid for some energy: a thermal row of status 0
-paid-for : (r : Row) (x : ℕ) → 0 < cond (receives r) x 0 → (r .kind ≡ thermal) × (r .status ≡ normal) × (0 < x)
-paid-for r x p =
+paid-whose : (r : Row) (x : ℕ) → 0 < cond (receives r) x 0 → (r .kind ≡ thermal) × (r .status ≡ normal) × (0 < x)
+paid-whose r x p =
     let yes = chosen (receives r) x p in
     let there : cond (receives r) x 0 ≡ x = rw yes refl in (
       eqb-true (r .kind) thermal (left-true (eqb (r .kind) thermal) (eqb (r .status) normal) yes),
@@ -68,25 +68,25 @@ paid-for r x p =
       omega (arith, p, there),
     )
 
-for-paid : (r : Row) (x : ℕ) → r .kind ≡ thermal → r .status ≡ normal → cond (receives r) x 0 ≡ x
-for-paid r x k z = rw (eq-eqb (r .kind) thermal k, eq-eqb (r .status) normal z) refl
+paid-is : (r : Row) (x : ℕ) → r .kind ≡ thermal → r .status ≡ normal → cond (receives r) x 0 ≡ x
+paid-is r x k z = rw (eq-eqb (r .kind) thermal k, eq-eqb (r .status) normal z) refl
 
 module _ (t : Terms) (r : Row) where
-  pub energy1-paid : 0 < energy1 t r → (r .kind ≡ thermal) × (r .status ≡ normal) × (0 < delivered1 t r)
+  pub energy1-whose : 0 < energy1 t r → (r .kind ≡ thermal) × (r .status ≡ normal) × (0 < meterEnergy1 t r)
   unfolding energy1
-  energy1-paid p = paid-for r (delivered1 t r) p
+  energy1-whose p = paid-whose r (meterEnergy1 t r) p
 
-  pub energy2-paid : 0 < energy2 t r → (r .kind ≡ thermal) × (r .status ≡ normal) × (0 < delivered2 t r)
+  pub energy2-whose : 0 < energy2 t r → (r .kind ≡ thermal) × (r .status ≡ normal) × (0 < meterEnergy2 t r)
   unfolding energy2
-  energy2-paid p = paid-for r (delivered2 t r) p
+  energy2-whose p = paid-whose r (meterEnergy2 t r) p
 
-  pub paid-energy1 : r .kind ≡ thermal → r .status ≡ normal → energy1 t r ≡ delivered1 t r
+  pub energy1-is : r .kind ≡ thermal → r .status ≡ normal → energy1 t r ≡ meterEnergy1 t r
   unfolding energy1
-  paid-energy1 k z = for-paid r (delivered1 t r) k z
+  energy1-is k z = paid-is r (meterEnergy1 t r) k z
 
-  pub paid-energy2 : r .kind ≡ thermal → r .status ≡ normal → energy2 t r ≡ delivered2 t r
+  pub energy2-is : r .kind ≡ thermal → r .status ≡ normal → energy2 t r ≡ meterEnergy2 t r
   unfolding energy2
-  paid-energy2 k z = for-paid r (delivered2 t r) k z
+  energy2-is k z = paid-is r (meterEnergy2 t r) k z
 
 pub in-range : (t : Terms) (r : Row) → RowRanges t r → Ranged r
 in-range t r h = record { metered = omega (arith, h .capacity-high, h .metered) }

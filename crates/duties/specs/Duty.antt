@@ -54,12 +54,12 @@ energyIn1 base c e = base - max e (foot c)
 abbrev pub energyIn2 : ℕ → ℕ → ℕ → ℕ
 energyIn2 base c e = min base (foot c) - e
 
--- what a row delivers in each tier by its meter, whether it is paid for it or not
-abbrev pub delivered1 : Terms → Row → ℕ
-delivered1 t r = energyIn1 (baseline t (r .capacity)) (r .capacity) (r .metered .0)
+-- the energy that a row's meter shows in each tier, whether it is paid for it or not
+abbrev pub meterEnergy1 : Terms → Row → ℕ
+meterEnergy1 t r = energyIn1 (baseline t (r .capacity)) (r .capacity) (r .metered .0)
 
-abbrev pub delivered2 : Terms → Row → ℕ
-delivered2 t r = energyIn2 (baseline t (r .capacity)) (r .capacity) (r .metered .0)
+abbrev pub meterEnergy2 : Terms → Row → ℕ
+meterEnergy2 t r = energyIn2 (baseline t (r .capacity)) (r .capacity) (r .metered .0)
 
 -- 01, Compensation: thermal rows of status 0 are paid for what they delivered, others not
 abbrev pub receives : Row → Bool
@@ -67,11 +67,11 @@ receives r = eqb (r .kind) thermal && eqb (r .status) normal
 
 -- the energy that a row is paid for in tier 1
 unfoldable pub energy1 : Terms → Row → ℕ
-energy1 t r = cond (receives r) (delivered1 t r) 0
+energy1 t r = cond (receives r) (meterEnergy1 t r) 0
 
 -- the energy that a row is paid for in tier 2
 unfoldable pub energy2 : Terms → Row → ℕ
-energy2 t r = cond (receives r) (delivered2 t r) 0
+energy2 t r = cond (receives r) (meterEnergy2 t r) 0
 
 -- Articles 21, 29: wind and solar of status 0 pay, and thermal rows at or above the baseline unless their status is 3
 unfoldable pub payer : Terms → Row → Bool

@@ -182,7 +182,7 @@ pub fn call_tier(need: Kwh, first: usize, widths: &[u32], bids: &[u32], called: 
     walk(need, first, widths, bids, called, &mut parts[..n])
 }
 
-// The higher of a bid and that of row i, if the row was called and delivered.
+// The higher of a bid and that of row i, if the row delivers: it was called and has energy to be paid for.
 fn higher(top: Li, i: usize, bids: &[u32], called: &[u32], energies: &[u32]) -> Li
     requires { ⌜ (i < length (now bids)) × OneLength (now bids) (now called) (now energies) ⌝ }
     ensures { λ r. ⌜ r .0 ≡ higher (top .0) i (now (bids .entry)) (now (called .entry)) (now (energies .entry)) ⌝ }
@@ -200,7 +200,7 @@ fn higher(top: Li, i: usize, bids: &[u32], called: &[u32], energies: &[u32]) -> 
     top
 }
 
-// A tier's clearing price: the highest bid among the rows that were called there and delivered, and 0 if there is none.
+// A tier's clearing price: the highest bid among the rows that deliver there, and 0 if there is none.
 pub fn price(bids: &[u32], called: &[u32], energies: &[u32]) -> Li
     requires { ⌜ OneLength (now bids) (now called) (now energies) ⌝ }
     ensures { λ r. ⌜ r .0 ≡ price (now (bids .entry)) (now (called .entry)) (now (energies .entry)) ⌝ }

@@ -13,7 +13,7 @@ fn show(a: u64, b: u64) {
     io::write_all(1, b"\n");
 }
 
-// A row in one tier: what it offers, what it bid, what it delivered.
+// A row in one tier: what it offers, what it bid, the energy that it is paid for.
 struct Band {
     width: u32,
     bid: u32,
@@ -59,7 +59,7 @@ fn show_both() {
 }
 
 // The last unit that delivered sets the price (02, request 1): the dearer of two delivers nothing; the only one called delivers nothing;
-// the one that delivers is called for nothing.
+// the one that has energy is called for nothing.
 fn show_delivered() {
     show_tier(Kwh(5000), offer(2500, 200, 2500), offer(2500, 300, 0));
     show_tier(Kwh(3000), offer(2500, 200, 0), nothing());

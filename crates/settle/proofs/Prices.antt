@@ -18,9 +18,9 @@ use Rattle.files.specs.declared.Row.{Row}
 use Rattle.files.specs.declared.Terms.{Terms}
 use Rattle.files.specs.declared.Verdict.the-variants.{Accepted}
 use Rattle.files.proofs.Ranges.{Offers, RowRanges, terms-sound}
-use Rattle.duties.specs.Duty.{thermal, normal, width1, width2, delivered1, delivered2, energy1, energy2}
+use Rattle.duties.specs.Duty.{thermal, normal, width1, width2, meterEnergy1, meterEnergy2, energy1, energy2}
 use Rattle.duties.specs.Duties.{Duties, dutiesOf}
-use Rattle.duties.proofs.Laws.{width1-offers, width2-offers, energy1-paid, energy2-paid, paid-energy1, paid-energy2}
+use Rattle.duties.proofs.Laws.{width1-offers, width2-offers, energy1-whose, energy2-whose, energy1-is, energy2-is}
 use Rattle.merit.specs.Band.{Tier, one, two, widths}
 use Rattle.merit.specs.Call.{calls}
 use Rattle.merit.specs.Price.{price}
@@ -32,12 +32,12 @@ use Rattle.settle.proofs.Accepted.{rows-ranged}
 use Rattle.settle.proofs.Demand1.{settled-accepted}
 use Rattle.settle.proofs.Demand2.{statement-figures}
 
--- ---- of either tier: what a row offers there, is paid for, delivered by its meter and bid, and what each row is called for
+-- ---- of either tier: what a row offers there, is paid for, shows by its meter and bid, and what each row is called for
 
-module _ (t : Terms) (n : ℕ) (row : ℕ → Row) (ranged : Below n (λ i. RowRanges t (row i))) (width energy delivered bid : Row → ℕ) (cs : List ℕ)
+module _ (t : Terms) (n : ℕ) (row : ℕ → Row) (ranged : Below n (λ i. RowRanges t (row i))) (width energy shown bid : Row → ℕ) (cs : List ℕ)
     (offers : (r : Row) → 0 < width r → r .offered ≡ 1)
-    (paid : (r : Row) → 0 < energy r → (r .kind ≡ thermal) × (r .status ≡ normal) × (0 < delivered r))
-    (pays : (r : Row) → r .kind ≡ thermal → r .status ≡ normal → energy r ≡ delivered r)
+    (whose : (r : Row) → 0 < energy r → (r .kind ≡ thermal) × (r .status ≡ normal) × (0 < shown r))
+    (is : (r : Row) → r .kind ≡ thermal → r .status ≡ normal → energy r ≡ shown r)
     (bids : (r : Row) → Offers t r → 0 < bid r)
     (band : (i : ℕ) → 0 < at cs i → 0 < at (table n (λ j. width (row j))) i) where
   abbrev bs : List ℕ
@@ -47,7 +47,7 @@ module _ (t : Terms) (n : ℕ) (row : ℕ → Row) (ranged : Below n (λ i. RowR
   es = table n (λ i. energy (row i))
 
   abbrev deliver : ℕ → Type 0
-  deliver i = Delivers (row i) (at cs i) (delivered (row i))
+  deliver i = Delivers (row i) (at cs i) (shown (row i))
 
   bid-at : (i : ℕ) → i < n → at bs i ≡ bid (row i)
   bid-at = table-at 0 n (λ i. bid (row i))
@@ -61,12 +61,12 @@ module _ (t : Terms) (n : ℕ) (row : ℕ → Row) (ranged : Below n (λ i. RowR
   by-fields : (i : ℕ) → Delivered bs cs es i → (i < n) × deliver i
   by-fields i x =
       let l : i < n = omega (arith, x .0, table-length n (λ j. bid (row j))) in
-      let w = paid (row i) (omega (arith, x .2, table-at 0 n (λ j. energy (row j)) i l)) in
+      let w = whose (row i) (omega (arith, x .2, table-at 0 n (λ j. energy (row j)) i l)) in
       (l, record { normal = w .1; called = x .1; delivered = w .2 })
 
   by-columns : (i : ℕ) → i < n → deliver i → Delivered bs cs es i
   by-columns i l x =
-      let same = pays (row i) (offering i l (x .called) .kind) (x .normal) in (
+      let same = is (row i) (offering i l (x .called) .kind) (x .normal) in (
         omega (arith, table-length n (λ j. bid (row j))),
         x .called,
         omega (arith, table-at 0 n (λ j. energy (row j)) i l, same, x .delivered),
@@ -107,10 +107,10 @@ module _ (s k : List ℕ) (n : ℕ) (h : verdictOf s k ≡ Accepted n) where
       let of = set-by t (rowCount s) (countingRow s k) (rows-ranged s k n h) in
       record {
         tier1 =
-            of (width1 t) (energy1 t) (delivered1 t) (λ r. r .bid1 .0) (made one) (width1-offers t) (energy1-paid t) (paid-energy1 t)
+            of (width1 t) (energy1 t) (meterEnergy1 t) (λ r. r .bid1 .0) (made one) (width1-offers t) (energy1-whose t) (energy1-is t)
             (λ r o. omega (arith, o .bid1-low, sound .first)) (called-width one);
         tier2 =
-            of (width2 t) (energy2 t) (delivered2 t) (λ r. r .bid2 .0) (made two) (width2-offers t) (energy2-paid t) (paid-energy2 t)
+            of (width2 t) (energy2 t) (meterEnergy2 t) (λ r. r .bid2 .0) (made two) (width2-offers t) (energy2-whose t) (energy2-is t)
             (λ r o. omega (arith, o .bid2-low, sound .first, sound .rising1, sound .apart)) (called-width two);
       }
 

@@ -12,7 +12,7 @@ use Rattle.files.specs.Layout.{rowCount}
 use Rattle.files.specs.Terms.{termsOf}
 use Rattle.files.specs.Counting.{countingRow}
 use Rattle.files.specs.declared.Row.{Row}
-use Rattle.duties.specs.Duty.{normal, delivered1, delivered2}
+use Rattle.duties.specs.Duty.{normal, meterEnergy1, meterEnergy2}
 use Rattle.levy.specs.Rounds.{payers}
 use Rattle.levy.specs.Capped.{hasClosed, outside, payersInside, capsInside, leftBy, weightsBeside, Capped}
 use Rattle.records.specs.Sheet.{columnOf}
@@ -66,10 +66,10 @@ pub record SetBy (n : ℕ) (deliver : ℕ → Type 0) (bid : ℕ → ℕ) (price
 -- both prices of a pair of files, by the calls that are stated and by what the meters show
 pub record Prices (s k : List ℕ) (f : Figures) : Type 0 where
   pub tier1 :
-      SetBy (rowCount s) (λ i. Delivers (countingRow s k i) (at (f .called1) i) (delivered1 (termsOf s) (countingRow s k i)))
+      SetBy (rowCount s) (λ i. Delivers (countingRow s k i) (at (f .called1) i) (meterEnergy1 (termsOf s) (countingRow s k i)))
       (λ i. countingRow s k i .bid1 .0) (f .price1)
   pub tier2 :
-      SetBy (rowCount s) (λ i. Delivers (countingRow s k i) (at (f .called2) i) (delivered2 (termsOf s) (countingRow s k i)))
+      SetBy (rowCount s) (λ i. Delivers (countingRow s k i) (at (f .called2) i) (meterEnergy2 (termsOf s) (countingRow s k i)))
       (λ i. countingRow s k i .bid2 .0) (f .price2)
 
 -- ---- demand 3, said of any figures

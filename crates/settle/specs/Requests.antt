@@ -48,7 +48,7 @@ meteredX metered = threeRows 3000 (offering 1 metered 0 200 400) (thermalRow 2 2
 abbrev pub besideX : ℕ → ℕ → List ℕ
 besideX metered status = threeRows 9000 (offering 1 9000 0 200 400) (offering 2 metered status 300 500) (windRow 3 5000)
 
--- the price of P9's two bands if the first alone delivers
+-- the price of P9's two bands if the first alone has energy
 abbrev pub priceTwo : ℕ → ℕ
 priceTwo need = price (twoBands .bids1) (calls need twoBands 0 one) (2500 ∷ 0 ∷ [])
 
@@ -64,11 +64,11 @@ requestTable =
     ∷ entry (settledThree (meteredX 11000)) (0 ∷ 200 ∷ 0 ∷ 30000 ∷ 0 ∷ 0 ∷ 30000 ∷ 0 ∷ 0 ∷ 0 ∷ 22500 ∷ 7500 ∷ [])
     -- the dearer row stayed above half load: it pays, and the prices are row 1's
     ∷ entry (settledThree (besideX 20000 0)) (0 ∷ 200 ∷ 400 ∷ 90000 ∷ 0 ∷ 1 ∷ 90000 ∷ 0 ∷ 0 ∷ 0 ∷ 65000 ∷ 25000 ∷ [])
-    -- it delivered, but was starting or reduced: no price, no pay, and only the wind farm is left to pay
+    -- it ran as low as row 1, but was starting or reduced: no price, no pay, and only the wind farm is left to pay
     ∷ entry (settledThree (besideX 9000 1)) (0 ∷ 200 ∷ 400 ∷ 90000 ∷ 57500 ∷ 1 ∷ 90000 ∷ 0 ∷ 0 ∷ 0 ∷ 0 ∷ 32500 ∷ [])
     ∷ entry (settledThree (besideX 9000 2)) (0 ∷ 200 ∷ 400 ∷ 90000 ∷ 57500 ∷ 1 ∷ 90000 ∷ 0 ∷ 0 ∷ 0 ∷ 0 ∷ 32500 ∷ [])
-    -- of status 0 it would have set both prices
+    -- in status 0 it delivers and sets both prices
     ∷ entry (settledThree (besideX 9000 0)) (0 ∷ 300 ∷ 500 ∷ 250000 ∷ 217500 ∷ 1 ∷ 125000 ∷ 125000 ∷ 0 ∷ 0 ∷ 0 ∷ 32500 ∷ [])
-    -- two bands at one bid, of which the first alone delivers: a need of 1 calls the second, a need of 100 both
+    -- two bands at one bid, of which the first alone has energy: a need of 1 calls the second, a need of 100 both
     ∷ entry (priceTwo 1 ∷ priceTwo 100 ∷ []) (0 ∷ 200 ∷ [])
     ∷ []

@@ -165,53 +165,71 @@ fn dearer(metered: u32) -> Row {
 }
 
 #[test]
-fn request_1_called_and_delivered_nothing() {
-    // Half load exactly: row 1 is called as before, but it delivers nothing and pays with a weight of 0.
-    let text = "0 0 0 0 0 0 0 0 3\n\
-                1 2500 500 0 0 0 40625 0 0\n\
-                2 0 0 0 0 15000 65000 0 0\n\
-                3 0 0 0 0 5000 32500 0 0\n";
-    assert_eq!(tell(&bytes(&x_metered(12_500))), text);
+fn request_1_statements() {
+    let statements = [
+        // Half load exactly: row 1 is called as before, but it delivers nothing and pays with a weight of 0.
+        (
+            x_metered(12_500),
+            [
+                "0 0 0 0 0 0 0 0 3",
+                "1 2500 500 0 0 0 40625 0 0",
+                "2 0 0 0 0 15000 65000 0 0",
+                "3 0 0 0 0 5000 32500 0 0",
+            ],
+        ),
+        // 1 kWh at 200 li are 20 fen, of which rows 2 and 3 pay three parts and one.
+        (
+            x_metered(12_499),
+            [
+                "0 0 200 0 20 0 0 0 3",
+                "1 2500 500 20 0 0 0 0 0",
+                "2 0 0 0 0 15000 65000 15 0",
+                "3 0 0 0 0 5000 32500 5 0",
+            ],
+        ),
+        // Called in tier 2 too, but 12,500 less 11,000 is 1,500 kWh in tier 1 alone, at 200 li: 30,000 fen.
+        (
+            x_metered(11_000),
+            [
+                "0 0 200 0 30000 0 0 0 3",
+                "1 2500 500 30000 0 0 0 0 0",
+                "2 0 0 0 0 15000 65000 22500 0",
+                "3 0 0 0 0 5000 32500 7500 0",
+            ],
+        ),
+        // Row 2 is called in full at 300 and 500 li, but ran at 80 percent: prices stay those of row 1, and so does the rest.
+        (
+            x_beside(dearer(20_000)),
+            [
+                "0 0 200 400 90000 0 1 0 3",
+                "1 2500 2000 90000 0 0 0 0 0",
+                "2 2500 2000 0 0 15000 65000 65000 1",
+                "3 0 0 0 0 5000 32500 25000 0",
+            ],
+        ),
+    ];
+    for (interval, lines) in statements {
+        assert_eq!(tell(&bytes(&interval)).lines().collect::<Vec<_>>(), lines);
+    }
 }
 
 #[test]
-fn request_1_one_kwh_sets_the_price() {
-    // 1 kWh at 200 li are 20 fen, of which rows 2 and 3 pay three parts and one.
-    let text = "0 0 200 0 20 0 0 0 3\n\
-                1 2500 500 20 0 0 0 0 0\n\
-                2 0 0 0 0 15000 65000 15 0\n\
-                3 0 0 0 0 5000 32500 5 0\n";
-    assert_eq!(tell(&bytes(&x_metered(12_499))), text);
-}
-
-#[test]
-fn request_1_called_in_tier_2_delivered_in_tier_1() {
-    // 12,500 less 11,000 is 1,500 kWh at 200 li: 30,000 fen.
-    let text = "0 0 200 0 30000 0 0 0 3\n\
-                1 2500 500 30000 0 0 0 0 0\n\
-                2 0 0 0 0 15000 65000 22500 0\n\
-                3 0 0 0 0 5000 32500 7500 0\n";
-    assert_eq!(tell(&bytes(&x_metered(11_000))), text);
-    // 40 percent exactly delivers all of tier 1 and nothing of tier 2; a kWh less delivers there too.
-    assert_eq!(told(&x_metered(10_000))[0][2..5], [200, 0, 50_000]);
-    assert_eq!(told(&x_metered(9_999))[0][2..5], [200, 400, 50_040]);
-}
-
-#[test]
-fn request_1_the_dearer_row_stayed_above_half_load() {
-    // Row 2 is called in full at 300 and 500 li, but ran at 80 percent: prices stay those of row 1, and so does the rest.
-    let text = "0 0 200 400 90000 0 1 0 3\n\
-                1 2500 2000 90000 0 0 0 0 0\n\
-                2 2500 2000 0 0 15000 65000 65000 1\n\
-                3 0 0 0 0 5000 32500 25000 0\n";
-    assert_eq!(tell(&bytes(&x_beside(dearer(20_000)))), text);
-    // Had it delivered as row 1 did, it would have set both: 2,500 x 300 + 1,000 x 500 li for each of the two rows.
-    assert_eq!(told(&x_beside(dearer(9_000)))[0][2..5], [300, 500, 250_000]);
+fn request_1_prices_and_totals() {
+    let figures = [
+        // 40 percent exactly delivers all of tier 1 and nothing of tier 2; a kWh less delivers there too.
+        (x_metered(10_000), [200, 0, 50_000]),
+        (x_metered(9_999), [200, 400, 50_040]),
+        // The dearer row runs as low as row 1: 2,500 x 300 + 1,000 x 500 li for each of the two.
+        (x_beside(dearer(9_000)), [300, 500, 250_000]),
+    ];
+    for (interval, due) in figures {
+        assert_eq!(told(&interval)[0][2..5], due);
+    }
 }
 
 #[test]
 fn request_1_a_dearer_row_of_another_status() {
-    // Row 2 delivered as row 1 did, but is starting, reduced or in a grid accident: not paid, and it sets no price.
+    // Row 2 runs as low as row 1, but is starting, reduced or in a grid accident: not paid, and it sets no price.
     let text = "0 0 200 400 90000 57500 1 0 3\n\
                 1 2500 2000 90000 57500 0 0 0 0\n\
                 2 2500 2000 0 0 0 0 0 0\n\
@@ -223,11 +241,11 @@ fn request_1_a_dearer_row_of_another_status() {
 
 #[test]
 fn request_1_called_for_nothing_sets_no_price() {
-    // A need of 1 kWh at one bid goes to the wider band. Its row delivered nothing; the row that did was called for 0.
+    // A need of 1 kWh at one bid goes to the wider band. Its row stayed at half load; the row that ran low is called for 0.
     let idle = Row { capacity: 200, minimum: 20_000, ..offering(2, 25_000, 0, [200, 320]) };
     let calls = call(&[offering(1, 9_000, 10_000, [200, 320]), idle], 1);
     assert_eq!(calls, Calls { called: vec![[0, 0], [1, 0]], prices: [0, 0], uncovered: 0 });
-    // At the same bid one row of those called that delivered is enough.
+    // A need of 100 calls both, and one that delivers is enough.
     let calls = call(&[offering(1, 9_000, 10_000, [200, 320]), idle], 100);
     assert_eq!(calls, Calls { called: vec![[33, 0], [67, 0]], prices: [200, 0], uncovered: 0 });
 }

@@ -123,8 +123,8 @@ fn prices() -> Vec<Case> {
     let mut cases = vec![
         case("called in tier 2, delivered in tier 1", &x_with(|x| x.rows[0].metered = 11_000)),
         case("nobody of those called delivered", &x_with(|x| x.rows[0].metered = 27_500)),
-        case("the only row that delivered is called for nothing", &tied(1)),
-        case("one of two at a bid delivered", &tied(100)),
+        case("the only row with energy is called for nothing", &tied(1)),
+        case("one of two at a bid delivers", &tied(100)),
     ];
     for metered in [0, 9_999, 10_000, 12_499, 12_500, 20_000] {
         cases.push(case(format!("the dearer row metered {metered}"), &beside(dearer(metered))));
