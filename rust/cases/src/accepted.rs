@@ -13,8 +13,10 @@ pub enum Shape {
     Edges,
     /// All bands at two or three bids, the need somewhere among them.
     TiedBids,
-    /// Equal weights, so that leftovers go by id alone.
+    /// Equal weights, so that leftovers of payments go by turn alone.
     TiedRemainders,
+    /// Rows of two sorts, one that is called and delivers and one that pays: what is left over of calls, payments and cuts goes by turn.
+    Alike,
     AllCapped,
     /// One payer, or a few alike, closes in each of many rounds.
     ManyRounds,
@@ -36,11 +38,12 @@ pub enum Shape {
     Full,
 }
 
-pub const SHAPES: [Shape; 18] = [
+pub const SHAPES: [Shape; 19] = [
     Shape::Mixed,
     Shape::Edges,
     Shape::TiedBids,
     Shape::TiedRemainders,
+    Shape::Alike,
     Shape::AllCapped,
     Shape::ManyRounds,
     Shape::HalfLoad,
@@ -152,7 +155,7 @@ fn row(random: &mut Random, shape: Shape) -> Row {
         Shape::SmallestUnits => 1,
         Shape::LargestUnits => 2_000,
         Shape::Edges => random.one_of(&[1, 2, 3, 1_999, 2_000]),
-        Shape::TiedRemainders => 300,
+        Shape::TiedRemainders | Shape::Alike => 300,
         _ if random.once_in(3) => random.one_of(&[1, 100, 300, 600, 1_000, 2_000]),
         _ => random.within(1..=2_000) as u16,
     };
@@ -169,6 +172,8 @@ fn row(random: &mut Random, shape: Shape) -> Row {
     let metered = match shape {
         Shape::Edges => edge(random, capacity),
         Shape::HalfLoad if kind == THERMAL && !receives => 125 * u32::from(capacity),
+        Shape::Alike if kind == THERMAL && receives => 20_000,
+        Shape::Alike => 60_000,
         Shape::TiedRemainders if !receives => 60_000,
         Shape::NobodyPays if random.once_in(2) => 0,
         Shape::Undelivered => {
@@ -178,7 +183,7 @@ fn row(random: &mut Random, shape: Shape) -> Row {
         _ => metered(random, capacity, receives),
     };
     let status = match (kind, shape) {
-        (_, Shape::AllCapped | Shape::TiedRemainders) => 0,
+        (_, Shape::AllCapped | Shape::TiedRemainders | Shape::Alike) => 0,
         (THERMAL, Shape::Edges | Shape::Undelivered) => random.within(0..=3) as u8,
         (THERMAL, _) if random.once_in(6) => random.within(1..=3) as u8,
         (THERMAL, _) => 0,
@@ -205,14 +210,14 @@ fn offer(random: &mut Random, shape: Shape, row: Row) -> Row {
         Shape::NoWidth if random.once_in(2) => half,
         Shape::NoWidth => random.within(two_fifths..=half),
         Shape::Edges => random.one_of(&[0, 1, two_fifths - 1, two_fifths, two_fifths + 1, half - 1, half]),
-        Shape::TiedRemainders => 10_000,
+        Shape::TiedRemainders | Shape::Alike => 10_000,
         _ => random.within(0..=half),
     };
     let bids = match shape {
         Shape::Edges => [random.one_of(&[100, 101, 319, 320]), random.one_of(&[320, 321, 749, 750])],
         Shape::TiedBids => [random.one_of(&[200, 200, 320]), random.one_of(&[320, 320, 500])],
         Shape::Undelivered if random.once_in(2) => [200, 400],
-        Shape::TiedRemainders => [150, 400],
+        Shape::TiedRemainders | Shape::Alike => [150, 400],
         _ => [random.within(100..=320) as u16, random.within(320..=750) as u16],
     };
     row.offering(minimum, bids[0], bids[1])

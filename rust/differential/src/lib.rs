@@ -31,6 +31,8 @@ pub struct Tally {
     pub rewritten: u64,
     /// Settlements in which a row that was called but did not deliver bid above a tier's price.
     pub outbid: u64,
+    /// Settlements whose calls, payments and cuts are others than by the lower id.
+    pub turned: [u64; 3],
 }
 
 impl Tally {
@@ -44,6 +46,7 @@ impl Tally {
         self.rows_copied += other.rows_copied;
         self.rewritten += other.rewritten;
         self.outbid += other.outbid;
+        self.turned.iter_mut().zip(other.turned).for_each(|(sum, more)| *sum += more);
     }
 }
 
@@ -70,6 +73,7 @@ pub fn trial(seed: u64, number: u64, tally: &mut Tally) -> Result<(), String> {
             demands::check(statement).map_err(|what| format!("{what} ({})", case.name))?;
             tally.settled += 1;
             tally.outbid += u64::from(outbid(&case.interval, statement)?);
+            tally.turned.iter_mut().zip(turned(&case, statement)).for_each(|(sum, is)| *sum += u64::from(is));
         }
         Err((number, _)) => tally.refused[usize::from(number)] += 1,
     }
@@ -94,6 +98,22 @@ fn outbid(interval: &[u8], statement: &[u8]) -> Result<bool, String> {
         return Err(format!("prices {prices:?} above the bids called, {called:?}"));
     }
     Ok(prices != called)
+}
+
+/// Whether calls, payments and cuts are others than at quarter 0, where leftovers go to the lower id as before request 2.
+fn turned(case: &Case, statement: &[u8]) -> [bool; 3] {
+    let at_quarter_0 = |file: &[u8]| {
+        let mut file = file.to_vec();
+        file.get_mut(6).into_iter().for_each(|quarter| *quarter = 0);
+        file
+    };
+    let mut before = vec![0; statement.len()];
+    reference::settle(&at_quarter_0(&case.interval), &at_quarter_0(&case.correction), &mut before)
+        .expect("a pair is accepted at any quarter");
+    [4..12, 28..32, 16..20].map(|field| {
+        let mut lines = statement[35..].chunks_exact(34).zip(before[35..].chunks_exact(34));
+        lines.any(|(line, before)| line[field.clone()] != before[field.clone()])
+    })
 }
 
 /// Accepted files, files with faults put in, and files damaged without a plan.

@@ -2,7 +2,7 @@
 
 use crate::files::Row;
 use crate::money::paid_energy;
-use crate::share::share;
+use crate::share::{Sharer, Turns, share};
 
 #[derive(Clone, Debug, PartialEq, Eq)]
 pub struct Calls {
@@ -31,13 +31,17 @@ impl Band {
         u64::from(self.rank()) << 16 | u64::from(self.row)
     }
 
+    fn sharer(&self) -> Sharer {
+        Sharer { position: self.row.into(), weight: self.width.into() }
+    }
+
     fn called<'a>(&self, called: &'a mut [[u32; 2]]) -> &'a mut u32 {
         &mut called[usize::from(self.row)][usize::from(self.tier)]
     }
 }
 
 /// Calls the bands of all offering rows by rising bid, tier 1 before tier 2, until the need is met.
-pub fn call(rows: &[Row], need: u32) -> Calls {
+pub fn call(rows: &[Row], need: u32, turns: Turns) -> Calls {
     let mut called = vec![[0; 2]; rows.len()];
     let mut uncovered = need;
     let mut bands = bands(rows);
@@ -53,8 +57,8 @@ pub fn call(rows: &[Row], need: u32) -> Calls {
             }
             uncovered -= width;
         } else {
-            let widths: Vec<u64> = group.iter().map(|band| band.width.into()).collect();
-            for (band, part) in group.iter().zip(share(uncovered.into(), &widths)) {
+            let sharers: Vec<Sharer> = group.iter().map(Band::sharer).collect();
+            for (band, part) in group.iter().zip(share(uncovered.into(), &sharers, turns)) {
                 *band.called(&mut called) = part as u32;
             }
             uncovered = 0;

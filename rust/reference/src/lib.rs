@@ -15,7 +15,7 @@ pub use calls::{Calls, call};
 pub use files::{CORRECTION_HEAD, INTERVAL_HEAD, Interval, MAX_ROWS, ROW, Refusal, Row, read_interval, write_interval};
 pub use money::{compensation, fen, paid_energy, solar_or_wind_cap, thermal_cap, thermal_weight};
 pub use rounds::{Payer, Rounds, redistribute};
-pub use share::share;
+pub use share::{Sharer, Turns, share};
 pub use statement::{LINE, STATEMENT_HEAD, lines_of_text};
 
 /// One byte more than the longest interval file: reading further cannot change what `tell` prints.

@@ -1,6 +1,6 @@
 //! Sharing under caps, round by round.
 
-use crate::share::share;
+use crate::share::{Sharer, Turns, share};
 
 /// One row among those who pay. A row that is no payer has weight 0 and cap 0.
 #[derive(Clone, Copy, Debug, Default, PartialEq, Eq)]
@@ -22,7 +22,7 @@ pub struct Rounds {
 
 /// Has the payers pay the total. In a round every open payer whose part at the round's rate reaches its cap closes;
 /// the round's rate is the same for all, so it is fixed before anybody closes.
-pub fn redistribute(payers: &mut [Payer], total: u64) -> Rounds {
+pub fn redistribute(payers: &mut [Payer], total: u64, turns: Turns) -> Rounds {
     let mut open: Vec<usize> = (0..payers.len()).filter(|&place| payers[place].weight > 0).collect();
     let mut rest = total;
     let mut weight: u64 = payers.iter().map(|payer| payer.weight).sum();
@@ -48,8 +48,9 @@ pub fn redistribute(payers: &mut [Payer], total: u64) -> Rounds {
     if open.is_empty() {
         return Rounds { count, shortfall: rest };
     }
-    let weights: Vec<u64> = open.iter().map(|&place| payers[place].weight).collect();
-    for (place, part) in open.into_iter().zip(share(rest, &weights)) {
+    let sharers: Vec<Sharer> =
+        open.iter().map(|&position| Sharer { position, weight: payers[position].weight }).collect();
+    for (place, part) in open.into_iter().zip(share(rest, &sharers, turns)) {
         payers[place].paid = part;
     }
     Rounds { count, shortfall: 0 }

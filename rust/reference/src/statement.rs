@@ -6,7 +6,7 @@ use crate::calls::call;
 use crate::files::{Interval, Row};
 use crate::money::{compensation, pays, solar_or_wind_cap, thermal_cap, thermal_weight};
 use crate::rounds::{Payer, redistribute};
-use crate::share::share;
+use crate::share::{Sharer, Turns, share};
 
 pub const STATEMENT_HEAD: usize = 35;
 pub const LINE: usize = 34;
@@ -18,13 +18,16 @@ const LINE_FIELDS: [usize; 9] = [2, 4, 4, 4, 4, 4, 4, 4, 2];
 /// Settles accepted contents into a buffer of exactly the statement's length.
 pub(crate) fn write(interval: &Interval, out: &mut [u8]) {
     let rows = &interval.rows;
-    let calls = call(rows, interval.need);
+    let turns = Turns::of(interval.quarter, rows.len());
+    let calls = call(rows, interval.need, turns);
     let compensations: Vec<u64> =
         rows.iter().zip(&calls.called).map(|(row, &called)| compensation(row, called, calls.prices)).collect();
     let total: u64 = compensations.iter().sum();
     let mut payers: Vec<Payer> = rows.iter().map(|row| payer(row, interval.tariff)).collect();
-    let rounds = redistribute(&mut payers, total);
-    let cuts = share(rounds.shortfall, &compensations);
+    let rounds = redistribute(&mut payers, total, turns);
+    let receivers: Vec<Sharer> =
+        compensations.iter().enumerate().map(|(position, &weight)| Sharer { position, weight }).collect();
+    let cuts = share(rounds.shortfall, &receivers, turns);
 
     let (head, body) = out.split_at_mut(STATEMENT_HEAD);
     head[..2].copy_from_slice(b"PS");

@@ -1,6 +1,8 @@
 //! The figures of document 01, P1 to P11 and those that are only run, and those worked out for the requests of document 02.
 
-use reference::{Calls, Interval, Row, call, fen, paid_energy, settle, share, tell, thermal_cap, thermal_weight};
+use reference::{
+    Calls, Interval, Row, Sharer, Turns, call, fen, paid_energy, settle, share, tell, thermal_cap, thermal_weight,
+};
 
 fn row(id: u16, kind: u8, metered: u32) -> Row {
     Row { id, kind, capacity: 100, metered, status: 0, offered: 0, minimum: 0, bids: [0, 0] }
@@ -64,19 +66,30 @@ fn p6_thermal_weights() {
     assert_eq!(weights, [0, 2_500, 2_502, 7_500, 7_503, 37_500]);
 }
 
+/// An amount shared at a quarter over the weights of all rows of a file; those with a weight of 0 take no part.
+fn shared(amount: u64, weights: &[u64], quarter: u8) -> Vec<u64> {
+    let all = weights.iter().enumerate().map(|(position, &weight)| Sharer { position, weight });
+    let sharers: Vec<Sharer> = all.filter(|sharer| sharer.weight > 0).collect();
+    let mut shares = vec![0; weights.len()];
+    for (sharer, part) in sharers.iter().zip(share(amount, &sharers, Turns::of(quarter, weights.len()))) {
+        shares[sharer.position] = part;
+    }
+    shares
+}
+
 #[test]
 fn p7_p8_sharing() {
-    assert_eq!(share(100, &[1, 1, 1]), [34, 33, 33]);
-    assert_eq!(share(10, &[3, 3, 1]), [4, 4, 2]);
-    assert_eq!(share(5, &[0, 0]), [0, 0]);
-    assert_eq!(share(0, &[1, 2]), [0, 0]);
+    assert_eq!(shared(100, &[1, 1, 1], 0), [34, 33, 33]);
+    assert_eq!(shared(10, &[3, 3, 1], 0), [4, 4, 2]);
+    assert_eq!(shared(5, &[0, 0], 0), [0, 0]);
+    assert_eq!(shared(0, &[1, 2], 0), [0, 0]);
 }
 
 #[test]
 fn p9_a_shared_call() {
     let narrow = offering(1, 9_000, 10_000, [200, 320]);
     let wide = Row { capacity: 200, minimum: 20_000, ..offering(2, 9_000, 0, [200, 320]) };
-    let calls = call(&[narrow, wide], 100);
+    let calls = call(&[narrow, wide], 100, Turns::of(0, 2));
     assert_eq!(calls, Calls { called: vec![[33, 0], [67, 0]], prices: [200, 0], uncovered: 0 });
 }
 
@@ -243,9 +256,124 @@ fn request_1_a_dearer_row_of_another_status() {
 fn request_1_called_for_nothing_sets_no_price() {
     // A need of 1 kWh at one bid goes to the wider band. Its row stayed at half load; the row that ran low is called for 0.
     let idle = Row { capacity: 200, minimum: 20_000, ..offering(2, 25_000, 0, [200, 320]) };
-    let calls = call(&[offering(1, 9_000, 10_000, [200, 320]), idle], 1);
+    let rows = [offering(1, 9_000, 10_000, [200, 320]), idle];
+    let calls = call(&rows, 1, Turns::of(0, 2));
     assert_eq!(calls, Calls { called: vec![[0, 0], [1, 0]], prices: [0, 0], uncovered: 0 });
     // A need of 100 calls both, and one that delivers is enough.
-    let calls = call(&[offering(1, 9_000, 10_000, [200, 320]), idle], 100);
+    let calls = call(&rows, 100, Turns::of(0, 2));
     assert_eq!(calls, Calls { called: vec![[33, 0], [67, 0]], prices: [200, 0], uncovered: 0 });
+}
+
+#[test]
+fn request_2_sharing() {
+    let figures: [(u64, &[u64], u8, &[u64]); 18] = [
+        // Three alike: 33 each, and one left over for the row whose turn it is; 95 modulo 3 is 2.
+        (100, &[1, 1, 1], 0, &[34, 33, 33]),
+        (100, &[1, 1, 1], 1, &[33, 34, 33]),
+        (100, &[1, 1, 1], 2, &[33, 33, 34]),
+        (100, &[1, 1, 1], 3, &[34, 33, 33]),
+        (100, &[1, 1, 1], 95, &[33, 33, 34]),
+        // Two left over: the last row, and round to the first.
+        (101, &[1, 1, 1], 2, &[34, 33, 34]),
+        // The row whose turn it is takes no part, so the next one that does goes first; past the end, round to the start.
+        (100, &[1, 0, 1, 1], 1, &[33, 0, 34, 33]),
+        (100, &[1, 0, 0, 1], 1, &[50, 0, 0, 50]),
+        (101, &[1, 0, 0, 1], 1, &[50, 0, 0, 51]),
+        (100, &[1, 1, 1, 0], 3, &[34, 33, 33, 0]),
+        // Counted among all rows: 5 modulo 4 is position 1. Among the three that share it would be the last of them.
+        (100, &[1, 0, 1, 1], 5, &[33, 0, 34, 33]),
+        (100, &[0, 1, 1, 1], 5, &[0, 34, 33, 33]),
+        (100, &[0, 1, 1, 1], 6, &[0, 33, 34, 33]),
+        // A larger remainder goes before, whosever turn it is.
+        (10, &[3, 3, 1], 1, &[4, 4, 2]),
+        (100, &[2, 2, 3], 0, &[29, 28, 43]),
+        (100, &[2, 2, 3], 1, &[28, 29, 43]),
+        // One row, and none.
+        (7, &[3], 95, &[7]),
+        (7, &[], 95, &[]),
+    ];
+    for (amount, weights, quarter, due) in figures {
+        assert_eq!(shared(amount, weights, quarter), due, "{amount} over {weights:?} at quarter {quarter}");
+    }
+}
+
+#[test]
+fn request_2_everybody_goes_first_once_in_as_many_quarters_as_rows() {
+    // The rule is the same past a day's last quarter, which no file has.
+    for rows in 1..=128 {
+        for start in [0, 1, 50, 95] {
+            let mut first = vec![0; rows];
+            for quarter in (start..).take(rows) {
+                let one = shared(1, &vec![1; rows], quarter);
+                first.iter_mut().zip(one).for_each(|(times, part)| *times += part);
+            }
+            assert_eq!(first, vec![1; rows], "from quarter {start}");
+        }
+    }
+}
+
+/// Rows 1 and 2 offer 2,500 kWh in tier 1 at one bid, of which 101 kWh are needed; row 3 is a wind farm.
+fn tied_calls(quarter: u8) -> Interval {
+    let rows = vec![offering(1, 12_500, 10_000, [200, 320]), offering(2, 12_500, 10_000, [200, 320]), row(3, 2, 5_000)];
+    Interval { quarter, need: 101, rows, ..x(1300) }
+}
+
+/// Row 1 delivers 5 kWh at 200 li, which are 100 fen; three wind farms alike pay them.
+fn tied_payments(quarter: u8) -> Interval {
+    let mut rows = vec![offering(1, 12_495, 10_000, [200, 320])];
+    rows.extend([2, 3, 4].map(|id| row(id, 2, 5_000)));
+    Interval { quarter, need: 2_500, rows, ..x(1300) }
+}
+
+/// Three rows deliver 5 kWh each at 200 li. The wind farm's 200 kWh at tariff 100 make a cap of 100 fen, so 200 of 300 are cut.
+fn tied_cuts(quarter: u8) -> Interval {
+    let mut rows = [1, 2, 3].map(|id| offering(id, 12_495, 10_000, [200, 320])).to_vec();
+    rows.push(row(4, 2, 200));
+    Interval { quarter, need: 7_500, rows, ..x(100) }
+}
+
+#[test]
+fn request_2_calls() {
+    // Position 2 is the wind farm, which offers nothing: row 1 goes first there, and not row 2.
+    for (quarter, due) in [(0, [51, 50]), (1, [50, 51]), (2, [51, 50]), (3, [51, 50]), (4, [50, 51]), (95, [51, 50])] {
+        let told = told(&tied_calls(quarter));
+        assert_eq!([told[1][1], told[2][1]], due, "quarter {quarter}");
+    }
+}
+
+#[test]
+fn request_2_payments() {
+    let figures = [
+        (0, [34, 33, 33]),
+        (1, [34, 33, 33]),
+        (2, [33, 34, 33]),
+        (3, [33, 33, 34]),
+        (4, [34, 33, 33]),
+        (95, [33, 33, 34]),
+    ];
+    for (quarter, due) in figures {
+        let told = told(&tied_payments(quarter));
+        assert_eq!([told[2][7], told[3][7], told[4][7]], due, "quarter {quarter}");
+        assert_eq!(told[0][1], u64::from(quarter));
+    }
+}
+
+#[test]
+fn request_2_cuts() {
+    // 66 each and two left over.
+    for (quarter, due) in
+        [(0, [67, 67, 66]), (1, [66, 67, 67]), (2, [67, 66, 67]), (3, [67, 67, 66]), (95, [67, 67, 66])]
+    {
+        let told = told(&tied_cuts(quarter));
+        assert_eq!([told[1][4], told[2][4], told[3][4]], due, "quarter {quarter}");
+        assert_eq!(told[0][4..7], [300, 200, 1], "quarter {quarter}");
+    }
+}
+
+#[test]
+fn request_2_one_row_and_no_rows() {
+    let lone = Interval { quarter: 95, rows: x(1300).rows[..1].to_vec(), ..x(1300) };
+    assert_eq!(tell(&bytes(&lone)), "0 95 200 400 90000 90000 0 0 1\n1 2500 500 90000 90000 0 0 0 0\n");
+    let empty = Interval { quarter: 95, rows: Vec::new(), ..x(1300) };
+    assert_eq!(tell(&bytes(&empty)), "0 95 0 0 0 0 0 3000 0\n");
 }

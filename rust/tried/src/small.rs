@@ -11,6 +11,7 @@ pub fn cases() -> Vec<Case> {
         prices(),
         pay(),
         rounds(),
+        turns(),
         corrections(),
         interval_faults(),
         correction_faults(),
@@ -245,6 +246,34 @@ fn rounds() -> Vec<Case> {
         ),
         case("the longest day", &Interval { day: 36_524, quarter: 95, ..Interval::x(1300) }),
     ]);
+    cases
+}
+
+/// Leftovers at several quarters: whose turn it is, in calls, payments and cuts, where it takes part and where it does not.
+fn turns() -> Vec<Case> {
+    let offer = |id, metered| Row::thermal(id, 100, metered).offering(10_000, 200, 320);
+    let wind = |id, metered| Row::wind(id, 100, metered);
+    let calls = || vec![offer(1, 12_500), offer(2, 12_500), wind(3, 5_000)];
+    let apart = || vec![offer(1, 12_490), wind(2, 5_000), offer(3, 12_490), offer(4, 12_490)];
+    let payments = || vec![offer(1, 12_495), wind(2, 5_000), wind(3, 5_000), wind(4, 5_000)];
+    let cuts = || vec![offer(1, 12_495), offer(2, 12_495), offer(3, 12_495), wind(4, 200)];
+    let mut cases = Vec::new();
+    for quarter in [0, 1, 2, 3, 5, 95] {
+        let mut tied = |what: &str, tariff, need, rows| {
+            let interval = Interval { quarter, ..Interval::new(tariff, need, rows) };
+            cases.push(case(format!("{what} tied at quarter {quarter}"), &interval));
+        };
+        tied("calls", 1_300, 101, calls());
+        tied("calls of rows apart", 1_300, 100, apart());
+        tied("payments", 1_300, 2_500, payments());
+        tied("cuts", 100, 7_500, cuts());
+        tied("one row, nothing", 1_300, 3_000, vec![offer(1, 9_000)]);
+        tied("no rows, nothing", 1_300, 3_000, Vec::new());
+    }
+    let dated = Interval { quarter: 2, ..Interval::new(1_300, 2_500, payments()) };
+    let mut correction = dated.correcting(&[2]);
+    correction.rows[0].metered = 5_001;
+    cases.push(corrected("a payer corrected out of a tie at its own turn", &dated, &correction));
     cases
 }
 
