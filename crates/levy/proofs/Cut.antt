@@ -3,6 +3,7 @@
 --     cut-le          no cut is above its compensation
 --     cuts-none       somebody of weight above 0 is open: nobody is cut
 --     cut-capped      somebody is cut: every payer of weight above 0 closed
+--     cut-alike       of two equal compensations the one whose turn comes first is cut by as much as the other, or a fen more
 --     cuts-length     as many cuts as compensations
 --     balance         what is paid is what receivers keep
 use Prim.Native.Nat.{ℕ, _+_, _-_, _≤_, _<_}
@@ -16,8 +17,8 @@ use Rattle.columns.specs.Sum.{sumTo}
 use Rattle.columns.specs.Table.{at}
 use Rattle.columns.proofs.Sum.{sum-same, sum-add}
 use Rattle.columns.specs.Sum.{whole}
-use Rattle.share.specs.Share.{share}
-use Rattle.share.proofs.Laws.{share-le-amount, share-le-weight, shares-sum, shares-length, shares-at, shares-are-weights}
+use Rattle.share.specs.Share.{turn, share}
+use Rattle.share.proofs.Laws.{share-alike, share-le-amount, share-le-weight, shares-sum, shares-length, shares-at, shares-are-weights}
 use Rattle.levy.specs.Rounds.{final, payments, shortfall, cuts}
 use Rattle.levy.proofs.Payment.{paid-total, shortfall-none, shortfall-all, shortfall-le}
 
@@ -36,6 +37,12 @@ module _ (total : ℕ) (ws cs compensations : List ℕ) (first : ℕ) where
   pub cuts-length : length taken ≡ length compensations
   unfolding cuts
   cuts-length = shares-length short compensations first
+
+  pub cut-alike : (i j : ℕ) → first < length compensations → i < length compensations → at compensations i ≡ at compensations j
+      → turn (length compensations) first i < turn (length compensations) first j
+      → (at taken j ≤ at taken i) × (at taken i ≤ at taken j + 1)
+  cut-alike i j inside l e before =
+      rw (cut-share i, cut-share j) (share-alike short compensations first i j inside l e before)
 
   pub cuts-none : (i : ℕ) → 0 < at ws i → at (final total ws cs .marks) i ≡ 0 → (k : ℕ) → at taken k ≡ 0
   cuts-none i some z k = omega (arith, cut-share k, share-le-amount short compensations first k, shortfall-none total ws cs i some z)

@@ -6,6 +6,7 @@
 --     paid-open          who has not closed pays its share of the money left
 --     paid-closed        who closed pays its cap
 --     paid-none          weight 0 pays 0
+--     paid-alike         of two open payers of one weight the one whose turn comes first pays as much as the other, or a fen more
 --     sound-total        payments and shortfall of any sound standing are the total
 --     paid-total         payments and shortfall together are the total
 --     paid-le-cap        nobody pays above its cap, rounded fen included
@@ -30,8 +31,8 @@ use Rattle.columns.specs.Sum.{sumTo, whole, sumWhere}
 use Rattle.columns.specs.Table.{at}
 use Rattle.columns.proofs.Sum.{lt-or-le, sum-same, sum-add, sum-zero}
 use Rattle.columns.proofs.Table.{table-length, table-at, table-past}
-use Rattle.share.specs.Share.{share, shares}
-use Rattle.share.proofs.Laws.{share-zero, share-under, share-near-over, share-near-short, shares-sum, shares-none, shares-length, shares-at}
+use Rattle.share.specs.Share.{turn, share, shares}
+use Rattle.share.proofs.Laws.{share-alike, share-zero, share-under, share-near-over, share-near-short, shares-sum, shares-none, shares-length, shares-at}
 use Rattle.levy.specs.Rounds.{Standing, final, openWeights, paid, payments, shortfall}
 use Rattle.levy.specs.Capped.{hasClosed, capsInside}
 use Rattle.levy.proofs.Step.{Sound, sound-caps, final-sound}
@@ -106,6 +107,16 @@ module _ (total : ℕ) (ws cs : List ℕ) (st : Standing) (s : Sound total ws cs
       ⊎-elim (λ (l : i < length ws). table-at 0 (length ws) (paid ws cs st first) i l)
       (λ (l : length ws ≤ i). table-past 0 (length ws) (paid ws cs st first) i l ∙ sym (paid-none first i (List·getD-eq-default ws 0 l)))
       (lt-or-le i (length ws))
+
+  pub paid-alike : (first i j : ℕ) → first < length ws → i < length ws → at ws i ≡ at ws j → at (st .marks) i ≡ 0 → at (st .marks) j ≡ 0
+      → turn (length ws) first i < turn (length ws) first j
+      → (at (payments ws cs st first) j ≤ at (payments ws cs st first) i) × (at (payments ws cs st first) i ≤ at (payments ws cs st first) j + 1)
+  paid-alike first i j inside l e y z before =
+      let long = open-length ws (st .marks) in
+      let weights : at (openWeights ws (st .marks)) i ≡ at (openWeights ws (st .marks)) j =
+      open-here ws (st .marks) i y ∙ e ∙ sym (open-here ws (st .marks) j z) in
+      rw (payments-at first i, payments-at first j, paid-open ws cs st first i y, paid-open ws cs st first j z)
+      (share-alike (st .money) (openWeights ws (st .marks)) first i j (omega (arith, long, inside)) (omega (arith, long, l)) weights (rw long before))
 
   -- the shares of the open and the shortfall are the money
   shared-money : (first : ℕ) → (0 < length ws → first < length ws)

@@ -11,6 +11,7 @@
 --     lower-bid            a lower bid is an earlier order, whatever the tiers
 --     tier-first           at one bid tier 1 is earlier than tier 2
 --     called-group         the bands of one order are together called for what is due
+--     called-alike         of two bands alike the one whose turn comes first is called for as much as the other, or one kWh more
 --     calls-sum            all calls of both tiers, and the uncovered need, add up to the need
 --     price-reached        the price is the bid of a row that delivered, or it is 0
 --     price-least          no row that delivered bid above it
@@ -21,14 +22,14 @@
 --     price-all-deliver    .. and the same if all that are called deliver
 --     price-unique, call-tier-unique      two results that one contract allows are equal
 use Prim.Native.Nat.{ℕ, zero, suc, _+_, _-_, _≤_, _<_, min}
-use mathlib.Core.Path.{_≡_, ap, sym, _∙_}
+use mathlib.Core.Path.{_≡_, refl, ap, sym, _∙_}
 use mathlib.Core.Logic.{_⊎_, inl, inr, ⊎-elim}
 use mathlib.Core.Bool.{Bool, true, cond}
 use mathlib.Core.List.{List}
 use native.Mathlib.Omega.{arith}
 use lib.Dec.{ltb, eqb}
 use lib.ListN.{length}
-use borrow.Author.Tests.{lt-ltb, ltb-true}
+use borrow.Author.Tests.{lt-ltb, ltb-true, eq-eqb}
 use Rattle.columns.specs.Sum.{sumTo, whole}
 use Rattle.columns.specs.Table.{at, Below}
 use Rattle.columns.proofs.Sum.{lt-or-le, term-le, max-where-term, max-where-bound, max-where-reached, max-where-fewer}
@@ -36,7 +37,9 @@ use Rattle.columns.proofs.First.{left-true, right-true}
 use Rattle.columns.proofs.Table.{table-length, table-at, table-past}
 use Rattle.columns.proofs.Whole.{whole-table}
 use Rattle.columns.proofs.Unique.{Leaves-one, One-result}
-use Rattle.merit.specs.Band.{Tier, one, two, Bands, widths, bids, rows, orderAt}
+use Rattle.share.specs.Share.{turn}
+use Rattle.share.proofs.Laws.{share-alike}
+use Rattle.merit.specs.Band.{Tier, one, two, Bands, widths, bids, rows, orderOf, orderAt}
 use Rattle.merit.specs.Call.{cheaper, group, due, called, calls, uncovered}
 use Rattle.merit.specs.Price.{delivers, price, calledPrice}
 use Rattle.merit.proofs.call_tier.Reads as call-tier
@@ -69,6 +72,23 @@ module _ (need : ℕ) (b : Bands) (first : ℕ) where
   pub called-past : (t : Tier) (i : ℕ) → rows b ≤ i → called need b first t i ≡ 0
   unfolding called due group shared portion peers
   called-past t i l = shared-past (rows b) (orderAt b t) (at (widths b t)) left first i l
+
+  group-at : (t : Tier) (k i : ℕ) → i < rows b → orderAt b t i ≡ k → at (group b t k) i ≡ at (widths b t) i
+  unfolding group
+  group-at t k i l e =
+      table-at 0 (rows b) (λ j. cond (eqb (orderAt b t j) k) (at (widths b t) j) 0) i l ∙ rw (eq-eqb (orderAt b t i) k e)
+
+  pub called-alike : (t : Tier) (i j : ℕ) → first < rows b → i < rows b → j < rows b → at (widths b t) i ≡ at (widths b t) j
+      → at (bids b t) i ≡ at (bids b t) j → turn (rows b) first i < turn (rows b) first j
+      → (called need b first t j ≤ called need b first t i) × (called need b first t i ≤ called need b first t j + 1)
+  unfolding called
+  called-alike t i j inside l m w e before =
+      let k : ℕ = orderAt b t i in
+      let same : orderAt b t j ≡ k = ap (orderOf t) (sym e) in
+      let long : length (group b t k) ≡ rows b = unfold group in table-length (rows b) _ in
+      let weights : at (group b t k) i ≡ at (group b t k) j = group-at t k i l refl ∙ w ∙ sym (group-at t k j m same) in
+      rw same
+      (share-alike (due need b t k) (group b t k) first i j (omega (arith, long, inside)) (omega (arith, long, l)) weights (rw long before))
 
   pub called-met : (t : Tier) (i : ℕ) → need ≤ cheaper b (orderAt b t i) → called need b first t i ≡ 0
   unfolding called due group shared portion peers

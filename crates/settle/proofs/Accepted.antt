@@ -28,7 +28,7 @@ use Rattle.settle.proofs.Sizes.{Sized, Long, figures-long, figures-size
 pub accepted-long : (s k : List ℕ) → Long (rowCount s) (figuresOf s k)
 unfolding figuresOf dutiesIn
 accepted-long s k =
-    figures-long (headAt s .need .0) 0 (rowCount s) (dutiesIn s k)
+    figures-long (headAt s .need .0) _ (rowCount s) (dutiesIn s k)
     (duties-level (termsOf s) (headAt s .tariff .0) (rowCount s) (countingRow s k))
 
 module _ (s k : List ℕ) (n : ℕ) (h : verdictOf s k ≡ Accepted n) where
@@ -60,7 +60,7 @@ module _ (s k : List ℕ) (n : ℕ) (h : verdictOf s k ≡ Accepted n) where
 
   pub accepted-sized : Sized (headAt s .need .0) (rowCount s) (figuresOf s k)
   unfolding figuresOf
-  accepted-sized = figures-sized (headAt s .need .0) 0 (rowCount s) (dutiesIn s k) duties-within
+  accepted-sized = figures-sized (headAt s .need .0) _ (rowCount s) (dutiesIn s k) duties-within
 
   pub accepted-head-fits : HeadFits (statementHead (headAt s) (rowCount s) (figuresOf s k))
   unfolding statementHead

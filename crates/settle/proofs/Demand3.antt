@@ -52,6 +52,7 @@ use Rattle.settle.specs.Answer.{dutiesIn, figuresOf, answerOf, bufferAft
 use Rattle.settle.specs.Promise.{Bytes, figuresAt, capped, CappedPayer, OpenPayer, AllCapped, cappedCaps, leftOver, openEnergy, kept, Demand3}
 use Rattle.settle.proofs.Demand1.{settled-accepted}
 use Rattle.settle.proofs.Demand2.{statement-figures}
+use Rattle.settle.proofs.Turns.{first-inside}
 
 -- ---- payments and cuts after the last round
 
@@ -244,8 +245,8 @@ module _ (need first n : ℕ) (d : Duties) (level : Level n d) (turn : Turn n fi
 pub accepted-demand3 : (s k : List ℕ) (n : ℕ) → verdictOf s k ≡ Accepted n → Demand3 (figuresOf s k)
 unfolding figuresOf dutiesIn
 accepted-demand3 s k n h =
-    demand3 (headAt s .need .0) 0 (rowCount s) (dutiesIn s k)
-    (duties-level (termsOf s) (headAt s .tariff .0) (rowCount s) (countingRow s k)) (λ p. p)
+    demand3 (headAt s .need .0) _ (rowCount s) (dutiesIn s k)
+    (duties-level (termsOf s) (headAt s .tariff .0) (rowCount s) (countingRow s k)) (first-inside (headAt s .quarter) (rowCount s))
 
 pub statement-demand3 : (s k out : List ℕ) → Bytes s → numberOf (answerOf s k (length out)) ≡ 0 → Demand3 (figuresAt (bufferAfter s k out))
 statement-demand3 s k out bytes h =

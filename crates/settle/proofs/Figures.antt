@@ -18,6 +18,7 @@ use Rattle.records.specs.Number.{numberAt, numberBytes}
 use Rattle.records.specs.Fields.{fieldsBytes}
 use Rattle.records.specs.Record.{fieldsAt, recordAt, recordBytes, recordsBytes}
 use Rattle.records.specs.Buffer.{put}
+use Rattle.records.specs.Sheet.{columnOf}
 use Rattle.share.specs.Share.{quota, rest, turn, before, rank, left, share, shares}
 use Rattle.files.specs.Layout.{headAt, rowAt, correctionHeadAt}
 use Rattle.files.specs.Range.{headOk, headTests, statusOk, idleTests, notOffering, offerTests, offering, rowTests, rowOk}
@@ -31,21 +32,21 @@ use Rattle.merit.specs.Call.{cheaperIn, cheaper, group, due, called, calls, unc
 use Rattle.merit.specs.Price.{price}
 use Rattle.levy.specs.Rounds.{closes, closed, next, run, opening, final, openWeights, paid, payments, shortfall, cuts}
 use Rattle.statement.specs.Statement.{statementHeadBytes, statementHeadAt}
-use Rattle.settle.specs.Settlement.{compensationsOf, levied, figures}
+use Rattle.settle.specs.Settlement.{firstTurn, compensationsOf, levied, figures}
 use Rattle.settle.specs.Statement.{statementHead, statementBytes}
 use Rattle.settle.specs.Answer.{dutiesIn, figuresOf, statementOf, settleOrder, answerOf, bufferAfter}
-use Rattle.settle.specs.Requests.{threeRows, settledThree, requestTable}
+use Rattle.settle.specs.Requests.{fileOf, settledThree, told, settledNone, requestTable}
 use Rattle.settle.specs.Table.{intervalX, settledX, Entry, entry, figuresTable, same, allRight}
 
 all-right : (allRight figuresTable && allRight requestTable) ≡ true
-unfolding sumTo countTo maxTo maxWhere findTo whole table numberAt numberBytes fieldsBytes fieldsAt recordAt recordBytes recordsBytes put
+unfolding sumTo countTo maxTo maxWhere findTo whole table numberAt numberBytes fieldsBytes fieldsAt recordAt recordBytes recordsBytes put columnOf
     quota rest turn before rank left share shares
     firstRefusal rowByRow previous headAt rowAt correctionHeadAt headTests headOk statusOk idleTests notOffering offerTests offering rowTests rowOk
     headChecks rowChecks rowChecksAt rowChecksOf intervalOrder fileOrder termsOf hasId findId countingRow
     width1 width2 energy1 energy2 payer weight cap dutiesOf cheaperIn cheaper group due called calls uncovered price
-    closes closed next run opening final openWeights paid payments shortfall cuts compensationsOf levied figures
+    closes closed next run opening final openWeights paid payments shortfall cuts firstTurn compensationsOf levied figures
     statementHeadBytes statementHeadAt statementHead statementBytes
-    dutiesIn figuresOf statementOf settleOrder answerOf bufferAfter intervalX settledX figuresTable threeRows settledThree requestTable same allRight
+    dutiesIn figuresOf statementOf settleOrder answerOf bufferAfter intervalX settledX figuresTable fileOf settledThree told settledNone requestTable same allRight
 all-right = refl
 
 same-is : (xs ys : List ℕ) → same xs ys ≡ true → xs ≡ ys

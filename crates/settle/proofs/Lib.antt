@@ -7,6 +7,7 @@ pub mod Paying
 pub mod Reading
 pub mod Levying
 pub mod Accepted
+pub mod Turns
 pub mod Stated
 pub mod Answered
 pub mod Figures
@@ -14,4 +15,5 @@ pub mod Demand1
 pub mod Demand2
 pub mod Prices
 pub mod Demand3
+pub mod InTurn
 pub mod Unique

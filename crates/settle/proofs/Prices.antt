@@ -92,12 +92,15 @@ module _ (s k : List ℕ) (n : ℕ) (h : verdictOf s k ≡ Accepted n) where
   abbrev d : Duties
   d = dutiesIn s k
 
+  abbrev first : ℕ
+  first = firstTurn (headAt s .quarter) (rowCount s)
+
   abbrev made : Tier → List ℕ
-  made = calls (headAt s .need .0) (bandsOf d) firstTurn
+  made = calls (headAt s .need .0) (bandsOf d) first
 
   called-width : (tier : Tier) (i : ℕ) → 0 < at (made tier) i → 0 < at (widths (bandsOf d) tier) i
   called-width tier i p =
-      omega (arith, p, calls-at (headAt s .need .0) (bandsOf d) firstTurn tier i, called-le (headAt s .need .0) (bandsOf d) firstTurn tier i)
+      omega (arith, p, calls-at (headAt s .need .0) (bandsOf d) first tier i, called-le (headAt s .need .0) (bandsOf d) first tier i)
 
   pub accepted-prices : Prices s k (figuresOf s k)
   unfolding figuresOf figures dutiesIn dutiesOf

@@ -31,31 +31,24 @@ use Rattle.levy.specs.declared.Rest.{Rest}
 use Rattle.statement.specs.Statement.{letterL, lineWidths, headSize, lineStart, statementHeadBytes}
 use Rattle.statement.specs.Line as line
 use Rattle.statement.proofs.Laws.{head-length}
-use Rattle.settle.specs.Settlement.{Figures}
+use Rattle.settle.specs.Settlement.{firstTurn, Figures, figures}
 use Rattle.settle.specs.Statement.{statementHead, lineOf, statementBytes}
 use Rattle.settle.specs.Answer.{dutiesIn, figuresOf, statementOf}
-use Rattle.settle.specs.Within.{Within}
+use Rattle.settle.specs.Within.{Turn, Within}
 use Rattle.settle.specs.Work.{lined, rowLine, tierOne, tierTwo, Offered, Called, Tradable, Traded, Payable, Paid, Leviable, Levied, Cuttable, cutFrom}
 use Rattle.settle.specs.declared.market.Cleared.{Cleared}
 use Rattle.settle.specs.declared.market.Market.{Market}
 use Rattle.settle.proofs.Accepted.{duties-within}
+use Rattle.settle.proofs.Turns.{first-inside}
 use Rattle.settle.proofs.Staged as stage
 
-module _ (s k : List ℕ) (n : ℕ) (ok : verdictOf s k ≡ Accepted n) (out : List ℕ) (room : lineStart n ≤ length out) (h : Head) (is : h ≡ headAt s) where
+module _ (s k : List ℕ) (n : ℕ) (ok : verdictOf s k ≡ Accepted n) (out : List ℕ) (room : lineStart n ≤ length out) (h : Head) (is : h ≡ headAt s)
+    (first : ℕ) (goes : first ≡ firstTurn (h .quarter) n) where
   count : rowCount s ≡ n
   count = sym (accepted-count s k n ok)
 
   abbrev d : Duties
   d = dutiesIn s k
-
-  abbrev f : Figures
-  f = figuresOf s k
-
-  within : Within n d
-  within = rw count at (duties-within s k n ok)
-
-  abbrev id : ℕ → ℕ
-  id i = countingRow s k i .id
 
   abbrev need : ℕ
   need = headAt s .need .0
@@ -63,8 +56,26 @@ module _ (s k : List ℕ) (n : ℕ) (ok : verdictOf s k ≡ Accepted n) (out : L
   need-is : h .need .0 ≡ need
   need-is = ap (λ (x : Head). x .need .0) is
 
+  turn : Turn n first
+  turn = rw goes (first-inside (h .quarter) n)
+
+  -- the figures by the position that the code has go first are those of the pair
+  abbrev f : Figures
+  f = figures need first d
+
+  figures-are : f ≡ figuresOf s k
+  unfolding figuresOf
+  figures-are =
+      ap (λ (x : ℕ). figures need x d) (goes ∙ (λ j. firstTurn (is j .quarter) (sym count j)))
+
+  within : Within n d
+  within = rw count at (duties-within s k n ok)
+
+  abbrev id : ℕ → ℕ
+  id i = countingRow s k i .id
+
   abbrev L0 : ℕ → List ℕ
-  L0 = stage.lines0 n d within need 0 (λ p. p) id out room
+  L0 = stage.lines0 n d within need first turn id out room
 
   -- a row's line is that of the columns
   row-line : (i : ℕ) → i < n → rowLine (h .tariff .0) s k i ≡ L0 i
@@ -89,97 +100,85 @@ module _ (s k : List ℕ) (n : ℕ) (ok : verdictOf s k ≡ Accepted n) (out : L
     read-lines : t0 ≡ lined out n L0
     read-lines = read ∙ sheet-same headSize letterL lineWidths out n (rowLine (h .tariff .0) s k) L0 row-line
 
-    asked-1 : Offered n 0 tierOne t0
-    asked-1 = rw read-lines (stage.called1-asked n d within need 0 (λ p. p) id out room)
+    asked-1 : Offered n first tierOne t0
+    asked-1 = rw read-lines (stage.called1-asked n d within need first turn id out room)
 
-    module _ (t1 : List ℕ) (c1 : Cleared) (one : Called (h .need .0) 0 n tierOne t0 t1 c1) where
-      called-1 : Called need 0 n tierOne (lined out n L0) t1 c1
+    module _ (t1 : List ℕ) (c1 : Cleared) (one : Called (h .need .0) first n tierOne t0 t1 c1) where
+      called-1 : Called need first n tierOne (lined out n L0) t1 c1
       called-1 = rw (need-is, read-lines) at one
 
-      lines-1 : t1 ≡ lined out n (stage.lines1 n d within need 0 (λ p. p) id out room)
-      lines-1 = stage.called1-lines n d within need 0 (λ p. p) id out room t1 c1 called-1
+      lines-1 : t1 ≡ lined out n (stage.lines1 n d within need first turn id out room)
+      lines-1 = stage.called1-lines n d within need first turn id out room t1 c1 called-1
 
       price-1 : c1 .price .0 ≡ f .price1
-      unfolding figuresOf
-      price-1 = stage.called1-price n d within need 0 (λ p. p) id out room t1 c1 called-1
+      price-1 = stage.called1-price n d within need first turn id out room t1 c1 called-1
 
       left-1 : c1 .left .0 ≡ need - whole (d .widths1)
-      left-1 = stage.called1-left n d within need 0 (λ p. p) id out room t1 c1 called-1
+      left-1 = stage.called1-left n d within need first turn id out room t1 c1 called-1
 
-      asked-2 : Offered n 0 tierTwo t1
-      asked-2 = rw lines-1 (stage.called2-asked n d within need 0 (λ p. p) id out room)
+      asked-2 : Offered n first tierTwo t1
+      asked-2 = rw lines-1 (stage.called2-asked n d within need first turn id out room)
 
-      module _ (t2 : List ℕ) (c2 : Cleared) (two : Called (c1 .left .0) 0 n tierTwo t1 t2 c2) where
+      module _ (t2 : List ℕ) (c2 : Cleared) (two : Called (c1 .left .0) first n tierTwo t1 t2 c2) where
         abbrev L1 : ℕ → List ℕ
-        L1 = stage.lines1 n d within need 0 (λ p. p) id out room
+        L1 = stage.lines1 n d within need first turn id out room
 
-        called-2 : Called (c1 .left .0) 0 n tierTwo (lined out n L1) t2 c2
+        called-2 : Called (c1 .left .0) first n tierTwo (lined out n L1) t2 c2
         called-2 = rw lines-1 at two
 
-        lines-2 : t2 ≡ lined out n (stage.lines2 n d within need 0 (λ p. p) id out room)
-        lines-2 = stage.called2-lines n d within need 0 (λ p. p) id out room (c1 .left .0) left-1 t2 c2 called-2
+        lines-2 : t2 ≡ lined out n (stage.lines2 n d within need first turn id out room)
+        lines-2 = stage.called2-lines n d within need first turn id out room (c1 .left .0) left-1 t2 c2 called-2
 
         price-2 : c2 .price .0 ≡ f .price2
-        unfolding figuresOf
-        price-2 = stage.called2-price n d within need 0 (λ p. p) id out room (c1 .left .0) left-1 t2 c2 called-2
+        price-2 = stage.called2-price n d within need first turn id out room (c1 .left .0) left-1 t2 c2 called-2
 
         left-2 : c2 .left .0 ≡ f .uncovered
-        unfolding figuresOf
-        left-2 = stage.called2-left n d within need 0 (λ p. p) id out room (c1 .left .0) left-1 t2 c2 called-2
+        left-2 = stage.called2-left n d within need first turn id out room (c1 .left .0) left-1 t2 c2 called-2
 
         pay-asked : Payable n (c1 .price .0) (c2 .price .0) t2
-        unfolding figuresOf
-        pay-asked = rw (lines-2, price-1, price-2) (stage.paid-asked n d within need 0 (λ p. p) id out room)
+        pay-asked = rw (lines-2, price-1, price-2) (stage.paid-asked n d within need first turn id out room)
 
         module _ (t3 : List ℕ) (total : Fen) (three : Paid n (c1 .price .0) (c2 .price .0) t2 t3 (total .0)) where
           abbrev L2 : ℕ → List ℕ
-          L2 = stage.lines2 n d within need 0 (λ p. p) id out room
+          L2 = stage.lines2 n d within need first turn id out room
 
           paid-3 : Paid n (f .price1) (f .price2) (lined out n L2) t3 (total .0)
           paid-3 = rw (lines-2, price-1, price-2) at three
 
-          lines-3 : t3 ≡ lined out n (stage.lines3 n d within need 0 (λ p. p) id out room)
-          unfolding figuresOf
-          lines-3 = stage.paid-lines n d within need 0 (λ p. p) id out room t3 (total .0) paid-3
+          lines-3 : t3 ≡ lined out n (stage.lines3 n d within need first turn id out room)
+          lines-3 = stage.paid-lines n d within need first turn id out room t3 (total .0) paid-3
 
           total-3 : total .0 ≡ f .total
-          unfolding figuresOf
-          total-3 = stage.paid-total n d within need 0 (λ p. p) id out room t3 (total .0) paid-3
+          total-3 = stage.paid-total n d within need first turn id out room t3 (total .0) paid-3
 
-          levy-asked : Leviable n 0 (total .0) t3
-          unfolding figuresOf
-          levy-asked = rw (lines-3, total-3) (stage.levied-asked n d within need 0 (λ p. p) id out room)
+          levy-asked : Leviable n first (total .0) t3
+          levy-asked = rw (lines-3, total-3) (stage.levied-asked n d within need first turn id out room)
 
-          module _ (t4 : List ℕ) (r : Rest) (four : Levied n 0 (total .0) t3 t4 r) (x : Fen) (short : Short r (x .0)) where
+          module _ (t4 : List ℕ) (r : Rest) (four : Levied n first (total .0) t3 t4 r) (x : Fen) (short : Short r (x .0)) where
             abbrev L3 : ℕ → List ℕ
-            L3 = stage.lines3 n d within need 0 (λ p. p) id out room
+            L3 = stage.lines3 n d within need first turn id out room
 
-            levied-4 : Levied n 0 (f .total) (lined out n L3) t4 r
+            levied-4 : Levied n first (f .total) (lined out n L3) t4 r
             levied-4 = rw (lines-3, total-3) at four
 
-            lines-4 : t4 ≡ lined out n (stage.lines4 n d within need 0 (λ p. p) id out room)
-            unfolding figuresOf
-            lines-4 = stage.levied-lines n d within need 0 (λ p. p) id out room t4 r levied-4
+            lines-4 : t4 ≡ lined out n (stage.lines4 n d within need first turn id out room)
+            lines-4 = stage.levied-lines n d within need first turn id out room t4 r levied-4
 
             rounds-4 : r .rounds ≡ f .rounds
-            unfolding figuresOf
-            rounds-4 = stage.levied-rounds n d within need 0 (λ p. p) id out room t4 r levied-4
+            rounds-4 = stage.levied-rounds n d within need first turn id out room t4 r levied-4
 
             short-4 : x .0 ≡ f .shortfall
-            unfolding figuresOf
-            short-4 = stage.levied-short n d within need 0 (λ p. p) id out room t4 r levied-4 (x .0) [] (short 0 [])
+            short-4 = stage.levied-short n d within need first turn id out room t4 r levied-4 (x .0) [] (short 0 [])
 
-            cut-asked : Cuttable n 0 (x .0) t4
-            unfolding figuresOf
-            cut-asked = rw (lines-4, short-4) (stage.cut-asked n d within need 0 (λ p. p) id out room)
+            cut-asked : Cuttable n first (x .0) t4
+            cut-asked = rw (lines-4, short-4) (stage.cut-asked n d within need first turn id out room)
 
-            module _ (t5 : List ℕ) (five : t5 ≡ cutFrom n 0 (x .0) t4) where
+            module _ (t5 : List ℕ) (five : t5 ≡ cutFrom n first (x .0) t4) where
               lines-5 : t5 ≡ lined out n (λ i. lineOf (id i) f i)
-              unfolding figuresOf
               lines-5 =
-                  stage.cut-lines n d within need 0 (λ p. p) id out room t5 (rw (lines-4, short-4) at five)
-                  ∙ sheet-same headSize letterL lineWidths out n (stage.lines5 n d within need 0 (λ p. p) id out room) (λ i. lineOf (id i) f i)
-                  (λ i l. stage.figure-lines n d within need 0 (λ p. p) id out room i)
+                  stage.cut-lines n d within need first turn id out room t5 (rw (lines-4, short-4) at five)
+                  ∙ sheet-same headSize letterL lineWidths out n (stage.lines5 n d within need first turn id out room) (λ i. lineOf (id i) f i)
+                  (λ i l. stage.figure-lines n d within need first turn id out room i)
 
               room-head : headSize ≤ length t5
               room-head =
@@ -220,14 +219,14 @@ module _ (s k : List ℕ) (n : ℕ) (ok : verdictOf s k ≡ Accepted n) (out : L
                   })))
                   ∙ ap (λ (m : ℕ). put (sheet m letterL lineWidths out n lines) 0 top) (sym (head-length (statementHead (headAt s) n f)))
                   ∙ sheet-head top letterL lineWidths out n lines (omega (arith, room, head-length (statementHead (headAt s) n f)))
-                  ∙ ap (λ (m : ℕ). put out 0 (statementHeadBytes (statementHead (headAt s) m f) ++ recordsBytes letterL lineWidths (table m lines))) (sym count)
+                  ∙ (λ j. put out 0 (statementBytes (headAt s) (sym count j) id (figures-are j)))
 
     -- ---- the same by the market that both tiers leave
 
-    pub asked-trade : Tradable (h .need .0) 0 n t0
+    pub asked-trade : Tradable (h .need .0) first n t0
     asked-trade = record { one = asked-1; two = asked-2 }
 
-    module _ (t2 : List ℕ) (m : Market) (traded : Traded (h .need .0) 0 n t0 t2 m) where
+    module _ (t2 : List ℕ) (m : Market) (traded : Traded (h .need .0) first n t0 t2 m) where
       abbrev t1 : List ℕ
       t1 = traded .between
 
@@ -239,14 +238,14 @@ module _ (s k : List ℕ) (n : ℕ) (ok : verdictOf s k ≡ Accepted n) (out : L
         paid : Paid n (traded .one .price .0) (traded .two .price .0) t2 t3 (total .0)
         paid = rw (traded .price1, traded .price2) at three
 
-        pub asked-levy : Leviable n 0 (total .0) t3
+        pub asked-levy : Leviable n first (total .0) t3
         asked-levy = levy-asked t1 (traded .one) (traded .called1) t2 (traded .two) (traded .called2) t3 total paid
 
-        module _ (t4 : List ℕ) (r : Rest) (four : Levied n 0 (total .0) t3 t4 r) (x : Fen) (short : Short r (x .0)) where
-          pub asked-cut : Cuttable n 0 (x .0) t4
+        module _ (t4 : List ℕ) (r : Rest) (four : Levied n first (total .0) t3 t4 r) (x : Fen) (short : Short r (x .0)) where
+          pub asked-cut : Cuttable n first (x .0) t4
           asked-cut = cut-asked t1 (traded .one) (traded .called1) t2 (traded .two) (traded .called2) t3 total paid t4 r four x short
 
-          module _ (t5 : List ℕ) (five : t5 ≡ cutFrom n 0 (x .0) t4) where
+          module _ (t5 : List ℕ) (five : t5 ≡ cutFrom n first (x .0) t4) where
             pub head-room : headSize ≤ length t5
             head-room =
                 room-head t1 (traded .one) (traded .called1) t2 (traded .two) (traded .called2) t3 total paid t4 r four x short t5 five

@@ -23,7 +23,7 @@ dutiesIn s k = dutiesOf (termsOf s) (headAt s .tariff .0) (rowCount s) (counting
 
 -- the figures of an accepted pair
 unfoldable pub figuresOf : List ℕ → List ℕ → Figures
-figuresOf s k = figures (headAt s .need .0) firstTurn (dutiesIn s k)
+figuresOf s k = figures (headAt s .need .0) (firstTurn (headAt s .quarter) (rowCount s)) (dutiesIn s k)
 
 -- its statement
 unfoldable pub statementOf : List ℕ → List ℕ → List ℕ

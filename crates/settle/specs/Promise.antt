@@ -1,24 +1,27 @@
 -- What the promises of the engine speak of besides its definitions: the figures that a statement's bytes hold, how prices follow from
--- the rows, and demand 3 said of any figures.
+-- the rows, whose turn it is, and demand 3 said of any figures.
 use Prim.Native.Nat.{ℕ, _+_, _-_, _*_, _≤_, _<_}
 use mathlib.Core.Path.{_≡_}
 use mathlib.Core.Bool.{Bool}
 use mathlib.Core.List.{List}
+use lib.Dec.{eqb}
 use lib.ListN.{length}
 use Rattle.columns.specs.Sum.{sumTo, sumWhere, maxTo}
 use Rattle.columns.specs.Table.{at}
 use Rattle.columns.specs.Sum.{whole}
-use Rattle.files.specs.Layout.{rowCount}
+use Rattle.files.specs.Layout.{headAt, rowCount}
 use Rattle.files.specs.Terms.{termsOf}
 use Rattle.files.specs.Counting.{countingRow}
 use Rattle.files.specs.declared.Row.{Row}
 use Rattle.duties.specs.Duty.{normal, meterEnergy1, meterEnergy2}
+use Rattle.share.specs.Share.{turn}
 use Rattle.levy.specs.Rounds.{payers}
 use Rattle.levy.specs.Capped.{hasClosed, outside, payersInside, capsInside, leftBy, weightsBeside, Capped}
 use Rattle.records.specs.Sheet.{columnOf}
 use Rattle.statement.specs.Statement.{statementHeadAt}
 use Rattle.statement.specs.Line as line
-use Rattle.settle.specs.Settlement.{Figures}
+use Rattle.settle.specs.Settlement.{firstTurn, Figures, figures}
+use Rattle.settle.specs.Answer.{dutiesIn}
 
 -- every number of the list is a byte, as it is in every file
 abbrev pub Bytes : List ℕ → Type 0
@@ -71,6 +74,39 @@ pub record Prices (s k : List ℕ) (f : Figures) : Type 0 where
   pub tier2 :
       SetBy (rowCount s) (λ i. Delivers (countingRow s k i) (at (f .called2) i) (meterEnergy2 (termsOf s) (countingRow s k i)))
       (λ i. countingRow s k i .bid2 .0) (f .price2)
+
+-- ---- whose turn it is among equal remainders (02, request 2)
+
+-- of n rows, the one at position i goes first at a quarter: by the sharing rule's own count it stands behind nobody
+abbrev pub goesFirst : ℕ → ℕ → ℕ → Bool
+goesFirst n quarter i = eqb (turn n (firstTurn quarter n) i) 0
+
+-- the row at position i has its turn before the row at position j
+pub record Earlier (s : List ℕ) (i j : ℕ) : Type 0 where
+  pub one : i < rowCount s
+  pub other : j < rowCount s
+  pub turns : turn (rowCount s) (firstTurn (headAt s .quarter) (rowCount s)) i < turn (rowCount s) (firstTurn (headAt s .quarter) (rowCount s)) j
+
+-- x is y, or one more
+abbrev pub OrOneMore : ℕ → ℕ → Type 0
+OrOneMore x y = (y ≤ x) × (x ≤ y + 1)
+
+-- what is left over goes by turn: of two rows alike in that by which they share, the one whose turn comes first has what the other has, or one more
+pub record InTurn (s k : List ℕ) (f : Figures) : Type 0 where
+  -- bands of one width and bid in a tier
+  pub calls1 : (i j : ℕ) → Earlier s i j → at (dutiesIn s k .widths1) i ≡ at (dutiesIn s k .widths1) j
+      → at (dutiesIn s k .bids1) i ≡ at (dutiesIn s k .bids1) j → OrOneMore (at (f .called1) i) (at (f .called1) j)
+  pub calls2 : (i j : ℕ) → Earlier s i j → at (dutiesIn s k .widths2) i ≡ at (dutiesIn s k .widths2) j
+      → at (dutiesIn s k .bids2) i ≡ at (dutiesIn s k .bids2) j → OrOneMore (at (f .called2) i) (at (f .called2) j)
+  -- payers of one weight that are not capped
+  pub payments : (i j : ℕ) → Earlier s i j → at (f .weights) i ≡ at (f .weights) j → at (f .closing) i ≡ 0 → at (f .closing) j ≡ 0
+      → OrOneMore (at (f .paid) i) (at (f .paid) j)
+  -- receivers of one compensation
+  pub cuts : (i j : ℕ) → Earlier s i j → at (f .compensations) i ≡ at (f .compensations) j → OrOneMore (at (f .cuts) i) (at (f .cuts) j)
+
+-- the figures of a pair if equal remainders went to the lower id at every quarter, as in document 01
+unfoldable pub figuresByLowerId : List ℕ → List ℕ → Figures
+figuresByLowerId s k = figures (headAt s .need .0) 0 (dutiesIn s k)
 
 -- ---- demand 3, said of any figures
 

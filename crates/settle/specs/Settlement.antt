@@ -1,7 +1,9 @@
 -- The rules put together: from columns of duties to the figures of a statement (01, Calls and prices to Rounds; prices by 02,
--- request 1). Nothing here knows where the columns came from.
-use Prim.Native.Nat.{ℕ}
+-- request 1, leftovers by its request 2). Nothing here knows where the columns came from.
+use Prim.Native.Nat.{ℕ, _%_}
+use mathlib.Core.Bool.{cond}
 use mathlib.Core.List.{List}
+use lib.Dec.{eqb}
 use lib.ListN.{length}
 use Rattle.columns.specs.Sum.{whole}
 use Rattle.columns.specs.Table.{at, table}
@@ -12,9 +14,10 @@ use Rattle.merit.specs.Price.{price}
 use Rattle.pay.specs.Pay.{compensation}
 use Rattle.levy.specs.Rounds.{Standing, final, payments, shortfall, cuts}
 
--- the position that goes first among equal remainders: the lower id
-abbrev pub firstTurn : ℕ
-firstTurn = 0
+-- the position that goes first among equal remainders: the quarter modulo the n rows of the file, sharers or not; with no rows
+-- nothing is divided, and nobody shares
+unfoldable pub firstTurn : ℕ → ℕ → ℕ
+firstTurn quarter n = cond (eqb n 0) 0 (quarter % n)
 
 -- what the rows offer in both tiers
 abbrev pub bandsOf : Duties → Bands

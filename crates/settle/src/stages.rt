@@ -14,10 +14,18 @@ ghost use lib.ListN.{length};
 ghost use Rattle.records.specs.Buffer.{put};
 ghost use Rattle.files.specs.Order.{verdictOf};
 ghost use Rattle.statement.specs.Statement.{lineStart};
+ghost use Rattle.settle.specs.Settlement.{firstTurn};
 ghost use Rattle.settle.specs.Answer.{statementOf};
 
-// The position that goes first among equal remainders: the lower id.
-const FIRST_TURN: usize = 0;
+// The position that goes first among equal remainders (02, request 2): the quarter modulo the n rows. With no rows nothing is divided.
+fn first_turn(quarter: u8, n: usize) -> usize
+    ensures { λ r. ⌜ r ≡ firstTurn quarter n ⌝ }
+{
+    if n == 0 {
+        return 0;
+    }
+    quarter as usize % n
+}
 
 // The statement of an accepted pair of n rows, into a buffer with room for it.
 pub fn write_statement(interval: &[u8], correction: &[u8], n: usize, sheet: &mut [u8])
@@ -28,15 +36,16 @@ pub fn write_statement(interval: &[u8], correction: &[u8], n: usize, sheet: &mut
     let head = files::head_at(interval);
     let tariff = head.tariff;
     let need = head.need;
+    let first = first_turn(head.quarter, n);
     read(interval, correction, n, tariff, sheet);
-    let market = trade(need, FIRST_TURN, n, sheet);
+    let market = trade(need, first, n, sheet);
     let price1 = market.price1;
     let price2 = market.price2;
     let uncovered = market.uncovered;
     let total = compensate(n, price1, price2, sheet);
-    let rest = collect(total, FIRST_TURN, n, sheet);
+    let rest = collect(total, first, n, sheet);
     let shortfall = levy::shortfall(rest);
-    cut(shortfall, FIRST_TURN, n, sheet);
+    cut(shortfall, first, n, sheet);
     let top = StatementHead {
         day: head.day,
         quarter: head.quarter,

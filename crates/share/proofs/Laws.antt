@@ -13,30 +13,39 @@
 --     share-le-weight    the amount is at most the sum of the weights: a share is at most its weight
 --     share-is-weight    the amount is just that sum: each share is its weight
 --     shares-are-weights     the same of the whole column
+--     share-alike        of two equal weights the one whose turn comes first gets as much as the other, or one more
 --     share-none, share-sum      shares-none and shares-sum of the share itself
 --     split-unique       two results that the contract of `split` allows are equal
 -- Each takes amount, weights and first, then the position, then what it asks.
 -- For whoever has to show what `split` asks:
 --     weight-le          a weight is at most the sum of the weights
-use Prim.Native.Nat.{ℕ, _+_, _-_, _*_, _≤_, _<_}
+use Prim.Native.Nat.{ℕ, _+_, _-_, _*_, _/_, _%_, _≤_, _<_}
 use mathlib.Core.Path.{_≡_, refl, ap, sym, _∙_}
 use mathlib.Core.Logic.{⊎-elim}
 use mathlib.Core.List.{List}
 use native.Mathlib.Nat.{eq-zero-or-pos, mul-le-mul-left, mul-le-mul-right, lt-of-mul-lt-mul-right}
 use native.Mathlib.Omega.{arith}
+use lib.Dec.{ltb}
 use lib.ListN.{length, List·getD-eq-default}
-use borrow.Author.Tests.{eq-eqb}
-use Rattle.columns.specs.Sum.{sumTo}
+use borrow.Author.Tests.{lt-ltb, le-ltb, eq-eqb}
+use Rattle.columns.specs.Sum.{bit, sumTo}
 use Rattle.columns.specs.Table.{at, table}
-use Rattle.columns.proofs.Sum.{lt-or-le, sum-same, sum-bound}
+use Rattle.columns.proofs.Sum.{lt-or-le, sum-same, sum-bound, bit-le}
 use Rattle.columns.proofs.Table.{table-length, table-at, table-past, table-same, table-list}
 use Rattle.columns.proofs.Whole.{whole-table}
 use Rattle.columns.specs.Sum.{whole}
 use Rattle.columns.proofs.Unique.{Leaves-one}
-use Rattle.share.specs.Share.{share, shares}
+use Rattle.share.specs.Share.{quota, rest, turn, rank, left, share, shares}
 pub use Rattle.share.proofs.Rests.{weight-le}
 use Rattle.share.proofs.split.Reads as split
-use Rattle.share.proofs.Rests.{some-length, over, short, shares-all}
+use Rattle.share.proofs.Order.{rank-turn}
+use Rattle.share.proofs.Rests.{some-length, share-is, over, short, shares-all}
+
+-- who has the smaller rank is served if the other is
+served : (x y left : ℕ) → x < y → bit (ltb y left) ≤ bit (ltb x left)
+served x y left l =
+    ⊎-elim (λ (p : y < left). rw (lt-ltb y left p, lt-ltb x left (omega arith)) (omega arith))
+    (λ (p : left ≤ y). rw (le-ltb y left p) (omega arith)) (lt-or-le y left)
 
 module _ (a : ℕ) (ws : List ℕ) (first : ℕ) where
   pub share-none : whole ws ≡ 0 → (i : ℕ) → share a ws first i ≡ 0
@@ -76,6 +85,19 @@ module _ (a : ℕ) (ws : List ℕ) (first : ℕ) where
       let l : at ws i < share a ws first i + 1 =
       lt-of-mul-lt-mul-right (whole ws) (omega (arith, short a ws some first i, ap (λ (x : ℕ). x * at ws i) e)) in
       omega (arith, share-le-weight i (omega arith)))
+      (eq-zero-or-pos (whole ws))
+
+  pub share-alike : (i j : ℕ) → first < length ws → i < length ws → at ws i ≡ at ws j → turn (length ws) first i < turn (length ws) first j
+      → (share a ws first j ≤ share a ws first i) × (share a ws first i ≤ share a ws first j + 1)
+  share-alike i j inside l e t =
+      ⊎-elim (λ (z : whole ws ≡ 0). (omega (arith, share-none z i, share-none z j), omega (arith, share-none z i, share-none z j)))
+      (λ (some : 0 < whole ws).
+      let q : quota a ws i ≡ quota a ws j = unfold quota in ap (λ (w : ℕ). a * w / whole ws) e in
+      let r : rest a ws i ≡ rest a ws j = unfold rest in ap (λ (w : ℕ). a * w % whole ws) e in
+      let x = share-is a ws some first i in
+      let y = share-is a ws some first j in
+      let first-served = served (rank a ws first i) (rank a ws first j) (left a ws) (rank-turn a ws first some inside i j l r t) in
+      (omega (arith, q, x, y, first-served), omega (arith, q, x, y, bit-le (ltb (rank a ws first i) (left a ws)))))
       (eq-zero-or-pos (whole ws))
 
   pub shares-length : length (shares a ws first) ≡ length ws

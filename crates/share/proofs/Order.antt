@@ -4,19 +4,20 @@
 --     key-apart                 no two positions have the same key
 --     before-key                standing before is having the smaller key
 --     rank-under                the rank counts the smaller keys
+--     rank-turn                 of two equal remainders the one whose turn comes first has the smaller rank
 use Prim.Native.Nat.{ℕ, _+_, _-_, _*_, _%_, _≤_, _<_}
 use mathlib.Core.Path.{_≡_, ap, sym, _∙_}
 use mathlib.Core.Logic.{⊎-elim}
-use mathlib.Core.Bool.{_&&_, _||_}
+use mathlib.Core.Bool.{true, _&&_, _||_}
 use mathlib.Core.List.{List}
 use native.Mathlib.Nat.{mod-lt, mod-eq-of-lt, mod-eq-sub-mod, mul-le-mul-right, mul-add-mod-self-right}
 use native.Mathlib.Omega.{arith}
 use lib.Dec.{ltb, eqb}
 use lib.ListN.{length}
-use borrow.Author.Tests.{lt-ltb, le-ltb, eq-eqb, ne-eqb}
+use borrow.Author.Tests.{lt-ltb, le-ltb, ltb-true, eq-eqb, ne-eqb}
 use Rattle.columns.specs.Table.{at}
 use Rattle.columns.proofs.Sum.{lt-or-le, count-same}
-use Rattle.columns.proofs.Rank.{ltb-same, under, Apart}
+use Rattle.columns.proofs.Rank.{ltb-same, under, Apart, rank-order}
 use Rattle.columns.specs.Sum.{whole}
 use Rattle.share.specs.Share.{rest, turn, before, rank}
 
@@ -98,3 +99,15 @@ module _ (a : ℕ) (ws : List ℕ) (first : ℕ) (some : 0 < whole ws) (inside :
   unfolding rank under
   rank-under i =
       count-same (length ws) (λ j. before a ws first j i) (λ j. ltb (key a ws first j) (key a ws first i)) (λ j l. before-key j i)
+
+  turn-before : (i j : ℕ) → rest a ws i ≡ rest a ws j → turn (length ws) first i < turn (length ws) first j → before a ws first i j ≡ true
+  unfolding before
+  turn-before i j e t =
+      rw (le-ltb (rest a ws j) (rest a ws i) (omega arith), eq-eqb (rest a ws i) (rest a ws j) e, lt-ltb (turn (length ws) first i) (turn (length ws) first j) t)
+
+  pub rank-turn : (i j : ℕ) → i < length ws → rest a ws i ≡ rest a ws j → turn (length ws) first i < turn (length ws) first j
+      → rank a ws first i < rank a ws first j
+  rank-turn i j l e t =
+      ltb-true (rank a ws first i) (rank a ws first j)
+      (rw (rank-under i, rank-under j)
+      (rank-order (length ws) (key a ws first) key-apart i j l ∙ sym (before-key i j) ∙ turn-before i j e t))

@@ -1,6 +1,6 @@
 -- The sharing rule (01, Sharing a whole amount): an amount a is divided over the column ws of weights.
 -- `shares` is the rule; `rank` orders the leftovers. `first` is the position whose turn comes first among equal
--- remainders: 0 in the base, which is the lower id.
+-- remainders: where it is 0, that is the lower id.
 use Prim.Native.Nat.{ℕ, _+_, _-_, _*_, _/_, _%_}
 use mathlib.Core.Bool.{Bool, cond, _&&_, _||_}
 use mathlib.Core.List.{List}

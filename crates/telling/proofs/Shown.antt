@@ -23,7 +23,7 @@ use Rattle.merit.specs.Call.{cheaperIn, cheaper, group, due, called, calls, unc
 use Rattle.merit.specs.Price.{price}
 use Rattle.levy.specs.Rounds.{closes, closed, next, run, opening, final, openWeights, paid, payments, shortfall, cuts}
 use Rattle.statement.specs.Statement.{statementHeadBytes}
-use Rattle.settle.specs.Settlement.{compensationsOf, levied, figures}
+use Rattle.settle.specs.Settlement.{firstTurn, compensationsOf, levied, figures}
 use Rattle.settle.specs.Statement.{statementHead, statementBytes}
 use Rattle.settle.specs.Answer.{dutiesIn, figuresOf, statementOf, settleOrder, answerOf}
 use Rattle.settle.specs.Table.{intervalX}
@@ -39,7 +39,7 @@ unfolding sumTo countTo maxTo maxWhere findTo whole table numberAt numberBytes f
     firstRefusal rowByRow previous headAt rowAt correctionHeadAt headTests headOk statusOk idleTests notOffering offerTests offering rowTests rowOk
     headChecks rowChecks rowChecksAt rowChecksOf intervalOrder fileOrder termsOf hasId findId countingRow
     width1 width2 energy1 energy2 payer weight cap dutiesOf cheaperIn cheaper group due called calls uncovered price
-    closes closed next run opening final openWeights paid payments shortfall cuts compensationsOf levied figures
+    closes closed next run opening final openWeights paid payments shortfall cuts firstTurn compensationsOf levied figures
     statementHeadBytes statementHead statementBytes dutiesIn figuresOf statementOf settleOrder answerOf intervalX
     decimalIn textTo linesTo statementText toldText tellText
 shown-statement = refl

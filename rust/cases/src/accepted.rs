@@ -60,16 +60,21 @@ pub const SHAPES: [Shape; 19] = [
     Shape::Full,
 ];
 
+/// Any shape; one in four is the one with many ties.
+fn shape(random: &mut Random) -> Shape {
+    if random.once_in(4) { Shape::Alike } else { random.one_of(&SHAPES) }
+}
+
 /// A case that must be accepted, with a correction in half of the draws and a buffer of at least the needed length.
 pub fn case(random: &mut Random) -> Case {
-    let shape = random.one_of(&SHAPES);
+    let shape = shape(random);
     let interval = interval(random, shape);
     case_of(random, shape, interval)
 }
 
 /// The same with so few rows that it can be followed by hand.
 pub fn small_case(random: &mut Random, most: u32) -> Case {
-    let shape = random.one_of(&SHAPES);
+    let shape = shape(random);
     let count = random.within(0..=most);
     let interval = interval_of(random, shape, count);
     case_of(random, shape, interval)
@@ -120,6 +125,8 @@ pub fn interval_of(random: &mut Random, shape: Shape, count: u32) -> Interval {
         Shape::HighestTariff => 10_000,
         Shape::Edges => random.one_of(&[1, 2, 399, 400, 401, 9_999, 10_000]),
         Shape::AllCapped => random.within(1..=60) as u16,
+        // Caps below what is due as often as above it, so that payments and cuts are shared alike.
+        Shape::Alike if random.once_in(2) => random.within(1_000..=10_000) as u16,
         // Low tariffs are as likely as high ones, so that caps bind for none, for some and for all.
         _ => 10f64.powf(random.within(0..=4_000) as f64 / 1_000.0) as u16,
     };

@@ -3,6 +3,7 @@
 //! `SEED=n` repeats a run, `TRIALS=n` makes it longer; a failure prints its trial and its seed, and
 //! `SEED=n TRIAL=m cargo test one_trial` repeats it alone.
 
+use cases::file::{Interval, Row};
 use cases::ladder::{self, ladder};
 use cases::random::Random;
 use cases::{Case, accepted, demands, lengths_near, refused};
@@ -29,7 +30,8 @@ fn the_engine_answers_as_the_reference() {
     assert_eq!(tally.trials(), trials);
     // A run that settled or refused too little would show nothing.
     assert!(trials < 20_000 || (tally.settled > trials / 4 && tally.refused[1..].iter().all(|&count| count > 0)));
-    assert!(trials < 20_000 || tally.outbid > tally.settled / 4);
+    assert!(trials < 20_000 || tally.outbid > tally.settled / 5);
+    assert!(trials < 20_000 || tally.turned.iter().all(|&count| count > tally.settled / 25));
 }
 
 #[test]
@@ -110,13 +112,30 @@ fn empty_slices_are_answered() {
 
 #[test]
 fn figures_are_read_from_a_statement() {
-    let interval = cases::file::Interval::x(1300);
+    let interval = Interval::x(1300);
     let mut statement = vec![0; interval.statement_length()];
     let length = wheatrudder::settle(&interval.bytes(), &[], &mut statement).expect("accepted");
     let head = wheatrudder::head(&statement[..length]).expect("a head");
     assert_eq!((head.total, head.shortfall, head.rounds, head.rows), (90_000, 0, 1, 3));
     let paid: Vec<(u16, u32)> = wheatrudder::lines(&statement).map(|line| (line.id, line.paid)).collect();
     assert_eq!(paid, [(1, 0), (2, 65_000), (3, 25_000)]);
+}
+
+#[test]
+fn rows_alike_are_called_alike_over_as_many_quarters_as_rows() {
+    for rows in [1, 2, 3, 7, 32, 95, 96] {
+        let offers: Vec<Row> = (1..=rows).map(|id| Row::thermal(id, 100, 9_000).offering(10_000, 200, 320)).collect();
+        for need in [1, 100, 2_500 * u32::from(rows) - 1] {
+            let mut called = vec![0; usize::from(rows)];
+            for quarter in 0..rows as u8 {
+                let interval = Interval { quarter, ..Interval::new(500, need, offers.clone()) };
+                let mut statement = vec![0; interval.statement_length()];
+                wheatrudder::settle(&interval.bytes(), &[], &mut statement).expect("accepted");
+                called.iter_mut().zip(wheatrudder::lines(&statement)).for_each(|(sum, line)| *sum += line.called[0]);
+            }
+            assert_eq!(called, vec![need; usize::from(rows)], "{rows} rows");
+        }
+    }
 }
 
 #[test]

@@ -20,11 +20,17 @@ before-compensate c = c .before .before .before .before .before .before .before
 abbrev before-trade : tie.After-trade → tie.After-read
 before-trade c = c .before .before .before .before
 
-abbrev before-read : tie.After-read → tie.After-head-at
-before-read c = c .before .before .before .before
+abbrev before-read : tie.After-read → tie.After-first-turn
+before-read c = c .before .before
+
+abbrev before-first-turn : tie.After-first-turn → tie.After-head-at
+before-first-turn c = c .before .before .before
 
 head-at-requires : tie.Need-head-at-requires
 head-at-requires c κs = search head-there
+
+first-turn-requires : tie.Need-first-turn-requires
+first-turn-requires c κs = search needs
 
 read-requires : tie.Need-read-requires
 read-requires c κs = search needs
@@ -32,26 +38,29 @@ read-requires c κs = search needs
 trade-requires : tie.Need-trade-requires
 trade-requires c κs =
     let r = c .before .before .before in
-    let h = before-read r in
+    let o = before-read r in
+    let h = before-first-turn o in
     let p = h .before .before .before .before .pre in
-    asked-trade _ _ _ (p .0) _ (p .1) _ (h .head-at .ensures) _ (r .read .ensures)
+    asked-trade _ _ _ (p .0) _ (p .1) _ (h .head-at .ensures) _ (o .first-turn .ensures) _ (r .read .ensures)
 
 compensate-requires : tie.Need-compensate-requires
 compensate-requires c κs =
     let a = c .before .before .before .before .before .before in
     let r = before-trade a in
-    let h = before-read r in
+    let o = before-read r in
+    let h = before-first-turn o in
     let p = h .before .before .before .before .pre in
-    asked-pay _ _ _ (p .0) _ (p .1) _ (h .head-at .ensures) _ (r .read .ensures) _ _ (a .trade .ensures)
+    asked-pay _ _ _ (p .0) _ (p .1) _ (h .head-at .ensures) _ (o .first-turn .ensures) _ (r .read .ensures) _ _ (a .trade .ensures)
 
 collect-requires : tie.Need-collect-requires
 collect-requires c κs =
     let e = c .before .before .before in
     let a = before-compensate e in
     let r = before-trade a in
-    let h = before-read r in
+    let o = before-read r in
+    let h = before-first-turn o in
     let p = h .before .before .before .before .pre in
-    asked-levy _ _ _ (p .0) _ (p .1) _ (h .head-at .ensures) _ (r .read .ensures) _ _ (a .trade .ensures) _ _
+    asked-levy _ _ _ (p .0) _ (p .1) _ (h .head-at .ensures) _ (o .first-turn .ensures) _ (r .read .ensures) _ _ (a .trade .ensures) _ _
     (e .compensate .ensures)
 
 shortfall-requires : tie.Need-shortfall-requires
@@ -64,15 +73,16 @@ cut-requires c κs =
     let e = before-collect g in
     let a = before-compensate e in
     let r = before-trade a in
-    let h = before-read r in
+    let o = before-read r in
+    let h = before-first-turn o in
     let p = h .before .before .before .before .pre in
-    asked-cut _ _ _ (p .0) _ (p .1) _ (h .head-at .ensures) _ (r .read .ensures) _ _ (a .trade .ensures) _ _
+    asked-cut _ _ _ (p .0) _ (p .1) _ (h .head-at .ensures) _ (o .first-turn .ensures) _ (r .read .ensures) _ _ (a .trade .ensures) _ _
     (e .compensate .ensures) _ _ (g .collect .ensures) _ (q .shortfall .ensures)
 
-cast-t27 : tie.Need-cast-t27
-cast-t27 c =
+cast-t28 : tie.Need-cast-t28
+cast-t28 c =
     let e = before-collect (before-shortfall (c .before .before .before .before)) in
-    let h = before-read (before-trade (before-compensate e)) in
+    let h = before-first-turn (before-read (before-trade (before-compensate e))) in
     record { fits = omega (arith, few-rows _ _ _ (h .before .before .before .before .pre .0)) }
 
 put-statement-head-requires : tie.Need-put-statement-head-requires
@@ -83,9 +93,10 @@ put-statement-head-requires c κs =
     let e = before-collect g in
     let a = before-compensate e in
     let r = before-trade a in
-    let h = before-read r in
+    let o = before-read r in
+    let h = before-first-turn o in
     let p = h .before .before .before .before .pre in
-    head-room _ _ _ (p .0) _ (p .1) _ (h .head-at .ensures) _ (r .read .ensures) _ _ (a .trade .ensures) _ _
+    head-room _ _ _ (p .0) _ (p .1) _ (h .head-at .ensures) _ (o .first-turn .ensures) _ (r .read .ensures) _ _ (a .trade .ensures) _ _
     (e .compensate .ensures) _ _ (g .collect .ensures) _ (q .shortfall .ensures) _ (l .cut .ensures)
 
 returns : tie.Need-returns
@@ -97,15 +108,16 @@ returns c =
     let e = before-collect g in
     let a = before-compensate e in
     let r = before-trade a in
-    let h = before-read r in
+    let o = before-read r in
+    let h = before-first-turn o in
     let p = h .before .before .before .before .pre in
-    stated _ _ _ (p .0) _ (p .1) _ (h .head-at .ensures) _ (r .read .ensures) _ _ (a .trade .ensures) _ _
+    stated _ _ _ (p .0) _ (p .1) _ (h .head-at .ensures) _ (o .first-turn .ensures) _ (r .read .ensures) _ _ (a .trade .ensures) _ _
     (e .compensate .ensures) _ _ (g .collect .ensures) _ (q .shortfall .ensures) _ (l .cut .ensures) _ (t .put-statement-head .ensures)
 
 same-length : tie.Need-same-length
 same-length c =
     let e = before-collect (before-shortfall (c .before .before .before .before .before .before .before .before)) in
-    let h = before-read (before-trade (before-compensate e)) in
+    let h = before-first-turn (before-read (before-trade (before-compensate e))) in
     let p = h .before .before .before .before .pre in
     stated-long _ _ _ (p .0) _ (p .1) _ (returns c)
 
@@ -114,13 +126,14 @@ write-statement-spec =
     tie.close
     (tie.spec
     head-at-requires
+    first-turn-requires
     read-requires
     trade-requires
     compensate-requires
     collect-requires
     shortfall-requires
     cut-requires
-    cast-t27
+    cast-t28
     put-statement-head-requires
     same-length
     returns)
