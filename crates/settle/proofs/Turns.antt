@@ -2,7 +2,7 @@
 --   first-inside       the position that goes first is one of the rows, unless there is none
 --   first-after        the row at position i goes first after as many quarters as it stands behind whoever goes first now ..
 --   first-only         .. and at none of the other quarters before everybody has gone first
---   each-first-once    over n quarters in a row each of n rows goes first exactly once
+--   each-first-once    over n quarters of a day in a row each of n rows goes first exactly once
 --   lower-first        where position 0 goes first, turns go by position, so by the lower id
 --   accepted-quarter-0, statement-quarter-0     at quarter 0 the figures are those of before: of an accepted pair, of a statement's bytes
 use Prim.Native.Nat.{ℕ, _+_, _-_, _%_, _<_, _≤_}
@@ -38,10 +38,7 @@ first-later : (quarter n k : ℕ) → 0 < n → firstTurn (quarter + k) n ≡ (f
 first-later quarter n k some =
     first-is (quarter + k) n some ∙ sym (mod-add-mod quarter n k) ∙ ap (λ (x : ℕ). (x + k) % n) (sym (first-is quarter n some))
 
--- a sum of two numbers below n, modulo n
-round-early : (n x : ℕ) → x < n → x % n ≡ x
-round-early n x l = mod-eq-of-lt l
-
+-- past the last position it goes on at the first
 round-late : (n x : ℕ) → n ≤ x → x < n + n → x % n ≡ x - n
 round-late n x h l = mod-eq-sub-mod h ∙ mod-eq-of-lt (omega arith)
 
@@ -63,14 +60,14 @@ module _ (quarter n i : ℕ) (l : i < n) where
       let t = turn-early n first i p inside in
       round-late n (first + turn n first i) (omega (arith, inside, t)) (omega (arith, inside, t)) ∙ omega (arith, inside, t))
       (λ (p : first ≤ i).
-      let t = turn-late n first i p l in round-early n (first + turn n first i) (omega (arith, t)) ∙ omega (arith, t))
+      let t : first + turn n first i ≡ i = omega (arith, turn-late n first i p l) in rw t (mod-eq-of-lt l))
       (lt-or-le i first)
 
   pub first-only : (k : ℕ) → k < n → firstTurn (quarter + k) n ≡ i → k ≡ turn n first i
   first-only k m e =
       ⊎-elim
       (λ (p : first + k < n).
-      let x : i ≡ first + k = sym e ∙ first-later quarter n k some ∙ round-early n (first + k) p in
+      let x : i ≡ first + k = sym e ∙ first-later quarter n k some ∙ mod-eq-of-lt p in
       omega (arith, x, turn-late n first i (omega (arith, x)) l))
       (λ (p : n ≤ first + k).
       let x : i ≡ first + k - n =

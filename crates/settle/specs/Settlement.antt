@@ -14,8 +14,8 @@ use Rattle.merit.specs.Price.{price}
 use Rattle.pay.specs.Pay.{compensation}
 use Rattle.levy.specs.Rounds.{Standing, final, payments, shortfall, cuts}
 
--- the position that goes first among equal remainders: the quarter modulo the n rows of the file, sharers or not; with no rows
--- nothing is divided, and nobody shares
+-- the position whose turn comes first among equal remainders: the quarter modulo the n rows of the file, sharers or not. Without
+-- rows there is nothing to divide by, and nobody shares
 unfoldable pub firstTurn : ℕ → ℕ → ℕ
 firstTurn quarter n = cond (eqb n 0) 0 (quarter % n)
 

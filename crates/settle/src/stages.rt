@@ -17,7 +17,7 @@ ghost use Rattle.statement.specs.Statement.{lineStart};
 ghost use Rattle.settle.specs.Settlement.{firstTurn};
 ghost use Rattle.settle.specs.Answer.{statementOf};
 
-// The position that goes first among equal remainders (02, request 2): the quarter modulo the n rows. With no rows nothing is divided.
+// The position whose turn comes first among equal remainders (02, request 2): the quarter modulo the n rows. Without rows nothing is divided.
 fn first_turn(quarter: u8, n: usize) -> usize
     ensures { λ r. ⌜ r ≡ firstTurn quarter n ⌝ }
 {

@@ -2,8 +2,8 @@
 
 use std::cmp::Reverse;
 
-/// The turns of all rows of a file, sharers or not: the row at position quarter modulo rows, counted from 0, goes first,
-/// then onward and round (document 02, request 2).
+/// The turns of all rows of a file, sharers or not. They begin at the position that is the quarter modulo the number of
+/// rows, go on in the file's order, and after the last row comes the first (document 02, request 2).
 #[derive(Clone, Copy, Debug, PartialEq, Eq)]
 pub struct Turns {
     rows: usize,
