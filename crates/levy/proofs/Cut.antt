@@ -14,7 +14,7 @@ use native.Mathlib.Nat.{eq-zero-or-pos}
 use native.Mathlib.Omega.{arith}
 use lib.ListN.{length}
 use Rattle.columns.specs.Sum.{sumTo}
-use Rattle.columns.specs.Table.{at}
+use Rattle.columns.specs.Table.{at, SameOrOneMore}
 use Rattle.columns.proofs.Sum.{sum-same, sum-add}
 use Rattle.columns.specs.Sum.{whole}
 use Rattle.share.specs.Share.{turn, share}
@@ -39,8 +39,7 @@ module _ (total : ℕ) (ws cs compensations : List ℕ) (first : ℕ) where
   cuts-length = shares-length short compensations first
 
   pub cut-alike : (i j : ℕ) → first < length compensations → i < length compensations → at compensations i ≡ at compensations j
-      → turn (length compensations) first i < turn (length compensations) first j
-      → (at taken j ≤ at taken i) × (at taken i ≤ at taken j + 1)
+      → turn (length compensations) first i < turn (length compensations) first j → SameOrOneMore (at taken i) (at taken j)
   cut-alike i j inside l e before =
       rw (cut-share i, cut-share j) (share-alike short compensations first i j inside l e before)
 

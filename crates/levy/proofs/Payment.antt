@@ -28,7 +28,7 @@ use lib.Dec.{eqb}
 use lib.ListN.{length, List·getD-eq-default}
 use borrow.Author.Tests.{eq-eqb, ne-eqb}
 use Rattle.columns.specs.Sum.{sumTo, whole, sumWhere}
-use Rattle.columns.specs.Table.{at}
+use Rattle.columns.specs.Table.{at, SameOrOneMore}
 use Rattle.columns.proofs.Sum.{lt-or-le, sum-same, sum-add, sum-zero}
 use Rattle.columns.proofs.Table.{table-length, table-at, table-past}
 use Rattle.share.specs.Share.{turn, share, shares}
@@ -110,7 +110,7 @@ module _ (total : ℕ) (ws cs : List ℕ) (st : Standing) (s : Sound total ws cs
 
   pub paid-alike : (first i j : ℕ) → first < length ws → i < length ws → at ws i ≡ at ws j → at (st .marks) i ≡ 0 → at (st .marks) j ≡ 0
       → turn (length ws) first i < turn (length ws) first j
-      → (at (payments ws cs st first) j ≤ at (payments ws cs st first) i) × (at (payments ws cs st first) i ≤ at (payments ws cs st first) j + 1)
+      → SameOrOneMore (at (payments ws cs st first) i) (at (payments ws cs st first) j)
   paid-alike first i j inside l e y z before =
       let long = open-length ws (st .marks) in
       let weights : at (openWeights ws (st .marks)) i ≡ at (openWeights ws (st .marks)) j =

@@ -9,6 +9,7 @@
 --     shared-part     what the sharing at key k gives row i: what it gets if it is of that key, else 0
 --     shared-sum      the bands of one key together get what is left there, at most their widths
 --     shared-full     a band gets its width if enough is left for all of its key
+--     shared-alike    of two bands of one key and width the one whose turn comes first gets as much as the other, or one more
 use Prim.Native.Nat.{ℕ, suc, _+_, _-_, _≤_, _<_, min, zero-le}
 use mathlib.Core.Path.{_≡_, refl, ap, sym, _∙_}
 use mathlib.Core.Logic.{⊎-elim}
@@ -20,13 +21,13 @@ use lib.Dec.{ltb, eqb}
 use lib.ListN.{length}
 use borrow.Author.Tests.{lt-ltb, le-ltb, eq-eqb, ne-eqb, eqb-true, eqb-false}
 use Rattle.columns.specs.Sum.{sumTo, whole}
-use Rattle.columns.specs.Table.{at, table, Below}
+use Rattle.columns.specs.Table.{at, table, Below, SameOrOneMore}
 use Rattle.columns.proofs.Sum.{lt-or-le, sum-same, sum-add, sum-le, sum-zero}
 use Rattle.columns.proofs.Rank.{test-or}
 use Rattle.columns.proofs.Table.{table-length, table-at, table-past}
 use Rattle.columns.proofs.Whole.{whole-table}
-use Rattle.share.specs.Share.{share}
-use Rattle.share.proofs.Laws.{share-zero, share-le-amount, share-le-weight, share-is-weight, share-sum}
+use Rattle.share.specs.Share.{turn, share}
+use Rattle.share.proofs.Laws.{share-alike, share-zero, share-le-amount, share-le-weight, share-is-weight, share-sum}
 
 -- what is before the next key is before this one, or at it
 pub cond-next : (o k w : ℕ) → cond (ltb o (suc k)) w 0 ≡ cond (ltb o k) w 0 + cond (eqb o k) w 0
@@ -170,6 +171,15 @@ module _ (n : ℕ) (key width : ℕ → ℕ) where
     unfolding shared portion
     shared-full i l h =
         share-is-weight (min (left (key i)) (whole (peers (key i)))) (peers (key i)) first i (omega arith) ∙ peers-here i l
+
+    pub shared-alike : (i j : ℕ) → first < n → i < n → j < n → key i ≡ key j → width i ≡ width j → turn n first i < turn n first j
+        → SameOrOneMore (shared i) (shared j)
+    unfolding shared
+    shared-alike i j inside l m e w before =
+        let long = peers-length (key i) in
+        let other : at (peers (key i)) j ≡ width j = peers-at (key i) j m ∙ rw (eq-eqb (key j) (key i) (sym e)) in
+        rw (sym e)
+        (share-alike (portion left (key i)) (peers (key i)) first i j (omega (arith, long)) (omega (arith, long)) (peers-here i l ∙ w ∙ sym other) (rw long before))
 
     pub shared-part : (k i : ℕ) → share (portion left k) (peers k) first i ≡ cond (eqb (key i) k) (shared i) 0
     unfolding shared

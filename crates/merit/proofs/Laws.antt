@@ -22,30 +22,29 @@
 --     price-all-deliver    .. and the same if all that are called deliver
 --     price-unique, call-tier-unique      two results that one contract allows are equal
 use Prim.Native.Nat.{ℕ, zero, suc, _+_, _-_, _≤_, _<_, min}
-use mathlib.Core.Path.{_≡_, refl, ap, sym, _∙_}
+use mathlib.Core.Path.{_≡_, ap, sym, _∙_}
 use mathlib.Core.Logic.{_⊎_, inl, inr, ⊎-elim}
 use mathlib.Core.Bool.{Bool, true, cond}
 use mathlib.Core.List.{List}
 use native.Mathlib.Omega.{arith}
 use lib.Dec.{ltb, eqb}
 use lib.ListN.{length}
-use borrow.Author.Tests.{lt-ltb, ltb-true, eq-eqb}
+use borrow.Author.Tests.{lt-ltb, ltb-true}
 use Rattle.columns.specs.Sum.{sumTo, whole}
-use Rattle.columns.specs.Table.{at, Below}
+use Rattle.columns.specs.Table.{at, Below, SameOrOneMore}
 use Rattle.columns.proofs.Sum.{lt-or-le, term-le, max-where-term, max-where-bound, max-where-reached, max-where-fewer}
 use Rattle.columns.proofs.First.{left-true, right-true}
 use Rattle.columns.proofs.Table.{table-length, table-at, table-past}
 use Rattle.columns.proofs.Whole.{whole-table}
 use Rattle.columns.proofs.Unique.{Leaves-one, One-result}
 use Rattle.share.specs.Share.{turn}
-use Rattle.share.proofs.Laws.{share-alike}
 use Rattle.merit.specs.Band.{Tier, one, two, Bands, widths, bids, rows, orderOf, orderAt}
 use Rattle.merit.specs.Call.{cheaper, group, due, called, calls, uncovered}
 use Rattle.merit.specs.Price.{delivers, price, calledPrice}
 use Rattle.merit.proofs.call_tier.Reads as call-tier
 use Rattle.merit.proofs.price.Reads as price-reads
 use Rattle.merit.proofs.Keyed.{before, before-next, before-zero, before-all}
-use Rattle.merit.proofs.Keyed.{peers, peers-sum, portion, shared, shared-le, shared-past, shared-met, shared-full, shared-sum}
+use Rattle.merit.proofs.Keyed.{peers, peers-sum, portion, shared, shared-le, shared-past, shared-met, shared-full, shared-alike, shared-sum}
 use Rattle.merit.proofs.Groups.{cheaper-next, cheaper-tier, cheaper-rise, cheaper-zero, cheaper-all, groups-apart}
 
 pub lower-bid : (b : Bands) (t u : Tier) (i j : ℕ) → at (bids b u) j < at (bids b t) i → orderAt b u j < orderAt b t i
@@ -73,22 +72,12 @@ module _ (need : ℕ) (b : Bands) (first : ℕ) where
   unfolding called due group shared portion peers
   called-past t i l = shared-past (rows b) (orderAt b t) (at (widths b t)) left first i l
 
-  group-at : (t : Tier) (k i : ℕ) → i < rows b → orderAt b t i ≡ k → at (group b t k) i ≡ at (widths b t) i
-  unfolding group
-  group-at t k i l e =
-      table-at 0 (rows b) (λ j. cond (eqb (orderAt b t j) k) (at (widths b t) j) 0) i l ∙ rw (eq-eqb (orderAt b t i) k e)
-
-  pub called-alike : (t : Tier) (i j : ℕ) → first < rows b → i < rows b → j < rows b → at (widths b t) i ≡ at (widths b t) j
-      → at (bids b t) i ≡ at (bids b t) j → turn (rows b) first i < turn (rows b) first j
-      → (called need b first t j ≤ called need b first t i) × (called need b first t i ≤ called need b first t j + 1)
-  unfolding called
-  called-alike t i j inside l m w e before =
-      let k : ℕ = orderAt b t i in
-      let same : orderAt b t j ≡ k = ap (orderOf t) (sym e) in
-      let long : length (group b t k) ≡ rows b = unfold group in table-length (rows b) _ in
-      let weights : at (group b t k) i ≡ at (group b t k) j = group-at t k i l refl ∙ w ∙ sym (group-at t k j m same) in
-      rw same
-      (share-alike (due need b t k) (group b t k) first i j (omega (arith, long, inside)) (omega (arith, long, l)) weights (rw long before))
+  pub called-alike : (t : Tier) (i j : ℕ) → first < rows b → i < rows b → j < rows b → at (bids b t) i ≡ at (bids b t) j
+      → at (widths b t) i ≡ at (widths b t) j → turn (rows b) first i < turn (rows b) first j
+      → SameOrOneMore (called need b first t i) (called need b first t j)
+  unfolding called due group shared portion peers
+  called-alike t i j inside l m e =
+      shared-alike (rows b) (orderAt b t) (at (widths b t)) left first i j inside l m (ap (orderOf t) e)
 
   pub called-met : (t : Tier) (i : ℕ) → need ≤ cheaper b (orderAt b t i) → called need b first t i ≡ 0
   unfolding called due group shared portion peers

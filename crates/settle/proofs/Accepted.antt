@@ -3,8 +3,8 @@
 --   duties-within      the columns are within sizes
 --   accepted-long, accepted-sized      lengths and sizes of the figures
 --   accepted-head-fits, accepted-line-fits     each field of the head and of a line fits its width
-use Prim.Native.Nat.{ℕ, zero, suc, _+_, _^_, _≤_, _<_}
-use mathlib.Core.Path.{_≡_, refl, sym, ap, _∙_}
+use Prim.Native.Nat.{ℕ, zero, suc, _^_, _<_}
+use mathlib.Core.Path.{_≡_}
 use mathlib.Core.List.{List}
 use native.Mathlib.Omega.{arith}
 use Rattle.columns.specs.Table.{at, Below}

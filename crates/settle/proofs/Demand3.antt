@@ -26,7 +26,7 @@ use native.Mathlib.Nat.{eq-zero-or-pos}
 use native.Mathlib.Omega.{arith}
 use lib.ListN.{length}
 use borrow.Author.Tests.{lt-ltb, eq-eqb, ne-eqb}
-use Rattle.columns.specs.Sum.{sumTo, sumWhere, countTo, maxTo}
+use Rattle.columns.specs.Sum.{sumTo, sumWhere, maxTo}
 use Rattle.columns.specs.Table.{at}
 use Rattle.columns.proofs.Sum.{sum-same, sum-add}
 use Rattle.columns.proofs.Table.{table-length}

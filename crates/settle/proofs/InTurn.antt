@@ -7,7 +7,7 @@ use mathlib.Core.List.{List}
 use native.Mathlib.Omega.{arith}
 use lib.ListN.{length}
 use Rattle.columns.specs.Sum.{whole}
-use Rattle.columns.specs.Table.{at}
+use Rattle.columns.specs.Table.{at, SameOrOneMore}
 use Rattle.columns.proofs.Table.{table-length}
 use Rattle.files.specs.Layout.{headAt, rowCount}
 use Rattle.files.specs.Terms.{termsOf}
@@ -25,7 +25,7 @@ use Rattle.levy.proofs.Cut.{cut-alike}
 use Rattle.settle.specs.Settlement.{firstTurn, bandsOf, compensationsOf, Figures, levied, figures}
 use Rattle.settle.specs.Within.{Turn}
 use Rattle.settle.specs.Answer.{dutiesIn, figuresOf, answerOf, bufferAfter, numberOf}
-use Rattle.settle.specs.Promise.{Bytes, figuresAt, Earlier, OrOneMore, InTurn}
+use Rattle.settle.specs.Promise.{Bytes, figuresAt, Alike, InTurn}
 use Rattle.settle.proofs.Demand2.{statement-figures}
 use Rattle.settle.proofs.Turns.{first-inside}
 
@@ -38,14 +38,14 @@ module _ (need first n : ℕ) (d : Duties) (level : Level n d) (goes : Turn n fi
   inside : first < n
   inside = goes (omega arith)
 
-  calls-in-turn : (t : Tier) → at (widths (bandsOf d) t) i ≡ at (widths (bandsOf d) t) j → at (bids (bandsOf d) t) i ≡ at (bids (bandsOf d) t) j
-      → OrOneMore (at (calls need (bandsOf d) first t) i) (at (calls need (bandsOf d) first t) j)
-  calls-in-turn t w e =
+  calls-in-turn : (t : Tier) → Alike (bids (bandsOf d) t) i j → Alike (widths (bandsOf d) t) i j
+      → SameOrOneMore (at (calls need (bandsOf d) first t) i) (at (calls need (bandsOf d) first t) j)
+  calls-in-turn t e w =
       let long = level .widths1 in
       rw (calls-at need (bandsOf d) first t i, calls-at need (bandsOf d) first t j)
-      (called-alike need (bandsOf d) first t i j (omega (arith, long, inside)) (omega (arith, long)) (omega (arith, long)) w e (rw long before))
+      (called-alike need (bandsOf d) first t i j (omega (arith, long, inside)) (omega (arith, long)) (omega (arith, long)) e w (rw long before))
 
-  paid-in-turn : at (f .weights) i ≡ at (f .weights) j → at (f .closing) i ≡ 0 → at (f .closing) j ≡ 0 → OrOneMore (at (f .paid) i) (at (f .paid) j)
+  paid-in-turn : Alike (f .weights) i j → at (f .closing) i ≡ 0 → at (f .closing) j ≡ 0 → SameOrOneMore (at (f .paid) i) (at (f .paid) j)
   unfolding figures levied
   paid-in-turn e y z =
       let long = level .weights in
@@ -53,7 +53,7 @@ module _ (need first n : ℕ) (d : Duties) (level : Level n d) (goes : Turn n fi
       paid-alike total (d .weights) (d .caps) (final total (d .weights) (d .caps)) (final-sound total (d .weights) (d .caps)) first i j
       (omega (arith, long, inside)) (omega (arith, long)) e y z (rw long before)
 
-  cuts-in-turn : at (f .compensations) i ≡ at (f .compensations) j → OrOneMore (at (f .cuts) i) (at (f .cuts) j)
+  cuts-in-turn : Alike (f .compensations) i j → SameOrOneMore (at (f .cuts) i) (at (f .cuts) j)
   unfolding figures levied
   cuts-in-turn e =
       let long : length (f .compensations) ≡ n =

@@ -4,16 +4,15 @@
 --   asked-trade                     both tiers
 --   asked-pay, asked-levy, asked-cut    compensations, rounds and payments, cuts
 --   head-room, stated               the head may be put, and then the buffer holds the statement
-use Prim.Native.Nat.{ℕ, _+_, _-_, _≤_, _<_}
+use Prim.Native.Nat.{ℕ, _-_, _≤_, _<_}
 use mathlib.Core.Path.{_≡_, refl, sym, ap, _∙_}
-use mathlib.Core.List.{List, [], _++_}
+use mathlib.Core.List.{List, []}
 use native.Mathlib.Omega.{arith}
 use lib.ListN.{length}
 use Rattle.columns.specs.Sum.{whole}
-use Rattle.columns.specs.Table.{at, table}
+use Rattle.columns.specs.Table.{at}
 use Rattle.columns.proofs.Table.{table-at}
 use Rattle.records.specs.Buffer.{put}
-use Rattle.records.specs.Record.{recordsBytes}
 use Rattle.records.specs.Sheet.{sheet}
 use Rattle.records.proofs.Sheet.{sheet-same, sheet-head}
 use Rattle.units.specs.declared.Fen.{Fen}
@@ -29,7 +28,6 @@ use Rattle.duties.specs.Duties.{Duties, dutiesOf}
 use Rattle.levy.specs.Asked.{Short}
 use Rattle.levy.specs.declared.Rest.{Rest}
 use Rattle.statement.specs.Statement.{letterL, lineWidths, headSize, lineStart, statementHeadBytes}
-use Rattle.statement.specs.Line as line
 use Rattle.statement.proofs.Laws.{head-length}
 use Rattle.settle.specs.Settlement.{firstTurn, Figures, figures}
 use Rattle.settle.specs.Statement.{statementHead, lineOf, statementBytes}

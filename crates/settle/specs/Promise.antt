@@ -7,7 +7,7 @@ use mathlib.Core.List.{List}
 use lib.Dec.{eqb}
 use lib.ListN.{length}
 use Rattle.columns.specs.Sum.{sumTo, sumWhere, maxTo}
-use Rattle.columns.specs.Table.{at}
+use Rattle.columns.specs.Table.{at, SameOrOneMore}
 use Rattle.columns.specs.Sum.{whole}
 use Rattle.files.specs.Layout.{headAt, rowCount}
 use Rattle.files.specs.Terms.{termsOf}
@@ -77,32 +77,37 @@ pub record Prices (s k : List ℕ) (f : Figures) : Type 0 where
 
 -- ---- whose turn it is among equal remainders (02, request 2)
 
--- of n rows, the one at position i goes first at a quarter: by the sharing rule's own count it stands behind nobody
-abbrev pub goesFirst : ℕ → ℕ → ℕ → Bool
-goesFirst n quarter i = eqb (turn n (firstTurn quarter n) i) 0
+-- how many of n rows have their turn before the one at position i, at a quarter
+abbrev pub turnAt : ℕ → ℕ → ℕ → ℕ
+turnAt n quarter i = turn n (firstTurn quarter n) i
 
--- the row at position i has its turn before the row at position j
+-- the row at position i goes first
+abbrev pub goesFirst : ℕ → ℕ → ℕ → Bool
+goesFirst n quarter i = eqb (turnAt n quarter i) 0
+
+-- the row at position i of a file has its turn before the row at position j
 pub record Earlier (s : List ℕ) (i j : ℕ) : Type 0 where
   pub one : i < rowCount s
   pub other : j < rowCount s
-  pub turns : turn (rowCount s) (firstTurn (headAt s .quarter) (rowCount s)) i < turn (rowCount s) (firstTurn (headAt s .quarter) (rowCount s)) j
+  pub turns : turnAt (rowCount s) (headAt s .quarter) i < turnAt (rowCount s) (headAt s .quarter) j
 
--- x is y, or one more
-abbrev pub OrOneMore : ℕ → ℕ → Type 0
-OrOneMore x y = (y ≤ x) × (x ≤ y + 1)
+-- a column has the same at both positions
+abbrev pub Alike : List ℕ → ℕ → ℕ → Type 0
+Alike xs i j = at xs i ≡ at xs j
 
--- what is left over goes by turn: of two rows alike in that by which they share, the one whose turn comes first has what the other has, or one more
+-- what is left over goes by turn: of two rows alike in that by which they share, the one whose turn comes first has what the other
+-- has, or one more
 pub record InTurn (s k : List ℕ) (f : Figures) : Type 0 where
-  -- bands of one width and bid in a tier
-  pub calls1 : (i j : ℕ) → Earlier s i j → at (dutiesIn s k .widths1) i ≡ at (dutiesIn s k .widths1) j
-      → at (dutiesIn s k .bids1) i ≡ at (dutiesIn s k .bids1) j → OrOneMore (at (f .called1) i) (at (f .called1) j)
-  pub calls2 : (i j : ℕ) → Earlier s i j → at (dutiesIn s k .widths2) i ≡ at (dutiesIn s k .widths2) j
-      → at (dutiesIn s k .bids2) i ≡ at (dutiesIn s k .bids2) j → OrOneMore (at (f .called2) i) (at (f .called2) j)
+  -- bands of one bid and width in a tier
+  pub calls1 : (i j : ℕ) → Earlier s i j → Alike (dutiesIn s k .bids1) i j → Alike (dutiesIn s k .widths1) i j
+      → SameOrOneMore (at (f .called1) i) (at (f .called1) j)
+  pub calls2 : (i j : ℕ) → Earlier s i j → Alike (dutiesIn s k .bids2) i j → Alike (dutiesIn s k .widths2) i j
+      → SameOrOneMore (at (f .called2) i) (at (f .called2) j)
   -- payers of one weight that are not capped
-  pub payments : (i j : ℕ) → Earlier s i j → at (f .weights) i ≡ at (f .weights) j → at (f .closing) i ≡ 0 → at (f .closing) j ≡ 0
-      → OrOneMore (at (f .paid) i) (at (f .paid) j)
+  pub payments : (i j : ℕ) → Earlier s i j → Alike (f .weights) i j → at (f .closing) i ≡ 0 → at (f .closing) j ≡ 0
+      → SameOrOneMore (at (f .paid) i) (at (f .paid) j)
   -- receivers of one compensation
-  pub cuts : (i j : ℕ) → Earlier s i j → at (f .compensations) i ≡ at (f .compensations) j → OrOneMore (at (f .cuts) i) (at (f .cuts) j)
+  pub cuts : (i j : ℕ) → Earlier s i j → Alike (f .compensations) i j → SameOrOneMore (at (f .cuts) i) (at (f .cuts) j)
 
 -- the figures of a pair if equal remainders went to the lower id at every quarter, as in document 01
 unfoldable pub figuresByLowerId : List ℕ → List ℕ → Figures

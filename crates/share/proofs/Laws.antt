@@ -20,7 +20,7 @@
 -- For whoever has to show what `split` asks:
 --     weight-le          a weight is at most the sum of the weights
 use Prim.Native.Nat.{ℕ, _+_, _-_, _*_, _/_, _%_, _≤_, _<_}
-use mathlib.Core.Path.{_≡_, refl, ap, sym, _∙_}
+use mathlib.Core.Path.{_≡_, ap, sym, _∙_}
 use mathlib.Core.Logic.{⊎-elim}
 use mathlib.Core.List.{List}
 use native.Mathlib.Nat.{eq-zero-or-pos, mul-le-mul-left, mul-le-mul-right, lt-of-mul-lt-mul-right}
@@ -29,8 +29,8 @@ use lib.Dec.{ltb}
 use lib.ListN.{length, List·getD-eq-default}
 use borrow.Author.Tests.{lt-ltb, le-ltb, eq-eqb}
 use Rattle.columns.specs.Sum.{bit, sumTo}
-use Rattle.columns.specs.Table.{at, table}
-use Rattle.columns.proofs.Sum.{lt-or-le, sum-same, sum-bound, bit-le}
+use Rattle.columns.specs.Table.{at, SameOrOneMore}
+use Rattle.columns.proofs.Sum.{lt-or-le, bit-le}
 use Rattle.columns.proofs.Table.{table-length, table-at, table-past, table-same, table-list}
 use Rattle.columns.proofs.Whole.{whole-table}
 use Rattle.columns.specs.Sum.{whole}
@@ -88,7 +88,7 @@ module _ (a : ℕ) (ws : List ℕ) (first : ℕ) where
       (eq-zero-or-pos (whole ws))
 
   pub share-alike : (i j : ℕ) → first < length ws → i < length ws → at ws i ≡ at ws j → turn (length ws) first i < turn (length ws) first j
-      → (share a ws first j ≤ share a ws first i) × (share a ws first i ≤ share a ws first j + 1)
+      → SameOrOneMore (share a ws first i) (share a ws first j)
   share-alike i j inside l e t =
       ⊎-elim (λ (z : whole ws ≡ 0). (omega (arith, share-none z i, share-none z j), omega (arith, share-none z i, share-none z j)))
       (λ (some : 0 < whole ws).

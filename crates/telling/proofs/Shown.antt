@@ -2,8 +2,7 @@
 --   shown-statement   interval X at tariff 1300: a head and three lines (01, Checked figures)
 --   shown-refusal     the empty file: number 1, place 0
 use mathlib.Core.Path.{_≡_, refl}
-use mathlib.Core.List.{List, [], _∷_}
-use Prim.Native.Nat.{ℕ}
+use mathlib.Core.List.{[], _∷_}
 use Rattle.columns.specs.Sum.{sumTo, countTo, maxTo, maxWhere, findTo, whole}
 use Rattle.columns.specs.Table.{table}
 use Rattle.columns.specs.Checks.{firstRefusal, rowByRow, previous}

@@ -125,7 +125,7 @@ pub fn interval_of(random: &mut Random, shape: Shape, count: u32) -> Interval {
         Shape::HighestTariff => 10_000,
         Shape::Edges => random.one_of(&[1, 2, 399, 400, 401, 9_999, 10_000]),
         Shape::AllCapped => random.within(1..=60) as u16,
-        // Caps below what is due as often as above it, so that payments and cuts are shared alike.
+        // A high tariff in half of them, so that payments are shared in many and cuts in many.
         Shape::Alike if random.once_in(2) => random.within(1_000..=10_000) as u16,
         // Low tariffs are as likely as high ones, so that caps bind for none, for some and for all.
         _ => 10f64.powf(random.within(0..=4_000) as f64 / 1_000.0) as u16,

@@ -1,6 +1,5 @@
 -- `settle::stages::write_statement` meets its contract: each stage finds what the one before left (proofs/Stated.antt). The places are named
 -- on the way back, from a stage to the one before it.
-use Prim.Native.Nat.{_+_, _≤_}
 use native.Mathlib.Omega.{arith}
 use borrow.Author.Needs.{needs}
 use Rattle.settle.proofs.Answered.{few-rows, head-there, stated-long}
