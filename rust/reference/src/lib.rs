@@ -2,7 +2,8 @@
 //! that have landed, without a look at the definitions or the engine.
 //!
 //! It is what both are compared with: byte for byte in the differential tests, and in speed in the benchmark.
-//! Products stay in `u64`: with every field in its range the largest, a cut's `shortfall × compensation`, is below 2^57.
+//! Products stay in `u64`: with every field in its range the largest, that of the penalties together and one of
+//! them, is below 2^58.
 
 mod calls;
 mod files;
@@ -13,7 +14,7 @@ mod statement;
 
 pub use calls::{Calls, call};
 pub use files::{CORRECTION_HEAD, INTERVAL_HEAD, Interval, MAX_ROWS, ROW, Refusal, Row, read_interval, write_interval};
-pub use money::{compensation, fen, paid_energy, solar_or_wind_cap, thermal_cap, thermal_weight};
+pub use money::{compensation, fen, paid_energy, penalty, solar_or_wind_cap, thermal_cap, thermal_weight};
 pub use rounds::{Payer, Rounds, redistribute};
 pub use share::{Sharer, Turns, share};
 pub use statement::{LINE, STATEMENT_HEAD, lines_of_text};

@@ -24,6 +24,17 @@ pub fn compensation(row: &Row, called: [u32; 2], prices: [u16; 2]) -> u64 {
     fen(li)
 }
 
+/// What a thermal row of status 2 owes in fen for the energy that it was called for and did not deliver, tier by tier at
+/// twice the price (document 02, request 4). More than was called in one tier does not make up for less in the other.
+pub fn penalty(row: &Row, called: [u32; 2], prices: [u16; 2]) -> u64 {
+    if !row.is_thermal() || row.status != 2 {
+        return 0;
+    }
+    let delivered = paid_energy(row);
+    let li = |tier: usize| 2 * u64::from(called[tier].saturating_sub(delivered[tier])) * u64::from(prices[tier]);
+    fen(li(0) + li(1))
+}
+
 /// Whether a row shares in the payment, perhaps with a weight of 0.
 pub(crate) fn pays(row: &Row) -> bool {
     if row.is_thermal() { row.status != 3 && row.metered >= row.at_load(50) } else { row.status == 0 }

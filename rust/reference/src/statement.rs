@@ -4,16 +4,16 @@ use std::fmt::Write;
 
 use crate::calls::call;
 use crate::files::{Interval, Row};
-use crate::money::{compensation, pays, solar_or_wind_cap, thermal_cap, thermal_weight};
+use crate::money::{compensation, pays, penalty, solar_or_wind_cap, thermal_cap, thermal_weight};
 use crate::rounds::{Payer, redistribute};
 use crate::share::{Sharer, Turns, share};
 
 pub const STATEMENT_HEAD: usize = 35;
-pub const LINE: usize = 34;
+pub const LINE: usize = 42;
 
 /// Widths of the fields after the mark.
 const HEAD_FIELDS: [usize; 9] = [4, 1, 2, 2, 8, 8, 2, 4, 2];
-const LINE_FIELDS: [usize; 9] = [2, 4, 4, 4, 4, 4, 4, 4, 2];
+const LINE_FIELDS: [usize; 11] = [2, 4, 4, 4, 4, 4, 4, 4, 2, 4, 4];
 
 /// Settles accepted contents into a buffer of exactly the statement's length.
 pub(crate) fn write(interval: &Interval, out: &mut [u8]) {
@@ -25,9 +25,13 @@ pub(crate) fn write(interval: &Interval, out: &mut [u8]) {
     let total: u64 = compensations.iter().sum();
     let mut payers: Vec<Payer> = rows.iter().map(|row| payer(row, interval.tariff)).collect();
     let rounds = redistribute(&mut payers, total, turns);
-    let receivers: Vec<Sharer> =
-        compensations.iter().enumerate().map(|(position, &weight)| Sharer { position, weight }).collect();
-    let cuts = share(rounds.shortfall, &receivers, turns);
+    // Penalty money fills the shortfall first; receivers are cut by what it leaves open, and what it has over goes back.
+    let penalties: Vec<u64> =
+        rows.iter().zip(&calls.called).map(|(row, &called)| penalty(row, called, calls.prices)).collect();
+    let penalty_money: u64 = penalties.iter().sum();
+    let filled = penalty_money.min(rounds.shortfall);
+    let cuts = share(rounds.shortfall - filled, &by_position(&compensations), turns);
+    let returned = share(penalty_money - filled, &by_position(&penalties), turns);
 
     let (head, body) = out.split_at_mut(STATEMENT_HEAD);
     head[..2].copy_from_slice(b"PS");
@@ -54,7 +58,14 @@ pub(crate) fn write(interval: &Interval, out: &mut [u8]) {
             bytes.copy_from_slice(&(amount as u32).to_le_bytes());
         }
         line[32..34].copy_from_slice(&payer.closing.to_le_bytes());
+        line[34..38].copy_from_slice(&(penalties[place] as u32).to_le_bytes());
+        line[38..42].copy_from_slice(&(returned[place] as u32).to_le_bytes());
     }
+}
+
+/// All rows of the file as sharers.
+fn by_position(weights: &[u64]) -> Vec<Sharer> {
+    weights.iter().enumerate().map(|(position, &weight)| Sharer { position, weight }).collect()
 }
 
 fn payer(row: &Row, tariff: u16) -> Payer {

@@ -1,7 +1,8 @@
 //! The figures of document 01, P1 to P11 and those that are only run, and those worked out for the requests of document 02.
 
 use reference::{
-    Calls, Interval, Row, Sharer, Turns, call, fen, paid_energy, settle, share, tell, thermal_cap, thermal_weight,
+    Calls, Interval, Row, Sharer, Turns, call, fen, paid_energy, penalty, settle, share, tell, thermal_cap,
+    thermal_weight,
 };
 
 fn row(id: u16, kind: u8, metered: u32) -> Row {
@@ -118,7 +119,7 @@ fn run_only_no_rows() {
 #[test]
 fn run_only_no_payers() {
     let lone = Interval { rows: x(1300).rows[..1].to_vec(), ..x(1300) };
-    assert_eq!(tell(&bytes(&lone)), "0 0 200 400 90000 90000 0 0 1\n1 2500 500 90000 90000 0 0 0 0\n");
+    assert_eq!(tell(&bytes(&lone)), "0 0 200 400 90000 90000 0 0 1\n1 2500 500 90000 90000 0 0 0 0 0 0\n");
 }
 
 #[test]
@@ -146,18 +147,18 @@ fn run_only_tier_1_bids() {
 #[test]
 fn tell_prints_interval_x() {
     let text = "0 0 200 400 90000 0 1 0 3\n\
-                1 2500 500 90000 0 0 0 0 0\n\
-                2 0 0 0 0 15000 65000 65000 1\n\
-                3 0 0 0 0 5000 32500 25000 0\n";
+                1 2500 500 90000 0 0 0 0 0 0 0\n\
+                2 0 0 0 0 15000 65000 65000 1 0 0\n\
+                3 0 0 0 0 5000 32500 25000 0 0 0\n";
     assert_eq!(tell(&bytes(&x(1300))), text);
     assert_eq!(tell(b"PH"), "refused 1 0\n");
 }
 
 #[test]
 fn a_refusal_leaves_the_buffer() {
-    let mut statement = [7; 136];
+    let mut statement = [7; 160];
     assert_eq!(settle(&bytes(&x(1300)), &[], &mut statement), Err((11, 0)));
-    assert_eq!(statement, [7; 136]);
+    assert_eq!(statement, [7; 160]);
 }
 
 /// Interval X at tariff 1300 with row 1 at another meter reading.
@@ -185,9 +186,9 @@ fn request_1_statements() {
             x_metered(12_500),
             [
                 "0 0 0 0 0 0 0 0 3",
-                "1 2500 500 0 0 0 40625 0 0",
-                "2 0 0 0 0 15000 65000 0 0",
-                "3 0 0 0 0 5000 32500 0 0",
+                "1 2500 500 0 0 0 40625 0 0 0 0",
+                "2 0 0 0 0 15000 65000 0 0 0 0",
+                "3 0 0 0 0 5000 32500 0 0 0 0",
             ],
         ),
         // 1 kWh at 200 li are 20 fen, of which rows 2 and 3 pay three parts and one.
@@ -195,9 +196,9 @@ fn request_1_statements() {
             x_metered(12_499),
             [
                 "0 0 200 0 20 0 0 0 3",
-                "1 2500 500 20 0 0 0 0 0",
-                "2 0 0 0 0 15000 65000 15 0",
-                "3 0 0 0 0 5000 32500 5 0",
+                "1 2500 500 20 0 0 0 0 0 0 0",
+                "2 0 0 0 0 15000 65000 15 0 0 0",
+                "3 0 0 0 0 5000 32500 5 0 0 0",
             ],
         ),
         // Called in tier 2 too, but 12,500 less 11,000 is 1,500 kWh in tier 1 alone, at 200 li: 30,000 fen.
@@ -205,9 +206,9 @@ fn request_1_statements() {
             x_metered(11_000),
             [
                 "0 0 200 0 30000 0 0 0 3",
-                "1 2500 500 30000 0 0 0 0 0",
-                "2 0 0 0 0 15000 65000 22500 0",
-                "3 0 0 0 0 5000 32500 7500 0",
+                "1 2500 500 30000 0 0 0 0 0 0 0",
+                "2 0 0 0 0 15000 65000 22500 0 0 0",
+                "3 0 0 0 0 5000 32500 7500 0 0 0",
             ],
         ),
         // Row 2 is called in full at 300 and 500 li, but ran at 80 percent: prices stay those of row 1, and so does the rest.
@@ -215,9 +216,9 @@ fn request_1_statements() {
             x_beside(dearer(20_000)),
             [
                 "0 0 200 400 90000 0 1 0 3",
-                "1 2500 2000 90000 0 0 0 0 0",
-                "2 2500 2000 0 0 15000 65000 65000 1",
-                "3 0 0 0 0 5000 32500 25000 0",
+                "1 2500 2000 90000 0 0 0 0 0 0 0",
+                "2 2500 2000 0 0 15000 65000 65000 1 0 0",
+                "3 0 0 0 0 5000 32500 25000 0 0 0",
             ],
         ),
     ];
@@ -242,12 +243,13 @@ fn request_1_prices_and_totals() {
 
 #[test]
 fn request_1_a_dearer_row_of_another_status() {
-    // Row 2 runs as low as row 1, but is starting, reduced or in a grid accident: not paid, and it sets no price.
+    // Row 2 runs as low as row 1, but is starting or in a grid accident: not paid, it sets no price, and it owes nothing for
+    // the 1,000 kWh that it was called for and did not deliver. Status 2 is among the figures of request 4.
     let text = "0 0 200 400 90000 57500 1 0 3\n\
-                1 2500 2000 90000 57500 0 0 0 0\n\
-                2 2500 2000 0 0 0 0 0 0\n\
-                3 0 0 0 0 5000 32500 32500 1\n";
-    for status in [1, 2, 3] {
+                1 2500 2000 90000 57500 0 0 0 0 0 0\n\
+                2 2500 2000 0 0 0 0 0 0 0 0\n\
+                3 0 0 0 0 5000 32500 32500 1 0 0\n";
+    for status in [1, 3] {
         assert_eq!(tell(&bytes(&x_beside(Row { status, ..dearer(9_000) }))), text, "status {status}");
     }
 }
@@ -373,7 +375,202 @@ fn request_2_cuts() {
 #[test]
 fn request_2_one_row_and_no_rows() {
     let lone = Interval { quarter: 95, rows: x(1300).rows[..1].to_vec(), ..x(1300) };
-    assert_eq!(tell(&bytes(&lone)), "0 95 200 400 90000 90000 0 0 1\n1 2500 500 90000 90000 0 0 0 0\n");
+    assert_eq!(tell(&bytes(&lone)), "0 95 200 400 90000 90000 0 0 1\n1 2500 500 90000 90000 0 0 0 0 0 0\n");
     let empty = Interval { quarter: 95, rows: Vec::new(), ..x(1300) };
     assert_eq!(tell(&bytes(&empty)), "0 95 0 0 0 0 0 3000 0\n");
+}
+
+/// Row 1 of interval X is called in full and gets 90,000 fen at 200 and 400 li; row 2 beside it is reduced and called in full
+/// too, for 2,500 and 2,000 kWh; the wind farm's cap is 25 fen for each hao of the tariff.
+fn reduced(tariff: u16, metered: u32) -> Interval {
+    Interval { tariff, ..x_beside(Row { status: 2, ..dearer(metered) }) }
+}
+
+#[test]
+fn request_4_statements() {
+    let statements = [
+        // Delivered all that it was called for: the cut is that of before.
+        (
+            reduced(1300, 8_000),
+            [
+                "0 0 200 400 90000 57500 1 0 3",
+                "1 2500 2000 90000 57500 0 0 0 0 0 0",
+                "2 2500 2000 0 0 0 0 0 0 0 0",
+                "3 0 0 0 0 5000 32500 32500 1 0 0",
+            ],
+        ),
+        // Delivered part, 1,000 kWh short in tier 2: twice 400,000 li are 80,000 fen. 57,500 fill the shortfall, 22,500 go back.
+        (
+            reduced(1300, 9_000),
+            [
+                "0 0 200 400 90000 57500 1 0 3",
+                "1 2500 2000 90000 0 0 0 0 0 0 0",
+                "2 2500 2000 0 0 0 0 0 0 80000 22500",
+                "3 0 0 0 0 5000 32500 32500 1 0 0",
+            ],
+        ),
+        // 1,000 and 2,000 kWh short: 400,000 and 1,600,000 li.
+        (
+            reduced(1300, 11_000),
+            [
+                "0 0 200 400 90000 57500 1 0 3",
+                "1 2500 2000 90000 0 0 0 0 0 0 0",
+                "2 2500 2000 0 0 0 0 0 0 200000 142500",
+                "3 0 0 0 0 5000 32500 32500 1 0 0",
+            ],
+        ),
+        // Delivered nothing, at half load: 2,500 and 2,000 kWh short, and a payer of weight 0 too.
+        (
+            reduced(1300, 12_500),
+            [
+                "0 0 200 400 90000 57500 1 0 3",
+                "1 2500 2000 90000 0 0 0 0 0 0 0",
+                "2 2500 2000 0 0 0 40625 0 0 260000 202500",
+                "3 0 0 0 0 5000 32500 32500 1 0 0",
+            ],
+        ),
+        // Above half load it pays 65,000 as in interval X, and owes for all that it was called for. The wind farm stays open, so
+        // there is no shortfall, and the penalty goes back whole.
+        (
+            reduced(1300, 20_000),
+            [
+                "0 0 200 400 90000 0 1 0 3",
+                "1 2500 2000 90000 0 0 0 0 0 0 0",
+                "2 2500 2000 0 0 15000 65000 65000 1 260000 260000",
+                "3 0 0 0 0 5000 32500 25000 0 0 0",
+            ],
+        ),
+        // The same at tariff 1000: of 90,000 at 4.5 fen a kWh row 2 owes 67,500 and closes at 50,000; then the wind farm owes 40,000 and
+        // closes at 25,000. The penalty fills the 15,000 that are missing.
+        (
+            reduced(1000, 20_000),
+            [
+                "0 0 200 400 90000 15000 2 0 3",
+                "1 2500 2000 90000 0 0 0 0 0 0 0",
+                "2 2500 2000 0 0 15000 50000 50000 1 260000 245000",
+                "3 0 0 0 0 5000 25000 25000 2 0 0",
+            ],
+        ),
+    ];
+    for (interval, lines) in statements {
+        assert_eq!(tell(&bytes(&interval)).lines().collect::<Vec<_>>(), lines);
+    }
+}
+
+#[test]
+fn request_4_penalties_below_equal_to_and_above_the_shortfall() {
+    // At tariff 1200 the wind farm pays 30,000 and 60,000 are missing. A kWh short in tier 2 costs 80 fen.
+    for (metered, penalty, cut, returned) in [
+        (8_000, 0, 60_000, 0),
+        (8_001, 80, 59_920, 0),
+        (8_749, 59_920, 80, 0),
+        (8_750, 60_000, 0, 0),
+        (8_751, 60_080, 0, 80),
+    ] {
+        let told = told(&reduced(1200, metered));
+        assert_eq!(told[0][4..7], [90_000, 60_000, 1], "metered {metered}");
+        assert_eq!([told[1][4], told[2][9], told[2][10]], [cut, penalty, returned], "metered {metered}");
+        assert_eq!(told[3][7..9], [30_000, 1], "metered {metered}");
+    }
+}
+
+#[test]
+fn request_4_only_status_2_owes() {
+    // 1,000 and 2,000 kWh short, whatever the status. In status 0 the row sets tier 1's price, 300 li, and gets 45,000 fen.
+    for (status, compensation, penalty) in [(0, 45_000, 0), (1, 0, 0), (2, 0, 200_000), (3, 0, 0)] {
+        let told = told(&x_beside(Row { status, ..dearer(11_000) }));
+        assert_eq!([told[2][3], told[2][9]], [compensation, penalty], "status {status}");
+    }
+    // Not called, or not offering at all: nothing was asked, so nothing is owed.
+    for row in [dearer(12_000), row(2, 1, 12_000)] {
+        let interval = Interval { need: 2_500, ..x_beside(Row { status: 2, ..row }) };
+        assert_eq!(told(&interval)[2], [2, 0, 0, 0, 0, 0, 0, 0, 0, 0, 0]);
+    }
+}
+
+/// What row 2 owes at a meter reading, where it was called for so much at these prices.
+fn owed(metered: u32, called: [u32; 2], prices: [u16; 2]) -> u64 {
+    penalty(&Row { status: 2, ..dearer(metered) }, called, prices)
+}
+
+#[test]
+fn request_4_more_than_was_called() {
+    // Called for 2,500 and 500 kWh after row 1's 4,500, delivered 2,500 and 1,000: nothing is short.
+    assert_eq!(told(&Interval { need: 7_500, ..reduced(1300, 9_000) })[2], [2, 2500, 500, 0, 0, 0, 0, 0, 0, 0, 0]);
+    // Called for 1,000 kWh in tier 1 after row 1's 2,500, delivered 1,500: nothing is short.
+    assert_eq!(told(&Interval { need: 3_500, ..reduced(1300, 11_000) })[2], [2, 1000, 0, 0, 0, 0, 0, 0, 0, 0, 0]);
+    // 1,000 kWh too much in tier 1 do not make up for 500 in tier 2. No file brings a row to this: all of tier 1 is called before any of
+    // tier 2.
+    assert_eq!(owed(8_000, [1_500, 2_500], [200, 400]), 40_000);
+    // Nor do 500 kWh too much in tier 2 for 100 in tier 1, more than the band has.
+    assert_eq!(owed(9_500, [2_600, 0], [200, 400]), 4_000);
+}
+
+#[test]
+fn request_4_fen_are_made_once_of_both_tiers() {
+    // 1 kWh short at 102 and 103 li: of 204 li 4 are dropped, of 206 li 6 make a fen.
+    assert_eq!([owed(10_001, [2_500, 0], [102, 0]), owed(10_001, [2_500, 0], [103, 0])], [20, 21]);
+    // 3 kWh at 105 li are 315 li, 31 fen and a half: 63 fen when doubled, and not 64. Twice a whole number of li is even, so what is
+    // rounded is never half a fen itself.
+    assert_eq!(owed(10_003, [2_500, 0], [105, 0]), 63);
+    // 1 kWh short in each tier: 204 and 644 li are 20 and 64 fen apart and 85 together.
+    assert_eq!(owed(10_001, [2_500, 0], [102, 322]), 20);
+    assert_eq!(owed(10_001, [2_499, 1], [102, 322]), 64);
+    assert_eq!(owed(10_001, [2_500, 1], [102, 322]), 85);
+}
+
+/// Row 1 delivers 5 kWh at 200 li and nobody pays, so 100 fen are missing. Rows 2 to 4 are each a kWh short: 40 fen from each,
+/// of which 20 are over.
+fn tied_returns(quarter: u8) -> Interval {
+    let mut rows = vec![offering(1, 12_495, 10_000, [200, 320])];
+    rows.extend([2, 3, 4].map(|id| Row { status: 2, ..offering(id, 10_001, 10_000, [200, 320]) }));
+    Interval { quarter, need: 10_000, rows, ..x(1300) }
+}
+
+#[test]
+fn request_4_ties_in_what_is_returned() {
+    // 6 each and two left over; position 0 is row 1, which shares nothing.
+    for (quarter, due) in [(0, [7, 7, 6]), (1, [7, 7, 6]), (2, [6, 7, 7]), (3, [7, 6, 7]), (95, [7, 6, 7])] {
+        let told = told(&tied_returns(quarter));
+        assert_eq!(told[0][4..7], [100, 100, 0], "quarter {quarter}");
+        assert_eq!([told[1][4], told[1][9], told[1][10]], [0, 0, 0], "quarter {quarter}");
+        assert_eq!([told[2][9], told[3][9], told[4][9]], [40, 40, 40], "quarter {quarter}");
+        assert_eq!([told[2][10], told[3][10], told[4][10]], due, "quarter {quarter}");
+    }
+}
+
+#[test]
+fn request_4_nobody_delivered() {
+    // Without a price a penalty is twice nothing.
+    let rows = vec![Row { status: 2, ..offering(1, 12_499, 8_000, [200, 400]) }, row(2, 2, 5_000)];
+    let interval = Interval { need: 4_500, rows, ..x(1300) };
+    assert_eq!(
+        tell(&bytes(&interval)),
+        "0 0 0 0 0 0 0 0 2\n1 2500 2000 0 0 0 0 0 0 0 0\n2 0 0 0 0 5000 32500 0 0 0 0\n"
+    );
+}
+
+/// Rows 1 and 2 deliver 40 kWh at 105 li, row 3 one: 420, 420 and 11 fen. The wind farm pays 3 of the 851. Row 5 is short of so
+/// many kWh in tier 1, at 21 fen each.
+fn one_fen_more(short: u32) -> Interval {
+    let offer = |id, metered| offering(id, metered, 10_000, [105, 320]);
+    let rows = vec![
+        offer(1, 12_460),
+        offer(2, 12_460),
+        offer(3, 12_499),
+        row(4, 2, 3),
+        Row { status: 2, ..offer(5, 10_000 + short) },
+    ];
+    Interval { need: 10_000, rows, ..x(200) }
+}
+
+#[test]
+fn request_4_a_larger_penalty_may_cut_somebody_a_fen_more() {
+    // 798 fen leave 50 to cut: 24.68, 24.68 and 0.65, of which the first two are rounded up. 819 leave 29: 14.31, 14.31, 0.37.
+    for (short, penalty, cuts) in [(38, 798, [25, 25, 0]), (39, 819, [14, 14, 1])] {
+        let told = told(&one_fen_more(short));
+        assert_eq!(told[0][4..7], [851, 848, 1]);
+        assert_eq!(told[5][9..11], [penalty, 0]);
+        assert_eq!([told[1][4], told[2][4], told[3][4]], cuts);
+    }
 }
