@@ -21,7 +21,8 @@ static void print_line(const uint8_t *s, size_t i)
     printf("%u %" PRIu32 " %" PRIu32, wheatrudder_line_id(s, i), wheatrudder_line_called1(s, i), wheatrudder_line_called2(s, i));
     printf(" %" PRIu32 " %" PRIu32, wheatrudder_line_compensation(s, i), wheatrudder_line_cut(s, i));
     printf(" %" PRIu32 " %" PRIu32, wheatrudder_line_weight(s, i), wheatrudder_line_cap(s, i));
-    printf(" %" PRIu32 " %u\n", wheatrudder_line_paid(s, i), wheatrudder_line_closing(s, i));
+    printf(" %" PRIu32 " %u", wheatrudder_line_paid(s, i), wheatrudder_line_closing(s, i));
+    printf(" %" PRIu32 " %" PRIu32 "\n", wheatrudder_line_penalty(s, i), wheatrudder_line_returned(s, i));
 }
 
 int main(void)

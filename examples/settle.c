@@ -23,14 +23,27 @@ static long read_file(const char *name, uint8_t *bytes)
     return failed ? -1 : (long)length;
 }
 
+/* What a row pays, and its penalty. */
+static uint32_t owed_by(const uint8_t *statement, size_t i)
+{
+    return wheatrudder_line_paid(statement, i) + wheatrudder_line_penalty(statement, i);
+}
+
+/* What the cut leaves of its compensation, and what comes back of its penalty. */
+static uint32_t due_to(const uint8_t *statement, size_t i)
+{
+    return wheatrudder_line_compensation(statement, i) - wheatrudder_line_cut(statement, i) +
+           wheatrudder_line_returned(statement, i);
+}
+
 static void print_statement(const uint8_t *statement)
 {
-    printf("total %" PRIu64 " fen, %" PRIu64 " of it not covered, %u rounds\n", wheatrudder_statement_total(statement),
-           wheatrudder_statement_shortfall(statement), wheatrudder_statement_rounds(statement));
+    printf("total %" PRIu64 " fen, %" PRIu64 " of it not covered by payers, %u rounds\n",
+           wheatrudder_statement_total(statement), wheatrudder_statement_shortfall(statement),
+           wheatrudder_statement_rounds(statement));
     for (size_t i = 0; i < wheatrudder_statement_rows(statement); i++)
         printf("row %u owes %" PRIu32 ", gets %" PRIu32 "\n", wheatrudder_line_id(statement, i),
-               wheatrudder_line_paid(statement, i),
-               wheatrudder_line_compensation(statement, i) - wheatrudder_line_cut(statement, i));
+               owed_by(statement, i), due_to(statement, i));
 }
 
 int main(int count, char **words)

@@ -11,7 +11,7 @@
  *
  *   interval file    15 bytes and 21 for each row; at most 256 rows
  *   correction        9 bytes and 21 for each row; length 0 stands for none
- *   statement        35 bytes and 34 for each row
+ *   statement        35 bytes and 42 for each row
  */
 #ifndef WHEATRUDDER_H
 #define WHEATRUDDER_H
@@ -26,7 +26,7 @@ extern "C" {
 #define WHEATRUDDER_MOST_ROWS 256
 #define WHEATRUDDER_ROW_LENGTH 21
 #define WHEATRUDDER_HEAD_LENGTH 35
-#define WHEATRUDDER_LINE_LENGTH 34
+#define WHEATRUDDER_LINE_LENGTH 42
 #define WHEATRUDDER_INTERVAL_LENGTH(rows) (15 + WHEATRUDDER_ROW_LENGTH * (size_t)(rows))
 #define WHEATRUDDER_CORRECTION_LENGTH(rows) (9 + WHEATRUDDER_ROW_LENGTH * (size_t)(rows))
 #define WHEATRUDDER_STATEMENT_LENGTH(rows) (WHEATRUDDER_HEAD_LENGTH + WHEATRUDDER_LINE_LENGTH * (size_t)(rows))
@@ -74,6 +74,8 @@ uint64_t wheatrudder_rewrite(const uint8_t *interval, size_t interval_length,
 #define WHEATRUDDER_LINE_CAP 24
 #define WHEATRUDDER_LINE_PAID 28
 #define WHEATRUDDER_LINE_CLOSING 32
+#define WHEATRUDDER_LINE_PENALTY 34
+#define WHEATRUDDER_LINE_RETURNED 38
 
 /* Little-endian numbers of 1, 2, 4 and 8 bytes, byte by byte: nothing has to be aligned. */
 static inline uint8_t wheatrudder_u8(const uint8_t *at) { return at[0]; }
@@ -105,7 +107,7 @@ static inline uint16_t wheatrudder_statement_price2(const uint8_t *statement)
 {
     return wheatrudder_u16(statement + WHEATRUDDER_HEAD_PRICE2);
 }
-/* The compensations of all rows together, and how much of it the payers' caps leave uncovered. */
+/* The compensations of all rows together, and how much of it the payers' caps leave uncovered, before penalties. */
 static inline uint64_t wheatrudder_statement_total(const uint8_t *statement)
 {
     return wheatrudder_u64(statement + WHEATRUDDER_HEAD_TOTAL);
@@ -149,7 +151,7 @@ static inline uint32_t wheatrudder_line_called2(const uint8_t *statement, size_t
 {
     return wheatrudder_u32(wheatrudder_line(statement, i) + WHEATRUDDER_LINE_CALLED2);
 }
-/* Its compensation, and how much of that is cut: it receives the difference. */
+/* Its compensation, and its cut, its part of what caps and penalties leave open: it receives the difference. */
 static inline uint32_t wheatrudder_line_compensation(const uint8_t *statement, size_t i)
 {
     return wheatrudder_u32(wheatrudder_line(statement, i) + WHEATRUDDER_LINE_COMPENSATION);
@@ -175,6 +177,16 @@ static inline uint32_t wheatrudder_line_paid(const uint8_t *statement, size_t i)
 static inline uint16_t wheatrudder_line_closing(const uint8_t *statement, size_t i)
 {
     return wheatrudder_u16(wheatrudder_line(statement, i) + WHEATRUDDER_LINE_CLOSING);
+}
+/* The penalty that it owes for energy called and not delivered while reduced for reasons of its own, and how much of that
+ * is returned, since no shortfall needed it. */
+static inline uint32_t wheatrudder_line_penalty(const uint8_t *statement, size_t i)
+{
+    return wheatrudder_u32(wheatrudder_line(statement, i) + WHEATRUDDER_LINE_PENALTY);
+}
+static inline uint32_t wheatrudder_line_returned(const uint8_t *statement, size_t i)
+{
+    return wheatrudder_u32(wheatrudder_line(statement, i) + WHEATRUDDER_LINE_RETURNED);
 }
 
 #ifdef __cplusplus

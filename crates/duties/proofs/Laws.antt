@@ -1,7 +1,7 @@
 -- Laws of duties, for whoever works on their columns.
 --   of one row under terms:
 --     baseline-most, baseline-least            where the baseline lies
---     width1-most, width2-most, energies-most, weight-most, cap-most     how large its figures get
+--     width1-most, width2-most, energies-most, credit1-most, credit2-most, weight-most, cap-most     how large its figures get
 --     width1-offers, width2-offers             a row with a band offers
 --     energy1-whose, energy2-whose             a row with paid energy is thermal, of status 0, and its meter shows energy
 --     energy1-is, energy2-is                   a thermal row of status 0 is paid for what its meter shows
@@ -29,7 +29,7 @@ use Rattle.files.specs.declared.Row.{Row}
 use Rattle.files.specs.declared.Terms.{Terms}
 use Rattle.files.specs.Terms.{baseline, Sound}
 use Rattle.files.proofs.Ranges.{RowRanges}
-use Rattle.duties.specs.Duty.{thermal, normal, width1, width2, meterEnergy1, meterEnergy2, receives, energy1, energy2, payer, weight, cap}
+use Rattle.duties.specs.Duty.{thermal, normal, width1, width2, meterEnergy1, meterEnergy2, receives, energy1, energy2, liable, credit1, credit2, payer, weight, cap}
 use Rattle.duties.specs.Duties.{Duties, Level, dutiesOf}
 use Rattle.duties.specs.Ranged.{Ranged}
 
@@ -122,6 +122,14 @@ module _ (t : Terms) (sound : Sound t) (r : Row) (h : RowRanges t r) where
   unfolding energy1 energy2
   energies-most = both-or-none (receives r) _ _ 250000 (omega (arith, baseline-most))
 
+  pub credit1-most : credit1 t r ≤ 250000
+  unfolding credit1
+  credit1-most = either (liable r) _ _ 250000 (omega (arith, baseline-most)) width1-most
+
+  pub credit2-most : credit2 t r ≤ 250000
+  unfolding credit2
+  credit2-most = either (liable r) _ _ 250000 (omega (arith, baseline-most)) width2-most
+
   pub weight-most : weight t r ≤ 795000
   unfolding weight
   weight-most =
@@ -145,6 +153,8 @@ pub record Sized (d : Duties) : Type 0 where
   pub widths1 : (i : ℕ) → at (d .widths1) i ≤ 250000
   pub widths2 : (i : ℕ) → at (d .widths2) i ≤ 250000
   pub energies : (i : ℕ) → at (d .energies1) i + at (d .energies2) i ≤ 250000
+  pub credits1 : (i : ℕ) → at (d .credits1) i ≤ 250000
+  pub credits2 : (i : ℕ) → at (d .credits2) i ≤ 250000
   pub weights : (i : ℕ) → at (d .weights) i ≤ 795000
   pub caps : (i : ℕ) → at (d .caps) i ≤ 27500000
   pub bids1 : (i : ℕ) → at (d .bids1) i ≤ 1000
@@ -167,6 +177,8 @@ module _ (t : Terms) (tariff n : ℕ) (row : ℕ → Row) where
         caps = table-length n _;
         bids1 = table-length n _;
         bids2 = table-length n _;
+        credits1 = table-length n _;
+        credits2 = table-length n _;
       }
 
   module _ (sound : Sound t) (low : tariff ≤ 10000) (rows : Below n (λ i. RowRanges t (row i))) where
@@ -177,6 +189,8 @@ module _ (t : Terms) (tariff n : ℕ) (row : ℕ → Row) where
           widths1 = table-most n 250000 (λ i. width1 t (row i)) (λ i l. width1-most t sound (row i) (rows i l));
           widths2 = table-most n 250000 (λ i. width2 t (row i)) (λ i l. width2-most t sound (row i) (rows i l));
           energies = λ i. both i (lt-or-le i n);
+          credits1 = table-most n 250000 (λ i. credit1 t (row i)) (λ i l. credit1-most t sound (row i) (rows i l));
+          credits2 = table-most n 250000 (λ i. credit2 t (row i)) (λ i l. credit2-most t sound (row i) (rows i l));
           weights = table-most n 795000 (λ i. weight t (row i)) (λ i l. weight-most t sound (row i) (rows i l));
           caps = table-most n 27500000 (λ i. cap t tariff (row i)) (λ i l. cap-most t sound (row i) (rows i l) tariff low);
           bids1 =

@@ -1,6 +1,8 @@
 -- A row's figures as the code makes them, each lemma in the shape of one return.
 --     width1-of, width2-of         a row that offers
 --     energy1-of, energy2-of       a row that is paid for what it delivered
+--     credit1-whole, credit2-whole     a row that owes nothing
+--     credit1-of, credit2-of       a row that owes for what it did not deliver
 --     pays-thermal                 who pays among thermal rows
 --     weight-thermal, weight-other, cap-thermal, cap-other     by the energy that counts, which is 0 of a row that does not pay
 --     duty-of                      all figures together
@@ -9,14 +11,14 @@ use mathlib.Core.Path.{_≡_, refl}
 use mathlib.Core.Bool.{Bool, true, false, cond, not, _&&_}
 use native.Mathlib.Omega.{arith}
 use lib.Dec.{leb, eqb}
-use borrow.Author.Tests.{eq-eqb, ne-eqb, not-false}
+use borrow.Author.Tests.{eq-eqb, ne-eqb, not-true, not-false}
 use Rattle.units.specs.Measure.{thermalCap, renewableCap}
 use Rattle.units.specs.declared.Kwh.{Kwh}
 use Rattle.units.specs.declared.Fen.{Fen}
 use Rattle.files.specs.declared.Row.{Row}
 use Rattle.files.specs.declared.Terms.{Terms}
 use Rattle.files.specs.Terms.{baseline}
-use Rattle.duties.specs.Duty.{foot, width1, width2, receives, energyIn1, energyIn2, energy1, energy2}
+use Rattle.duties.specs.Duty.{foot, width1, width2, receives, energyIn1, energyIn2, energy1, energy2, liable, credit1, credit2}
 use Rattle.duties.specs.Duty.{sixty, seventy, payer, thermalWeight, weight, cap, dutyOf}
 use Rattle.duties.specs.declared.Duty.{Duty}
 
@@ -38,6 +40,25 @@ module _ (t : Terms) (r : Row) where
     pub energy2-of : e ≡ energyIn2 base (r .capacity) (r .metered .0) → e ≡ energy2 t r
     unfolding energy2
     energy2-of h = rw (← is, not-false b on, h, at)
+
+  module _ (b : Bool) (is : b ≡ liable r) where
+    module _ (off : not b ≡ true) (w : ℕ) where
+      pub credit1-whole : w ≡ width1 t r → w ≡ credit1 t r
+      unfolding credit1
+      credit1-whole h = rw (← is, not-true b off, h)
+
+      pub credit2-whole : w ≡ width2 t r → w ≡ credit2 t r
+      unfolding credit2
+      credit2-whole h = rw (← is, not-true b off, h)
+
+    module _ (on : not b ≡ false) (base : ℕ) (at : base ≡ baseline t (r .capacity)) (e : ℕ) where
+      pub credit1-of : e ≡ energyIn1 base (r .capacity) (r .metered .0) → e ≡ credit1 t r
+      unfolding credit1
+      credit1-of h = rw (← is, not-false b on, h, at)
+
+      pub credit2-of : e ≡ energyIn2 base (r .capacity) (r .metered .0) → e ≡ credit2 t r
+      unfolding credit2
+      credit2-of h = rw (← is, not-false b on, h, at)
 
   pub pays-thermal : (base : ℕ) → r .kind ≡ 1 → base ≡ baseline t (r .capacity)
       → leb base (r .metered .0) && not (eqb (r .status) 3) ≡ payer t r
@@ -83,14 +104,16 @@ module _ (t : Terms) (r : Row) (e : ℕ) (is : e ≡ cond (payer t r) (r .metere
       go true = h
       go false = omega arith
 
-pub duty-of : (t : Terms) (tariff : ℕ) (r : Row) (w1 w2 e1 e2 w : Kwh) (c : Fen) → w1 .0 ≡ width1 t r → w2 .0 ≡ width2 t r
-    → e1 .0 ≡ energy1 t r → e2 .0 ≡ energy2 t r → w .0 ≡ weight t r → c .0 ≡ cap t tariff r
+pub duty-of : (t : Terms) (tariff : ℕ) (r : Row) (w1 w2 e1 e2 x1 x2 w : Kwh) (c : Fen) → w1 .0 ≡ width1 t r → w2 .0 ≡ width2 t r
+    → e1 .0 ≡ energy1 t r → e2 .0 ≡ energy2 t r → x1 .0 ≡ credit1 t r → x2 .0 ≡ credit2 t r → w .0 ≡ weight t r → c .0 ≡ cap t tariff r
     → _≡_ {A = Duty}
     (record {
       width1 = w1;
       width2 = w2;
       energy1 = e1;
       energy2 = e2;
+      credit1 = x1;
+      credit2 = x2;
       weight = w;
       cap = c;
       bid1 = r .bid1;
@@ -98,4 +121,4 @@ pub duty-of : (t : Terms) (tariff : ℕ) (r : Row) (w1 w2 e1 e2 w : Kwh) (c : Fe
     })
     (dutyOf t tariff r)
 unfolding dutyOf
-duty-of t tariff r w1 w2 e1 e2 w c h1 h2 h3 h4 h5 h6 = rw (← h1, ← h2, ← h3, ← h4, ← h5, ← h6)
+duty-of t tariff r w1 w2 e1 e2 x1 x2 w c h1 h2 h3 h4 h5 h6 h7 h8 = rw (← h1, ← h2, ← h3, ← h4, ← h5, ← h6, ← h7, ← h8)

@@ -1,6 +1,6 @@
 -- Two results that one contract allows are equal, for each public function: theorems of the contract itself (`Learnt`).
 use Prim.Native.Nat.{ℕ}
-use mathlib.Core.Path.{_≡_, ap, sym, _∙_}
+use mathlib.Core.Path.{ap, sym, _∙_}
 use Rattle.columns.proofs.Unique.{One-result}
 use Rattle.duties.proofs.duty_of.Reads as duty-of
 use Rattle.duties.proofs.weighing.pays.Reads as pays
@@ -10,6 +10,8 @@ use Rattle.duties.proofs.delivery.energy_in1.Reads as energy-in1
 use Rattle.duties.proofs.delivery.energy_in2.Reads as energy-in2
 use Rattle.duties.proofs.delivery.energy1.Reads as energy1
 use Rattle.duties.proofs.delivery.energy2.Reads as energy2
+use Rattle.duties.proofs.credit.credit1.Reads as credit1
+use Rattle.duties.proofs.credit.credit2.Reads as credit2
 use Rattle.duties.proofs.baseline.Reads as baseline
 use Rattle.duties.proofs.weighing.thermal_weight.Reads as thermal-weight
 use Rattle.duties.proofs.weighing.weight.Reads as weight
@@ -38,6 +40,12 @@ energy1-unique κs a x y e f p q = ap (λ (m : ℕ). record { 0 = m }) (p ∙ sy
 
 pub energy2-unique : One-result energy2.Learnt
 energy2-unique κs a x y e f p q = ap (λ (m : ℕ). record { 0 = m }) (p ∙ sym q)
+
+pub credit1-unique : One-result credit1.Learnt
+credit1-unique κs a x y e f p q = ap (λ (m : ℕ). record { 0 = m }) (p ∙ sym q)
+
+pub credit2-unique : One-result credit2.Learnt
+credit2-unique κs a x y e f p q = ap (λ (m : ℕ). record { 0 = m }) (p ∙ sym q)
 
 pub baseline-unique : One-result baseline.Learnt
 baseline-unique κs a x y e f p q = ap (λ (m : ℕ). record { 0 = m }) (p ∙ sym q)

@@ -6,13 +6,15 @@ use lib.ListN.{length}
 use Rattle.columns.specs.Table.{table}
 use Rattle.files.specs.declared.Row.{Row}
 use Rattle.files.specs.declared.Terms.{Terms}
-use Rattle.duties.specs.Duty.{width1, width2, energy1, energy2, weight, cap}
+use Rattle.duties.specs.Duty.{width1, width2, energy1, energy2, credit1, credit2, weight, cap}
 
 pub record Duties : Type 0 where
   pub widths1 : List ℕ
   pub widths2 : List ℕ
   pub energies1 : List ℕ
   pub energies2 : List ℕ
+  pub credits1 : List ℕ
+  pub credits2 : List ℕ
   pub weights : List ℕ
   pub caps : List ℕ
   pub bids1 : List ℕ
@@ -24,6 +26,8 @@ pub record Level (n : ℕ) (d : Duties) : Type 0 where
   pub widths2 : length (d .widths2) ≡ n
   pub energies1 : length (d .energies1) ≡ n
   pub energies2 : length (d .energies2) ≡ n
+  pub credits1 : length (d .credits1) ≡ n
+  pub credits2 : length (d .credits2) ≡ n
   pub weights : length (d .weights) ≡ n
   pub caps : length (d .caps) ≡ n
   pub bids1 : length (d .bids1) ≡ n
@@ -37,6 +41,8 @@ dutiesOf t tariff n row =
       widths2 = table n (λ i. width2 t (row i));
       energies1 = table n (λ i. energy1 t (row i));
       energies2 = table n (λ i. energy2 t (row i));
+      credits1 = table n (λ i. credit1 t (row i));
+      credits2 = table n (λ i. credit2 t (row i));
       weights = table n (λ i. weight t (row i));
       caps = table n (λ i. cap t tariff (row i));
       bids1 = table n (λ i. row i .bid1 .0);

@@ -1,4 +1,5 @@
--- What a row under its terms offers, delivered, weighs and may be asked to pay (01, Calls and prices, Compensation, Weights and caps).
+-- What a row under its terms offers, delivered, is credited with, weighs and may be asked to pay (01, Calls and prices, Compensation,
+-- Weights and caps; 02, request 4).
 use Prim.Native.Nat.{ℕ, _+_, _-_, _*_, min, max}
 use mathlib.Core.Bool.{Bool, cond, not, _&&_}
 use lib.Dec.{leb, eqb}
@@ -73,6 +74,18 @@ energy1 t r = cond (receives r) (meterEnergy1 t r) 0
 unfoldable pub energy2 : Terms → Row → ℕ
 energy2 t r = cond (receives r) (meterEnergy2 t r) 0
 
+-- 02, request 4 (Article 52): a thermal row of status 2 owes for what it was called for and did not deliver, others not
+abbrev pub liable : Row → Bool
+liable r = eqb (r .kind) thermal && eqb (r .status) reduced
+
+-- what counts as delivered of a call in tier 1: by the meter for a row that owes the rest, all that it offers for any other
+unfoldable pub credit1 : Terms → Row → ℕ
+credit1 t r = cond (liable r) (meterEnergy1 t r) (width1 t r)
+
+-- and in tier 2
+unfoldable pub credit2 : Terms → Row → ℕ
+credit2 t r = cond (liable r) (meterEnergy2 t r) (width2 t r)
+
 -- Articles 21, 29: wind and solar of status 0 pay, and thermal rows at or above the baseline unless their status is 3
 unfoldable pub payer : Terms → Row → Bool
 payer t r =
@@ -105,6 +118,8 @@ dutyOf t tariff r =
       width2 = record { 0 = width2 t r };
       energy1 = record { 0 = energy1 t r };
       energy2 = record { 0 = energy2 t r };
+      credit1 = record { 0 = credit1 t r };
+      credit2 = record { 0 = credit2 t r };
       weight = record { 0 = weight t r };
       cap = record { 0 = cap t tariff r };
       bid1 = r .bid1;

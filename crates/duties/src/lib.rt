@@ -1,5 +1,5 @@
-// The duties of a row under its terms (01, Calls and prices, Compensation, Weights and caps): the one room that knows capacities,
-// percentages, kinds, statuses and limits. What follows works on the columns of these figures.
+// The duties of a row under its terms (01, Calls and prices, Compensation, Weights and caps; 02, request 4): the one room that knows
+// capacities, percentages, kinds, statuses and limits. What follows works on the columns of these figures.
 use files::Row;
 use files::Terms;
 use units::Fen;
@@ -12,11 +12,14 @@ ghost use Rattle.duties.specs.Duty.{dutyOf};
 ghost use Rattle.duties.specs.Ranged.{Ranged};
 
 mod bands;
+mod credit;
 mod delivery;
 mod weighing;
 
 pub use bands::width1;
 pub use bands::width2;
+pub use credit::credit1;
+pub use credit::credit2;
 pub use delivery::energy_in1;
 pub use delivery::energy_in2;
 pub use delivery::energy1;
@@ -31,15 +34,20 @@ const THERMAL: u8 = 1;
 
 const NORMAL: u8 = 0;
 
+// Reduced for reasons of its own.
+const REDUCED: u8 = 2;
+
 // Where tier 1 ends and tier 2 begins, in percent of full load.
 const FOOT: u8 = 40;
 
-// What a row offers, delivered, weighs and may be asked to pay.
+// What a row offers, delivered, is credited with, weighs and may be asked to pay.
 pub struct Duty {
     pub width1: Kwh,
     pub width2: Kwh,
     pub energy1: Kwh,
     pub energy2: Kwh,
+    pub credit1: Kwh,
+    pub credit2: Kwh,
     pub weight: Kwh,
     pub cap: Fen,
     pub bid1: Li,
@@ -65,6 +73,8 @@ pub fn duty_of(terms: Terms, tariff: Hao, row: Row) -> Duty
         width2: width2(terms, row),
         energy1: energy1(terms, row),
         energy2: energy2(terms, row),
+        credit1: credit1(terms, row),
+        credit2: credit2(terms, row),
         weight: weight(terms, row),
         cap: cap(terms, tariff, row),
         bid1: bid1,

@@ -1,7 +1,8 @@
 -- Two results that one contract allows are equal, for each public function: theorems of the contract itself (`Learnt`).
 --     rounds-unique         marks and what is left
 --     shortfall-unique
---     payments-unique, cuts-unique      the columns
+--     cover-unique           what is left of a shortfall and of penalties
+--     payments-unique, apportion-unique      the columns
 use Prim.Native.Nat.{ℕ}
 use mathlib.Core.Path.{_≡_, ap, sym, _∙_}
 use mathlib.Core.List.{[]}
@@ -12,7 +13,8 @@ use Rattle.levy.specs.Asked.{standingOf}
 use Rattle.levy.proofs.closing.rounds.Reads as rounds-reads
 use Rattle.levy.proofs.closing.shortfall.Reads as shortfall-reads
 use Rattle.levy.proofs.paying.payments.Reads as payments-reads
-use Rattle.levy.proofs.paying.cuts.Reads as cuts-reads
+use Rattle.levy.proofs.filling.apportion.Reads as apportion-reads
+use Rattle.levy.proofs.filling.cover.Reads as cover-reads
 
 pub rounds-unique : Leaves-one rounds-reads.Learnt (λ κs x y e f. (x ≡ y) × (e .1 .1 .1 .1 .0 .now ≡ f .1 .1 .1 .1 .0 .now))
 rounds-unique κs a x y e f p q =
@@ -28,5 +30,9 @@ shortfall-unique κs a x y e f p q = ap (λ (m : ℕ). record { 0 = m }) (p 0 []
 pub payments-unique : Leaves-one payments-reads.Learnt (λ κs x y e f. e .1 .1 .1 .1 .1 .1 .0 .now ≡ f .1 .1 .1 .1 .1 .1 .0 .now)
 payments-unique κs a x y e f p q = p ∙ sym q
 
-pub cuts-unique : Leaves-one cuts-reads.Learnt (λ κs x y e f. e .1 .1 .1 .0 .now ≡ f .1 .1 .1 .0 .now)
-cuts-unique κs a x y e f p q = p ∙ sym q
+pub cover-unique : One-result cover-reads.Learnt
+cover-unique κs a x y e f p q =
+    λ i. record { cut = record { 0 = (p .cut ∙ sym (q .cut)) i }; returned = record { 0 = (p .returned ∙ sym (q .returned)) i } }
+
+pub apportion-unique : Leaves-one apportion-reads.Learnt (λ κs x y e f. e .1 .1 .1 .0 .now ≡ f .1 .1 .1 .0 .now)
+apportion-unique κs a x y e f p q = p ∙ sym q

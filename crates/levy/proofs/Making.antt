@@ -1,26 +1,25 @@
--- From shares to payments and cuts: each need of the code that makes them, and what the callers of payments have.
+-- From shares to payments, cuts and what is returned: each need of the code that makes them, and what the callers of payments have.
 --     spread-split, spread-made, spread-out     the money left, shared and paid: what the sharing asks, what the making asks, the column
 --     pay-spread, payments-made                 payments: what the sharing of the money left asks, the column
---     cut-split, cut-long, cut-small, cut-made     cuts: what the sharing and the copying ask, the column
+--     part-split, part-long, part-small, part-made     an amount over sums: what the sharing and the copying ask, the column
 --     front-room                                the room lent for columns of n
 --     shortfall-final                           the shortfall that the code answers, of the last standing
---     payable, cuttable                         what the makers of payments and cuts ask, from the answer of the rounds
+--     payable                                   what the makers of payments ask, from the answer of the rounds
 use Prim.Native.Nat.{ℕ, _≤_, _<_}
 use mathlib.Core.Path.{_≡_, ap, sym, _∙_}
 use mathlib.Core.List.{List}
 use native.Mathlib.Omega.{arith}
 use lib.ListN.{length, take}
 use lib.Seq.{getD-take, length-take-le}
-use Rattle.columns.specs.Sum.{whole}
 use Rattle.columns.specs.Table.{table}
 use Rattle.columns.proofs.Table.{table-same, front-long}
 use Rattle.share.specs.Share.{shares}
 use Rattle.share.specs.Split.{Splittable}
 use Rattle.share.proofs.Laws.{shares-at, shares-length, share-le-weight}
 use Rattle.levy.specs.Rounds.{final, paid, payments, shortfall}
-use Rattle.levy.specs.Asked.{standingOf, Small, Levyable, Finished, Short, Still, Payable, Spread, paidFrom, Made, Room, Cuttable}
+use Rattle.levy.specs.Asked.{standingOf, Small, Levyable, Finished, Short, Still, Payable, Spread, paidFrom, Made, Room, Apportionable}
 use Rattle.levy.specs.declared.Rest.{Rest}
-use Rattle.levy.proofs.Payment.{paid-le-cap, shortfall-le}
+use Rattle.levy.proofs.Payment.{paid-le-cap}
 use Rattle.levy.proofs.Fill.{whole-small}
 
 module _ (money : ℕ) (still caps marks : List ℕ) (first : ℕ) (parts₀ out : List ℕ)
@@ -77,12 +76,12 @@ module _ (n : ℕ) (weights caps marks : List ℕ) (rest : Rest) (first : ℕ) (
       (paid (take n weights) (take n caps) (standingOf n marks rest) first)
       (λ k l. paid-same k (omega (arith, wide)))
 
-module _ (shortfall : ℕ) (compensations : List ℕ) (first : ℕ) (out : List ℕ) (asked : Cuttable shortfall compensations first out)
-    (weights : List ℕ) (same : weights ≡ compensations) where
+module _ (amount : ℕ) (sums : List ℕ) (first : ℕ) (out : List ℕ) (asked : Apportionable amount sums first out)
+    (weights : List ℕ) (same : weights ≡ sums) where
   -- whoever goes first: what is asked does not depend on it
-  pub cut-split : (weights₀ parts : List ℕ) → Room (length compensations) weights₀ parts → Small weights → (turn : ℕ) → turn ≤ first
+  pub part-split : (weights₀ parts : List ℕ) → Room (length sums) weights₀ parts → Small weights → (turn : ℕ) → turn ≤ first
       → Splittable weights parts turn
-  cut-split weights₀ parts room low turn le =
+  part-split weights₀ parts room low turn le =
       record {
         short = rw same (asked .few);
         room = room .two-long ∙ ap length (sym same);
@@ -90,18 +89,18 @@ module _ (shortfall : ℕ) (compensations : List ℕ) (first : ℕ) (out : List 
         inside = rw same (λ some. omega (arith, le, asked .turn some));
       }
 
-  module _ (turn : ℕ) (parts : List ℕ) (parts-are : parts ≡ shares shortfall weights turn) where
-    pub cut-long : length out ≡ length parts
-    cut-long = asked .out-long ∙ ap length (sym same) ∙ sym (ap length parts-are ∙ shares-length shortfall weights turn)
+  module _ (turn : ℕ) (parts : List ℕ) (parts-are : parts ≡ shares amount weights turn) where
+    pub part-long : length out ≡ length parts
+    part-long = asked .out-long ∙ ap length (sym same) ∙ sym (ap length parts-are ∙ shares-length amount weights turn)
 
-    pub cut-small : Small weights → Small parts
-    cut-small low i =
-        rw (parts-are, shares-at shortfall weights turn i)
-        (omega (arith, low i, share-le-weight shortfall weights turn i (rw same (asked .covered))))
+    pub part-small : Small weights → Small parts
+    part-small low i =
+        rw (parts-are, shares-at amount weights turn i)
+        (omega (arith, low i, share-le-weight amount weights turn i (rw same (asked .covered))))
 
-  pub cut-made : (parts : List ℕ) → parts ≡ shares shortfall weights first → (made : List ℕ) → made ≡ parts
-      → made ≡ shares shortfall compensations first
-  cut-made parts parts-are made is = is ∙ parts-are ∙ ap (λ (xs : List ℕ). shares shortfall xs first) same
+  pub part-made : (parts : List ℕ) → parts ≡ shares amount weights first → (made : List ℕ) → made ≡ parts
+      → made ≡ shares amount sums first
+  part-made parts parts-are made is = is ∙ parts-are ∙ ap (λ (xs : List ℕ). shares amount xs first) same
 
 -- the first n of two whole arrays
 pub front-room : (n : ℕ) (xs ys : List ℕ) → n ≤ 256 → length xs ≡ 256 → length ys ≡ 256 → Room n (take n xs) (take n ys)
@@ -120,19 +119,6 @@ payable total n weights caps marks₀ marks rest asked ended first turn out long
       out-long = long;
       turn = turn;
       fits = λ i. rw (ended .is) (omega (arith, paid-le-cap total (take n weights) (take n caps) first i, asked .held .low i));
-    }
-
--- and the shortfall is at most the total, which is the compensations together
-pub cuttable : (n : ℕ) (weights caps marks : List ℕ) (rest : Rest) (compensations : List ℕ)
-    → Finished (whole compensations) n weights caps marks rest → (x : ℕ) → Short rest x → length compensations ≤ 256
-    → (first : ℕ) → (0 < length compensations → first < length compensations) → (out : List ℕ) → length out ≡ length compensations
-    → Cuttable x compensations first out
-cuttable n weights caps marks rest compensations ended x short few first turn out long =
-    record {
-      few = few;
-      out-long = long;
-      turn = turn;
-      covered = rw (short n marks, ended .is) (shortfall-le (whole compensations) (take n weights) (take n caps));
     }
 
 -- the answers of the code, said of the last standing

@@ -9,9 +9,10 @@ use lib.ListN.{length, take, drop, replicate}
 use Rattle.columns.specs.Sum.{whole, sumWhere}
 use Rattle.columns.specs.Table.{at}
 use Rattle.share.specs.Share.{shares}
-use Rattle.levy.specs.Rounds.{Standing, opens, closed, next, run, final, openWeights, paid, shortfall}
+use Rattle.levy.specs.Rounds.{Standing, opens, closed, next, run, final, openWeights, paid, shortfall, toCut, toReturn}
 use Rattle.levy.specs.declared.Closed.{Closed}
 use Rattle.levy.specs.declared.Rest.{Rest}
+use Rattle.levy.specs.declared.Left.{Left}
 
 -- how things stand, from the array and the numbers that the code holds
 abbrev pub standing : ℕ → List ℕ → ℕ → ℕ → ℕ → Standing
@@ -82,6 +83,11 @@ pub record Finished (total n : ℕ) (weights caps after : List ℕ) (r : Rest) :
 abbrev pub Short : Rest → ℕ → Type 0
 Short r x = (n : ℕ) (marks : List ℕ) → x ≡ shortfall (standingOf n marks r)
 
+-- answered once penalties have filled a shortfall: what is left of both
+pub record Covered (penalties short : ℕ) (r : Left) : Type 0 where
+  pub cut : r .cut .0 ≡ toCut penalties short
+  pub returned : r .returned .0 ≡ toReturn penalties short
+
 -- answered by the column of open weights
 pub record Still (n : ℕ) (weights marks still : List ℕ) : Type 0 where
   pub is : take n still ≡ openWeights (take n weights) (take n marks)
@@ -122,9 +128,9 @@ pub record Room (n : ℕ) (one two : List ℕ) : Type 0 where
   pub one-long : length one ≡ n
   pub two-long : length two ≡ n
 
--- asked by the cuts: no more is cut than was to be paid out
-pub record Cuttable (shortfall : ℕ) (compensations : List ℕ) (first : ℕ) (out : List ℕ) : Type 0 where
-  pub few : length compensations ≤ 256
-  pub out-long : length out ≡ length compensations
-  pub turn : 0 < length compensations → first < length compensations
-  pub covered : shortfall ≤ whole compensations
+-- asked where an amount is shared over a column of sums that comes to no less
+pub record Apportionable (amount : ℕ) (sums : List ℕ) (first : ℕ) (out : List ℕ) : Type 0 where
+  pub few : length sums ≤ 256
+  pub out-long : length out ≡ length sums
+  pub turn : 0 < length sums → first < length sums
+  pub covered : amount ≤ whole sums

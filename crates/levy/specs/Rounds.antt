@@ -1,6 +1,7 @@
--- Rounds (01, Rounds; Articles 31, 32): a total is shared over weights ws under caps cs; both are columns of one length.
+-- Rounds (01, Rounds; Articles 31, 32): a total is shared over weights ws under caps cs; both are columns of one length. What is short is
+-- filled from penalties first (02, request 4).
 -- Nothing here knows of kinds, tariffs or regions.
-use Prim.Native.Nat.{ℕ, zero, suc, _-_, _*_}
+use Prim.Native.Nat.{ℕ, zero, suc, _-_, _*_, min}
 use mathlib.Core.Bool.{Bool, cond, _&&_}
 use mathlib.Core.List.{List}
 use lib.Dec.{leb, ltb, eqb}
@@ -79,6 +80,22 @@ payments ws cs st first = table (length ws) (paid ws cs st first)
 unfoldable pub shortfall : Standing → ℕ
 shortfall st = cond (eqb (st .weight) 0) (st .money) 0
 
--- Article 32: the shortfall is shared as cuts over the compensations
-unfoldable pub cuts : Standing → List ℕ → ℕ → List ℕ
-cuts st compensations first = shares (shortfall st) compensations first
+-- 02, request 4 (Article 52): what penalties together fill of a shortfall
+abbrev pub filled : ℕ → ℕ → ℕ
+filled penalties short = min penalties short
+
+-- what they leave of it, for the receivers to bear
+abbrev pub toCut : ℕ → ℕ → ℕ
+toCut penalties short = short - filled penalties short
+
+-- what is left of them, to be returned
+abbrev pub toReturn : ℕ → ℕ → ℕ
+toReturn penalties short = penalties - filled penalties short
+
+-- Article 32: what caps and penalties leave open is shared as cuts over the compensations
+unfoldable pub cuts : Standing → List ℕ → List ℕ → ℕ → List ℕ
+cuts st penalties compensations first = shares (toCut (whole penalties) (shortfall st)) compensations first
+
+-- document 000, Article 68: what is left of the penalties is returned over them
+unfoldable pub returned : Standing → List ℕ → ℕ → List ℕ
+returned st penalties first = shares (toReturn (whole penalties) (shortfall st)) penalties first

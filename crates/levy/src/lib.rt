@@ -1,11 +1,14 @@
-// Who pays and how much (01, Rounds; Article 32), on columns with a position for each row: rounds, payments, cuts. Money is fen, in
-// columns too. Weights are bare numbers of proportion: kWh today, thousandths of a kWh under request 10.
+// Who pays and how much (01, Rounds; Article 32), on columns with a position for each row: rounds, payments, what penalties fill
+// (02, request 4), cuts and what is returned. Money is fen, in columns too. Weights are bare numbers of proportion: kWh today,
+// thousandths of a kWh under request 10.
 mod closing;
+mod filling;
 mod paying;
 
 pub use closing::rounds;
 pub use closing::shortfall;
-pub use paying::cuts;
+pub use filling::apportion;
+pub use filling::cover;
 pub use paying::payments;
 use units::Fen;
 
@@ -20,4 +23,10 @@ pub struct Rest {
     pub money: Fen,
     pub weight: u64,
     pub rounds: u16,
+}
+
+// What is left once penalties have filled a shortfall: of the shortfall, to be cut, and of the penalties, to be returned.
+pub struct Left {
+    pub cut: Fen,
+    pub returned: Fen,
 }

@@ -1,7 +1,6 @@
-// Payments once the rounds have ended, and cuts (01, Rounds; Article 32). The one sharing rule makes the fen of both.
+// Payments once the rounds have ended (01, Rounds). The one sharing rule makes their fen.
 use crate::Rest;
 use crate::closing::counted;
-use columns::wide;
 use units::Fen;
 ghost use mathlib.Core.Path.{_≡_};
 ghost use mathlib.Core.Bool.{cond};
@@ -11,7 +10,7 @@ ghost use lib.ListN.{length, take};
 ghost use Rattle.columns.specs.Table.{table};
 ghost use Rattle.share.specs.Share.{shares};
 ghost use Rattle.levy.specs.Rounds.{payments};
-ghost use Rattle.levy.specs.Asked.{standingOf, Small, Still, Payable, Spread, paidFrom, Made, Room, Cuttable};
+ghost use Rattle.levy.specs.Asked.{standingOf, Still, Payable, Spread, paidFrom, Made};
 
 // The column of open weights.
 fn open_weights(n: usize, weights: &[u32; 256], marks: &[u32; 256], still: &mut [u64; 256])
@@ -91,67 +90,6 @@ pub fn payments(
         caps,
         marks,
         first,
-        &mut parts[..n],
-        out,
-    );
-}
-
-// A column with more room for each figure.
-fn widen(from: &[u32], to: &mut [u64])
-    requires { ⌜ length (now to) ≡ length (now from) ⌝ }
-    ensures { λ _. ⌜ (now (to .exit) ≡ now (from .entry)) × Small (now (to .exit)) ⌝ }
-{
-    let n = to.len();
-    let mut i = 0;
-    while i < n {
-        to[i] = wide(from[i]);
-        i += 1;
-    }
-}
-
-// A column with less room, where each figure still fits.
-fn narrow(from: &[u64], to: &mut [u32])
-    requires { ⌜ (length (now to) ≡ length (now from)) × Small (now from) ⌝ }
-    ensures { λ _. ⌜ now (to .exit) ≡ now (from .entry) ⌝ }
-{
-    let n = to.len();
-    let mut i = 0;
-    while i < n {
-        to[i] = from[i] as u32;
-        i += 1;
-    }
-}
-
-// Compensations with room, shares, cuts; two columns of room are lent.
-fn cut_over(
-    shortfall: Fen,
-    compensations: &[u32],
-    first: usize,
-    weights: &mut [u64],
-    parts: &mut [u64],
-    out: &mut [u32],
-)
-    requires { ⌜ Cuttable (shortfall .0) (now compensations) first (now out) × Room (length (now compensations)) (now weights) (now parts) ⌝ }
-    ensures { λ _. ⌜ now (out .exit) ≡ shares (shortfall .0) (now (compensations .entry)) first ⌝ }
-{
-    widen(compensations, weights);
-    share::split(shortfall.0, weights, first, parts);
-    narrow(parts, out);
-}
-
-// The shortfall shared as cuts over the compensations.
-pub fn cuts(shortfall: Fen, compensations: &[u32], first: usize, out: &mut [u32])
-    requires { ⌜ Cuttable (shortfall .0) (now compensations) first (now out) ⌝ }
-    ensures { λ _. ⌜ now (out .exit) ≡ shares (shortfall .0) (now (compensations .entry)) first ⌝ }
-{
-    let n = compensations.len();
-    let mut weights = [0u64; 256];
-    let mut parts = [0u64; 256];
-    cut_over(
-        shortfall,
-        compensations,
-        first,
-        &mut weights[..n],
         &mut parts[..n],
         out,
     );

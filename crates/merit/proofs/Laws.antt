@@ -2,7 +2,7 @@
 -- leave the calls of both tiers: proofs/Apart.antt.
 --     calls-at             what stands in a column of calls at row i is what row i is called for
 --     calls-length         as many as rows
---     called-le            a band is called for at most its width
+--     called-le            a band is called for at most its width; calls-le: the same of the column
 --     called-zero-width    a band of width 0 is not called
 --     called-past          nor is a row past the last
 --     called-met           nor is a band before which the need is met
@@ -105,6 +105,9 @@ module _ (need : ℕ) (b : Bands) (first : ℕ) where
   calls-at t i =
       ⊎-elim (λ (l : i < rows b). table-at 0 (rows b) (called need b first t) i l)
       (λ (l : rows b ≤ i). table-past 0 (rows b) (called need b first t) i l ∙ sym (called-past t i l)) (lt-or-le i (rows b))
+
+  pub calls-le : (t : Tier) (i : ℕ) → at (calls need b first t) i ≤ at (widths b t) i
+  calls-le t i = omega (arith, calls-at t i, called-le t i)
 
   module _ (inside : 0 < rows b → first < rows b) where
     pub called-group : (t : Tier) (k : ℕ) → sumTo (rows b) (λ i. cond (eqb (orderAt b t i) k) (called need b first t i) 0) ≡ due need b t k

@@ -55,6 +55,8 @@ module _ (s k : List ℕ) (n : ℕ) (h : verdictOf s k ≡ Accepted n) where
         covered = λ i. omega (arith, sized .caps i);
         low1 = sized .bids1;
         low2 = sized .bids2;
+        credited1 = sized .credits1;
+        credited2 = sized .credits2;
         apart = bids-apart t tariff (rowCount s) (countingRow s k) sound (head .tariff-high) rows-ranged;
       }
 
@@ -99,4 +101,7 @@ module _ (s k : List ℕ) (n : ℕ) (h : verdictOf s k ≡ Accepted n) where
   accepted-line-fits bytes (suc (suc (suc (suc (suc (suc (suc zero))))))) i = omega (arith, accepted-sized .caps i, accepted-sized .paid i)
   accepted-line-fits bytes (suc (suc (suc (suc (suc (suc (suc (suc zero)))))))) i =
       omega (arith, head .rows, accepted-sized .rounds, accepted-sized .closing i)
-  accepted-line-fits bytes (suc (suc (suc (suc (suc (suc (suc (suc (suc j))))))))) i = omega arith
+  accepted-line-fits bytes (suc (suc (suc (suc (suc (suc (suc (suc (suc zero))))))))) i = omega (arith, accepted-sized .penalties i)
+  accepted-line-fits bytes (suc (suc (suc (suc (suc (suc (suc (suc (suc (suc zero)))))))))) i =
+      omega (arith, accepted-sized .penalties i, accepted-sized .returned i)
+  accepted-line-fits bytes (suc (suc (suc (suc (suc (suc (suc (suc (suc (suc (suc j))))))))))) i = omega arith

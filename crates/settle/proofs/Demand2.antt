@@ -3,7 +3,7 @@
 --   statement-read-head    the head read back from the buffer is that of the figures
 --   statement-read-line    each field of line i read back is that of row i: its id and its figures
 --   statement-figures      all figures read back are those of the rules, `figures`
-use Prim.Native.Nat.{ℕ, _+_, _^_, _<_}
+use Prim.Native.Nat.{ℕ, _+_, _<_}
 use mathlib.Core.Path.{_≡_, refl, sym, ap, _∙_}
 use mathlib.Core.List.{List, _++_, append-assoc}
 use native.Mathlib.Omega.{arith}
@@ -19,14 +19,13 @@ use Rattle.files.specs.Layout.{headAt, rowCount}
 use Rattle.files.specs.Order.{verdictOf}
 use Rattle.files.specs.Counting.{countingRow}
 use Rattle.files.specs.declared.Verdict.the-variants.{Accepted}
-use Rattle.statement.specs.Statement.{letterL, lineWidths, headSize, lineStart, statementHeadAt, statementHeadBytes}
+use Rattle.statement.specs.Statement.{letterL, lineWidths, headSize, statementHeadAt, statementHeadBytes}
 use Rattle.statement.specs.declared.StatementHead.{StatementHead}
 use Rattle.statement.proofs.Laws.{head-length, head-read}
 use Rattle.settle.specs.Settlement.{Figures}
 use Rattle.settle.specs.Statement.{statementHead, lineOf, statementBytes}
 use Rattle.settle.specs.Answer.{figuresOf, statementOf, answerOf, bufferAfter, numberOf}
 use Rattle.settle.specs.Promise.{Bytes, figuresAt}
-use Rattle.settle.proofs.Sizes.{Long}
 use Rattle.settle.proofs.Accepted.{accepted-long, accepted-head-fits, accepted-line-fits}
 use Rattle.settle.proofs.Demand1.{settled-accepted, settled-room, settled-buffer}
 
@@ -67,7 +66,7 @@ module _ (s k out : List ℕ) (h : numberOf (answerOf s k (length out)) ≡ 0) w
       rw (spelled, append-assoc (statementHeadBytes head) lineBytes rest) (head-read head (lineBytes ++ rest) (accepted-head-fits s k n accepted))
 
   module _ (bytes : Bytes s) where
-    pub statement-read-line : (j i : ℕ) → j < 9 → i < rowCount s
+    pub statement-read-line : (j i : ℕ) → j < 11 → i < rowCount s
         → cell (fieldOf headSize lineWidths j) (bufferAfter s k out) i ≡ at (lineOf (countingRow s k i .id) (figuresOf s k) i) j
     statement-read-line j i known l =
         let space = settled-room s k (length out) h in
@@ -76,7 +75,7 @@ module _ (s k out : List ℕ) (h : numberOf (answerOf s k (length out)) ≡ 0) w
         (sheet-cell-of headSize letterL lineWidths (put out 0 (statementHeadBytes head)) n lines j (λ i. refl) known (omega (arith, long, space)) i l
         (accepted-line-fits s k n accepted bytes j i))
 
-    column : (j : ℕ) (xs : List ℕ) → j < 9 → length xs ≡ n → ((i : ℕ) → at (lines i) j ≡ at xs i)
+    column : (j : ℕ) (xs : List ℕ) → j < 11 → length xs ≡ n → ((i : ℕ) → at (lines i) j ≡ at xs i)
         → columnOf (fieldOf headSize lineWidths j) n (bufferAfter s k out) ≡ xs
     unfolding columnOf
     column j xs known e is =
@@ -103,4 +102,6 @@ module _ (s k out : List ℕ) (h : numberOf (answerOf s k (length out)) ≡ 0) w
           caps = column 6 (f .caps) (omega arith) (long .caps) (λ i. refl) j;
           paid = column 7 (f .paid) (omega arith) (long .paid) (λ i. refl) j;
           closing = column 8 (f .closing) (omega arith) (long .closing) (λ i. refl) j;
+          penalties = column 9 (f .penalties) (omega arith) (long .penalties) (λ i. refl) j;
+          returned = column 10 (f .returned) (omega arith) (long .returned) (λ i. refl) j;
         })

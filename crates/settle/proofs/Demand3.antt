@@ -1,7 +1,7 @@
 -- Demand 3, sentence by sentence, of the figures of any columns of one length; so of every accepted pair of files; and of the
 -- figures read back from the bytes of its statement. The sentences are the fields of `Demand3` (specs/Promise.antt).
---   paid-is-kept              What payers pay equals what receivers keep, to the fen.
---     cut-within              (Nobody is cut by more than it is due, so that what it keeps is a plain difference.)
+--   paid-is-kept              What is paid, plus penalties, less what is returned, equals what receivers keep, to the fen.
+--     cut-within, returned-within     (Nobody is cut by more than it is due or returned more than it owes: both are plain differences.)
 --   within-cap                No payer exceeds its cap.
 --   open-share-left           Of the payers with corrected energy, those not capped share what the caps leave ..
 --   rate-over, rate-short     .. at one rate for each corrected kWh, rounded by less than a fen, up or down.
@@ -11,7 +11,11 @@
 --   capped-set                The capped payers have this property ..
 --   one-capped-set            .. and only one set of payers has it.
 --   cut-only-if-all-capped    Receivers are cut only if all are capped ..
---   cut-exactly               .. by exactly what those caps fail to cover.
+--   cut-only-if-uncovered     .. and the penalties do not cover ..
+--   cut-exactly               .. by exactly what caps and penalties leave open.
+--     shortfall-all-capped, shortfall-open, cut-is-shortfall-left     The shortfall told is that before penalties; they are taken from it.
+--   returned-whole-if-open, returned-whole-if-none-short     With an open payer, or without a shortfall, every penalty is returned whole;
+--     returned-is-penalties-left      else what the shortfall leaves of them.
 --   rounds-at-most-payers     Rounds in which somebody closes number at most those payers ..
 --   rounds-at-most-capped     .. and at most those of them that are capped.
 --     rounds-are-closings, somebody-closes    The rounds told are those.
@@ -42,11 +46,11 @@ use Rattle.levy.proofs.Step.{final-sound}
 use Rattle.levy.proofs.Rate.{capped-owe, open-owe}
 use Rattle.levy.proofs.Count.{rounds-count, rounds-capped, round-somebody, rounds-max}
 use Rattle.levy.proofs.Payment.{payments-length, payments-at, paid-none, paid-closed, paid-total, payment-le-cap, open-rate-over, open-rate-short, all-capped, shortfall-none, closed-caps}
-use Rattle.levy.proofs.Cut.{cut-le, cut-capped, cuts-total, balance}
+use Rattle.levy.proofs.Cut.{cut-le, cut-capped, cut-uncovered, cuts-total, returned-le, returned-total, returned-whole, returned-open, balance}
 use Rattle.levy.proofs.Unique.{closers-left, closers-beside, final-capped, capped-unique}
 use Rattle.duties.specs.Duties.{Duties, Level}
 use Rattle.duties.proofs.Laws.{duties-level}
-use Rattle.settle.specs.Settlement.{compensationsOf, Figures, levied, figures}
+use Rattle.settle.specs.Settlement.{compensationsOf, penaltiesOf, Figures, levied, figures}
 use Rattle.settle.specs.Within.{Turn}
 use Rattle.settle.specs.Answer.{dutiesIn, figuresOf, answerOf, bufferAfter, numberOf}
 use Rattle.settle.specs.Promise.{Bytes, figuresAt, capped, CappedPayer, OpenPayer, AllCapped, cappedCaps, leftOver, openEnergy, kept, Demand3}
@@ -106,6 +110,9 @@ module _ (need first n : ℕ) (d : Duties) (level : Level n d) (turn : Turn n fi
   abbrev pay : List ℕ
   pay = f .compensations
 
+  abbrev owed : List ℕ
+  owed = f .penalties
+
   abbrev ws : List ℕ
   ws = f .weights
 
@@ -123,17 +130,28 @@ module _ (need first n : ℕ) (d : Duties) (level : Level n d) (turn : Turn n fi
   turn-pay : Turn (length pay) first
   turn-pay some = omega (arith, turn (omega (arith, pay-long)), pay-long)
 
+  turn-owed : Turn (length owed) first
+  unfolding figures penaltiesOf
+  turn-owed some = omega (arith, turn (omega (arith, long)), long)
+    where
+      long : length owed ≡ n
+      long = table-length (length (d .widths1)) _ ∙ level .widths1
+
   pub total-is : f .total ≡ whole pay
   unfolding figures
   total-is = refl
 
-  pub paid-is-kept : whole (f .paid) ≡ sumTo (length pay) (kept f)
+  pub paid-is-kept : (whole (f .paid) + whole owed) - whole (f .returned) ≡ sumTo (length pay) (kept f)
   unfolding figures levied
-  paid-is-kept = balance (whole pay) ws cs pay first refl turn-pay turn-weights
+  paid-is-kept = balance (whole pay) ws cs owed first pay refl turn-pay turn-weights turn-owed
 
   pub cut-within : (i : ℕ) → at (f .cuts) i ≤ at pay i
   unfolding figures levied
-  cut-within = cut-le (whole pay) ws cs pay first refl
+  cut-within = cut-le (whole pay) ws cs owed first pay refl
+
+  pub returned-within : (i : ℕ) → at (f .returned) i ≤ at owed i
+  unfolding figures levied
+  returned-within = returned-le (whole pay) ws cs owed first
 
   pub within-cap : (i : ℕ) → at (f .paid) i ≤ at cs i
   unfolding figures levied
@@ -185,17 +203,42 @@ module _ (need first n : ℕ) (d : Duties) (level : Level n d) (turn : Turn n fi
   unfolding figures levied
   one-capped-set = capped-unique (whole pay) ws cs
 
+  pub shortfall-all-capped : AllCapped f → f .shortfall ≡ f .total - cappedCaps f
+  unfolding figures levied
+  shortfall-all-capped = all-capped (whole pay) ws cs
+
+  pub shortfall-open : (i : ℕ) → OpenPayer f i → f .shortfall ≡ 0
+  unfolding figures levied
+  shortfall-open i p = shortfall-none (whole pay) ws cs i (p .0) (p .1)
+
   pub cut-only-if-all-capped : (j : ℕ) → 0 < at (f .cuts) j → AllCapped f
   unfolding figures levied
-  cut-only-if-all-capped = cut-capped (whole pay) ws cs pay first
+  cut-only-if-all-capped = cut-capped (whole pay) ws cs owed first pay
 
-  pub shortfall-is-cut : whole (f .cuts) ≡ f .shortfall
-  unfolding figures levied
-  shortfall-is-cut = cuts-total (whole pay) ws cs pay first refl turn-pay
+  pub cut-only-if-uncovered : (j : ℕ) → 0 < at (f .cuts) j → whole owed < f .total - cappedCaps f
+  cut-only-if-uncovered j up = rw (← shortfall-all-capped (cut-only-if-all-capped j up)) short
+    where
+      short : whole owed < f .shortfall
+      short = unfold figures levied in cut-uncovered (whole pay) ws cs owed first pay j up
 
-  pub cut-exactly : AllCapped f → whole (f .cuts) ≡ f .total - cappedCaps f
+  pub cut-is-shortfall-left : whole (f .cuts) ≡ f .shortfall - whole owed
   unfolding figures levied
-  cut-exactly all = shortfall-is-cut ∙ all-capped (whole pay) ws cs all
+  cut-is-shortfall-left = cuts-total (whole pay) ws cs owed first pay refl turn-pay
+
+  pub cut-exactly : AllCapped f → whole (f .cuts) ≡ f .total - cappedCaps f - whole owed
+  cut-exactly all = cut-is-shortfall-left ∙ ap (λ (x : ℕ). x - whole owed) (shortfall-all-capped all)
+
+  pub returned-is-penalties-left : whole (f .returned) ≡ whole owed - f .shortfall
+  unfolding figures levied
+  returned-is-penalties-left = returned-total (whole pay) ws cs owed first turn-owed
+
+  pub returned-whole-if-open : (i : ℕ) → OpenPayer f i → f .returned ≡ owed
+  unfolding figures levied
+  returned-whole-if-open i p = returned-open (whole pay) ws cs owed first i (p .0) (p .1)
+
+  pub returned-whole-if-none-short : f .shortfall ≡ 0 → f .returned ≡ owed
+  unfolding figures levied
+  returned-whole-if-none-short = returned-whole (whole pay) ws cs owed first
 
   pub rounds-are-closings : f .rounds ≡ maxTo (length ws) (at (f .closing))
   unfolding figures levied
@@ -220,6 +263,7 @@ module _ (need first n : ℕ) (d : Duties) (level : Level n d) (turn : Turn n fi
         total-is = total-is;
         paid-is-kept = paid-is-kept;
         cut-within = cut-within;
+        returned-within = returned-within;
         within-cap = within-cap;
         capped-pays-cap = capped-pays-cap;
         no-energy-no-pay = no-energy-no-pay;
@@ -231,9 +275,15 @@ module _ (need first n : ℕ) (d : Duties) (level : Level n d) (turn : Turn n fi
         all-capped-covered = all-capped-covered;
         capped-set = capped-set;
         one-capped-set = one-capped-set;
+        shortfall-all-capped = shortfall-all-capped;
+        shortfall-open = shortfall-open;
         cut-only-if-all-capped = cut-only-if-all-capped;
+        cut-only-if-uncovered = cut-only-if-uncovered;
         cut-exactly = cut-exactly;
-        shortfall-is-cut = shortfall-is-cut;
+        cut-is-shortfall-left = cut-is-shortfall-left;
+        returned-is-penalties-left = returned-is-penalties-left;
+        returned-whole-if-open = returned-whole-if-open;
+        returned-whole-if-none-short = returned-whole-if-none-short;
         rounds-are-closings = rounds-are-closings;
         somebody-closes = somebody-closes;
         rounds-at-most-payers = rounds-at-most-payers;

@@ -1,5 +1,5 @@
--- What is left over of calls, payments and cuts goes by turn (02, request 2). The sentences are the fields of `InTurn` (specs/Promise.antt).
---   calls-in-turn, paid-in-turn, cuts-in-turn     of the figures of any columns of one length
+-- What is left over of calls, payments, cuts and returned penalties goes by turn (02, requests 2 and 4). The sentences are the fields of `InTurn` (specs/Promise.antt).
+--   calls-in-turn, paid-in-turn, cuts-in-turn, returned-in-turn     of the figures of any columns of one length
 --   accepted-in-turn, statement-in-turn           of an accepted pair, and of the bytes of its statement
 use Prim.Native.Nat.{ℕ, _<_}
 use mathlib.Core.Path.{_≡_, _∙_}
@@ -21,8 +21,8 @@ use Rattle.merit.proofs.Laws.{calls-at, called-alike}
 use Rattle.levy.specs.Rounds.{final}
 use Rattle.levy.proofs.Step.{final-sound}
 use Rattle.levy.proofs.Payment.{paid-alike}
-use Rattle.levy.proofs.Cut.{cut-alike}
-use Rattle.settle.specs.Settlement.{firstTurn, bandsOf, compensationsOf, Figures, levied, figures}
+use Rattle.levy.proofs.Cut.{cut-alike, returned-alike}
+use Rattle.settle.specs.Settlement.{firstTurn, bandsOf, compensationsOf, penaltiesOf, Figures, levied, figures}
 use Rattle.settle.specs.Within.{Turn}
 use Rattle.settle.specs.Answer.{dutiesIn, figuresOf, answerOf, bufferAfter, numberOf}
 use Rattle.settle.specs.Promise.{Bytes, figuresAt, Alike, InTurn}
@@ -58,7 +58,15 @@ module _ (need first n : ℕ) (d : Duties) (level : Level n d) (goes : Turn n fi
   cuts-in-turn e =
       let long : length (f .compensations) ≡ n =
       unfold compensationsOf in table-length (length (d .widths1)) _ ∙ level .widths1 in
-      cut-alike (whole (f .compensations)) (d .weights) (d .caps) (f .compensations) first i j (omega (arith, long, inside)) (omega (arith, long)) e
+      cut-alike (whole (f .compensations)) (d .weights) (d .caps) (f .penalties) first (f .compensations) i j (omega (arith, long, inside)) (omega (arith, long)) e
+      (rw long before)
+
+  returned-in-turn : Alike (f .penalties) i j → SameOrOneMore (at (f .returned) i) (at (f .returned) j)
+  unfolding figures levied
+  returned-in-turn e =
+      let long : length (f .penalties) ≡ n =
+      unfold penaltiesOf in table-length (length (d .widths1)) _ ∙ level .widths1 in
+      returned-alike (whole (f .compensations)) (d .weights) (d .caps) (f .penalties) first i j (omega (arith, long, inside)) (omega (arith, long)) e
       (rw long before)
 
 -- ---- an accepted pair of files, and the bytes of its statement
@@ -77,6 +85,7 @@ accepted-in-turn s k =
       calls2 = λ i j x. calls-in-turn need first (rowCount s) d level goes i j (x .one) (x .other) (x .turns) two;
       payments = λ i j x. paid-in-turn need first (rowCount s) d level goes i j (x .one) (x .other) (x .turns);
       cuts = λ i j x. cuts-in-turn need first (rowCount s) d level goes i j (x .one) (x .other) (x .turns);
+      returned = λ i j x. returned-in-turn need first (rowCount s) d level goes i j (x .one) (x .other) (x .turns);
     }
 
 pub statement-in-turn : (s k out : List ℕ) → Bytes s → numberOf (answerOf s k (length out)) ≡ 0 → InTurn s k (figuresAt (bufferAfter s k out))

@@ -5,33 +5,34 @@
 --   payments-room, levied-in      the payments may be put, and what is left
 --   rounds-asked                  the arrays are such as the rounds ask for
 --   marks-count, marks-asked, levied    the closing rounds may be put, and what the stage leaves
---   cuts-asked, cut-lined, cut-left     the cuts over lent columns
---   front-cuttable, cut-front, cut-there    and over fronts of fresh arrays
+--   shares-asked, shares-lined, shares-left     an amount over the sums of a field, in lent columns
+--   front-shareable, share-front, share-there    and in fronts of fresh arrays
+--   divided-none, divided-asked, divided-more, divided-all    one sharing after the other
 use Prim.Native.Nat.{ℕ, _+_, _-_, _≤_, _<_}
 use mathlib.Core.Path.{_≡_, refl, sym, ap, _∙_}
 use mathlib.Core.List.{List, _++_}
+use native.Mathlib.Numerals.{add-one}
 use native.Mathlib.Omega.{arith}
-use lib.ListN.{length, take, drop, replicate, length-append, length-drop}
+use lib.ListN.{length, take, drop, length-append, length-drop}
 use lib.Seq.{length-take-le, take-at}
-use Rattle.columns.specs.Sum.{whole}
-use Rattle.columns.specs.Table.{at, table}
+use Rattle.columns.specs.Table.{at}
 use Rattle.columns.proofs.Table.{table-length}
 use Rattle.records.specs.declared.Field.{Field}
 use Rattle.records.specs.Sheet.{Lined, cell, columnOf, withColumn}
 use Rattle.records.proofs.Sheet.{column-length}
 use Rattle.share.specs.Share.{shares}
 use Rattle.share.proofs.Laws.{shares-length}
-use Rattle.levy.specs.Asked.{standingOf, Levyable, Finished, Payable}
-use Rattle.levy.specs.Asked as levies
+use Rattle.levy.specs.Asked.{standingOf, Levyable, Finished, Payable, Apportionable}
 use Rattle.levy.specs.Rounds.{Standing, final, payments}
 use Rattle.levy.specs.declared.Rest.{Rest}
+use Rattle.levy.specs.declared.Left.{Left}
 use Rattle.levy.proofs.Arrays.{zeros-at}
 use Rattle.levy.proofs.Making.{payable}
 use Rattle.levy.proofs.Payment.{payments-length}
-use Rattle.levy.proofs.Step.{final-sound}
 use Rattle.statement.specs.Line as line
 use Rattle.settle.specs.Within.{Turn}
-use Rattle.settle.specs.Work.{Ruled, Leviable, standingIn, LeviedOn, LeviedIn, Levied, Cuttable, cutFrom}
+use Rattle.settle.specs.Work.{Ruled, Leviable, standingIn, LeviedOn, LeviedIn, Levied, sharingOf, Shareable, sharedOut, dividedTo, Divisible}
+use Rattle.settle.specs.declared.payers.Sharing.{Sharing}
 use Rattle.settle.proofs.Lending.{fresh, front-count}
 
 column-long : (n : ℕ) (s : List ℕ) (f : Field) → length (columnOf f n s) ≡ n
@@ -157,18 +158,15 @@ module _ (n first total : ℕ) (s : List ℕ) (asked : Leviable n first total s)
             rounds = ap (λ (st : Standing). st .rounds) stands;
           }
 
--- ---- cuts
+-- ---- an amount over the sums of a field
 
-module _ (first shortfall : ℕ) (ps cs s : List ℕ) (asked : Cuttable (length ps) first shortfall s) (long : length cs ≡ length ps) where
-  pub pays-asked : Lined line.compensation (length ps) s
-  pays-asked = asked .ruled .lined
-
-  module _ (ps1 : List ℕ) (read : ps1 ≡ columnOf line.compensation (length ps) s) where
+module _ (first : ℕ) (what : Sharing) (ps cs s : List ℕ) (asked : Shareable (length ps) first what s) (long : length cs ≡ length ps) where
+  module _ (ps1 : List ℕ) (read : ps1 ≡ columnOf (what .from) (length ps) s) where
     ps1-long : length ps1 ≡ length ps
-    ps1-long = ap length read ∙ column-long (length ps) s line.compensation
+    ps1-long = ap length read ∙ column-long (length ps) s (what .from)
 
-    pub cuts-asked : levies.Cuttable shortfall ps1 first cs
-    cuts-asked =
+    pub shares-asked : Apportionable (what .amount .0) ps1 first cs
+    shares-asked =
         record {
           few = omega (arith, ps1-long, asked .few);
           out-long = long ∙ sym ps1-long;
@@ -176,20 +174,38 @@ module _ (first shortfall : ℕ) (ps cs s : List ℕ) (asked : Cuttable (length 
           covered = rw read (asked .covered);
         }
 
-    module _ (cs1 : List ℕ) (made : cs1 ≡ shares shortfall ps1 first) where
-      pub cut-lined : Lined line.cut (length cs1) s
-      cut-lined =
-          let e : length cs1 ≡ length ps = ap length made ∙ shares-length shortfall ps1 first ∙ ps1-long in rw e (asked .cuts .lined)
+    module _ (cs1 : List ℕ) (made : cs1 ≡ shares (what .amount .0) ps1 first) where
+      pub shares-lined : Lined (what .to) (length cs1) s
+      shares-lined =
+          let e : length cs1 ≡ length ps = ap length made ∙ shares-length (what .amount .0) ps1 first ∙ ps1-long in rw e (asked .parts .lined)
 
-      pub cut-left : (t : List ℕ) → t ≡ withColumn line.cut cs1 s → t ≡ cutFrom (length ps) first shortfall s
-      cut-left t put = put ∙ (λ j. withColumn line.cut ((made ∙ ap (λ (xs : List ℕ). shares shortfall xs first) read) j) s)
+      pub shares-left : (t : List ℕ) → t ≡ withColumn (what .to) cs1 s → t ≡ sharedOut (length ps) first what s
+      shares-left t put = put ∙ (λ j. withColumn (what .to) ((made ∙ ap (λ (xs : List ℕ). shares (what .amount .0) xs first) read) j) s)
 
-module _ (n first shortfall : ℕ) (s : List ℕ) (asked : Cuttable n first shortfall s) where
-  pub front-cuttable : (xs : List ℕ) → length xs ≡ 256 → n ≡ length (take n xs)
-  front-cuttable xs e = sym (length-take-le n xs (omega (arith, asked .few)))
+module _ (n first : ℕ) (what : Sharing) (s : List ℕ) (asked : Shareable n first what s) where
+  pub front-shareable : (xs : List ℕ) → length xs ≡ 256 → n ≡ length (take n xs)
+  front-shareable xs e = sym (length-take-le n xs (omega (arith, asked .few)))
 
-  pub cut-front : Cuttable (length (take n fresh)) first shortfall s
-  cut-front = rw (front-count n (asked .few)) asked
+  pub share-front : Shareable (length (take n fresh)) first what s
+  share-front = rw (front-count n (asked .few)) asked
 
-  pub cut-there : (t : List ℕ) → t ≡ cutFrom (length (take n fresh)) first shortfall s → t ≡ cutFrom n first shortfall s
-  cut-there t e = rw (front-count n (asked .few)) at e
+  pub share-there : (t : List ℕ) → t ≡ sharedOut (length (take n fresh)) first what s → t ≡ sharedOut n first what s
+  share-there t e = rw (front-count n (asked .few)) at e
+
+-- ---- both sharings, one after the other
+
+module _ (n first : ℕ) (left : Left) (s : List ℕ) where
+  pub divided-none : s ≡ dividedTo 0 n first left s
+  unfolding dividedTo
+  divided-none = refl
+
+  module _ (k : ℕ) (t : List ℕ) (so : t ≡ dividedTo k n first left s) (what : Sharing) (is : what ≡ sharingOf left k) where
+    pub divided-asked : Divisible n first left s → k < 2 → Shareable n first what t
+    divided-asked asked l = rw (so, is) (asked k l)
+
+    pub divided-more : (u : List ℕ) → u ≡ sharedOut n first what t → u ≡ dividedTo (k + 1) n first left s
+    unfolding dividedTo
+    divided-more u made = rw (add-one k) (made ∙ (λ j. sharedOut n first (is j) (so j)))
+
+  pub divided-all : (k : ℕ) (t : List ℕ) → k ≤ 2 → 2 ≤ k → t ≡ dividedTo k n first left s → t ≡ dividedTo 2 n first left s
+  divided-all k t l m so = let e : k ≡ 2 = omega arith in rw e at so

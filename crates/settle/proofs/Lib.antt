@@ -15,5 +15,6 @@ pub mod Demand1
 pub mod Demand2
 pub mod Prices
 pub mod Demand3
+pub mod Penalties
 pub mod InTurn
 pub mod Unique

@@ -24,7 +24,7 @@ use Rattle.duties.proofs.Laws.{width1-offers, width2-offers, energy1-whose, ene
 use Rattle.merit.specs.Band.{Tier, one, two, widths}
 use Rattle.merit.specs.Call.{calls}
 use Rattle.merit.specs.Price.{price}
-use Rattle.merit.proofs.Laws.{calls-at, called-le, Delivered, price-reached, price-least, price-zero}
+use Rattle.merit.proofs.Laws.{calls-le, Delivered, price-reached, price-least, price-zero}
 use Rattle.settle.specs.Settlement.{firstTurn, bandsOf, figures}
 use Rattle.settle.specs.Answer.{dutiesIn, figuresOf, answerOf, bufferAfter, numberOf}
 use Rattle.settle.specs.Promise.{Bytes, figuresAt, Delivers, SetBy, Prices}
@@ -100,7 +100,7 @@ module _ (s k : List ℕ) (n : ℕ) (h : verdictOf s k ≡ Accepted n) where
 
   called-width : (tier : Tier) (i : ℕ) → 0 < at (made tier) i → 0 < at (widths (bandsOf d) tier) i
   called-width tier i p =
-      omega (arith, p, calls-at (headAt s .need .0) (bandsOf d) first tier i, called-le (headAt s .need .0) (bandsOf d) first tier i)
+      omega (arith, p, calls-le (headAt s .need .0) (bandsOf d) first tier i)
 
   pub accepted-prices : Prices s k (figuresOf s k)
   unfolding figuresOf figures dutiesIn dutiesOf

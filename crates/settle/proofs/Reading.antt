@@ -2,10 +2,11 @@
 --   Sofar          how far it has come before row i: the lines of the rows passed
 --   sofar-none, sofar-more, sofar-all     its start, one row more, its end
 --   source-inside, source-is, line-room, sofar-long     the next row's source is there and right, its line has room
+--   duty-put       a record of the fields of a row's duties is its line
 --   row-ranged, row-inside, row-read      of one row: it is in its ranges, and its line is that of its duties
-use Prim.Native.Nat.{ℕ, _+_, _*_, _≤_, _<_}
+use Prim.Native.Nat.{ℕ, _+_, _≤_, _<_}
 use mathlib.Core.Path.{_≡_, refl, sym, ap, _∙_}
-use mathlib.Core.List.{List}
+use mathlib.Core.List.{List, [], _∷_}
 use native.Mathlib.Omega.{arith}
 use lib.ListN.{length}
 use Rattle.columns.specs.Table.{at, table}
@@ -13,8 +14,10 @@ use Rattle.records.specs.Buffer.{put}
 use Rattle.records.specs.Record.{recordBytes}
 use Rattle.records.proofs.Sheet.{sheet-none, sheet-next, sheet-length}
 use Rattle.files.specs.Terms.{termsOf}
+use Rattle.files.specs.Layout.{headAt}
 use Rattle.files.specs.Order.{verdictOf}
 use Rattle.files.specs.Counting.{sourceOf, countingRow}
+use Rattle.files.specs.declared.Head.{Head}
 use Rattle.files.specs.declared.Row.{Row}
 use Rattle.files.specs.declared.Terms.{Terms}
 use Rattle.files.specs.declared.Verdict.the-variants.{Accepted}
@@ -25,6 +28,17 @@ use Rattle.duties.specs.declared.Duty.{Duty}
 use Rattle.duties.proofs.Laws.{in-range}
 use Rattle.statement.specs.Statement.{letterL, lineWidths, headSize, lineStart}
 use Rattle.settle.specs.Work.{lined, dutyLine, rowLine}
+
+pub duty-put : (s t : List ℕ) (from id : ℕ) (d : Duty) (w1 w2 e1 e2 w x1 x2 : ℕ) → w1 ≡ d .width1 .0 → w2 ≡ d .width2 .0
+    → e1 ≡ d .energy1 .0 → e2 ≡ d .energy2 .0 → w ≡ d .weight .0 → x1 ≡ d .credit1 .0 → x2 ≡ d .credit2 .0
+    → t ≡ put s from
+    (recordBytes letterL lineWidths (id ∷ w1 ∷ w2 ∷ e1 ∷ e2 ∷ w ∷ d .cap .0 ∷ d .bid2 .0 ∷ d .bid1 .0 ∷ x1 ∷ x2 ∷ []))
+    → t ≡ put s from (recordBytes letterL lineWidths (dutyLine id d))
+duty-put s t from id d w1 w2 e1 e2 w x1 x2 h1 h2 h3 h4 h5 h6 h7 made =
+    made
+    ∙ (λ j. put s from
+    (recordBytes letterL lineWidths
+    (id ∷ h1 j ∷ h2 j ∷ h3 j ∷ h4 j ∷ h5 j ∷ d .cap .0 ∷ d .bid2 .0 ∷ d .bid1 .0 ∷ h6 j ∷ h7 j ∷ [])))
 
 module _ (n tariff : ℕ) (s k : List ℕ) (i : ℕ) (ok : verdictOf s k ≡ Accepted n) (l : i < n) (row : Row) (is : row ≡ countingRow s k i) where
   pub row-ranged : Ranged row
@@ -73,5 +87,7 @@ module _ (n tariff : ℕ) (s k out : List ℕ) (ok : verdictOf s k ≡ Accepted 
                 ∙ sheet-next headSize letterL lineWidths out i (rowLine tariff s k) (λ j. refl) (omega arith);
           }
 
-    pub sofar-all : n ≤ i → sheet ≡ lined out n (rowLine tariff s k)
-    sofar-all up = let e : i ≡ n = omega (arith, sofar .within) in rw e at (sofar .bytes)
+    pub sofar-all : n ≤ i → (h : Head) → h ≡ headAt s → tariff ≡ h .tariff .0 → sheet ≡ lined out n (rowLine (headAt s .tariff .0) s k)
+    sofar-all up h is paid =
+        let e : i ≡ n = omega (arith, sofar .within) in
+        (rw e at (sofar .bytes)) ∙ ap (λ (x : ℕ). lined out n (rowLine x s k)) (paid ∙ ap (λ (x : Head). x .tariff .0) is)

@@ -1,5 +1,6 @@
 -- How large the figures of a statement get, of any columns within sizes; proofs/Accepted.antt has it of an accepted pair of files.
 --   pay-length, pay-small, total-rich     the column of compensations, its numbers, its sum
+--   owed-length, owed-small               the column of penalties, its numbers
 --   figures-long         a number in every column for each row
 --   figures-sized        every figure by its bound (record Sized)
 use Prim.Native.Nat.{ℕ, _≤_}
@@ -15,16 +16,16 @@ use Rattle.columns.proofs.Table.{table-length, table-most}
 use Rattle.columns.proofs.Whole.{whole-bound}
 use Rattle.merit.specs.Band.{one, two, Bands}
 use Rattle.merit.specs.Call.{calls, uncovered}
-use Rattle.merit.proofs.Laws.{calls-length, calls-at, called-le, price-le}
-use Rattle.pay.specs.Pay.{compensation}
-use Rattle.pay.proofs.Laws.{compensation-most}
+use Rattle.merit.proofs.Laws.{calls-length, calls-le, price-le}
+use Rattle.pay.specs.Pay.{compensation, penalty}
+use Rattle.pay.proofs.Laws.{compensation-most, penalty-most}
 use Rattle.levy.specs.Rounds.{payers, final}
 use Rattle.levy.proofs.Step.{final-sound}
 use Rattle.levy.proofs.Count.{rounds-count, marks-rounds}
 use Rattle.levy.proofs.Payment.{payments-length, payment-le-cap, shortfall-le}
-use Rattle.levy.proofs.Cut.{cuts-length, cut-le}
+use Rattle.levy.proofs.Cut.{cuts-length, cut-le, returned-length, returned-le}
 use Rattle.duties.specs.Duties.{Duties, Level}
-use Rattle.settle.specs.Settlement.{bandsOf, compensationsOf, Figures, levied, figures}
+use Rattle.settle.specs.Settlement.{bandsOf, compensationsOf, penaltiesOf, Figures, levied, figures}
 use Rattle.settle.specs.Within.{Within}
 
 -- every figure of a statement by its bound
@@ -43,6 +44,8 @@ pub record Sized (need n : ℕ) (f : Figures) : Type 0 where
   pub caps : (i : ℕ) → at (f .caps) i ≤ 44000000
   pub paid : (i : ℕ) → at (f .paid) i ≤ at (f .caps) i
   pub closing : (i : ℕ) → at (f .closing) i ≤ f .rounds
+  pub penalties : (i : ℕ) → at (f .penalties) i ≤ 100000000
+  pub returned : (i : ℕ) → at (f .returned) i ≤ at (f .penalties) i
 
 -- a number in every column for each row
 pub record Long (n : ℕ) (f : Figures) : Type 0 where
@@ -54,6 +57,8 @@ pub record Long (n : ℕ) (f : Figures) : Type 0 where
   pub caps : length (f .caps) ≡ n
   pub paid : length (f .paid) ≡ n
   pub closing : length (f .closing) ≡ n
+  pub penalties : length (f .penalties) ≡ n
+  pub returned : length (f .returned) ≡ n
 
 -- rounds number at most the weights
 rounds-few : (total : ℕ) (ws cs : List ℕ) → final total ws cs .rounds ≤ length ws
@@ -86,6 +91,20 @@ module _ (n : ℕ) (d : Duties) where
           pay-length (within .level) c1 c2 p1 p2,
         )
 
+  pub owed-length : Level n d → (c1 c2 : List ℕ) (p1 p2 : ℕ) → length (penaltiesOf d c1 c2 p1 p2) ≡ n
+  unfolding penaltiesOf
+  owed-length level c1 c2 p1 p2 =
+      table-length (length (d .widths1)) (λ i. penalty (at c1 i) (at c2 i) (at (d .credits1) i) (at (d .credits2) i) p1 p2)
+      ∙ level .widths1
+
+  pub owed-small : (c1 c2 : List ℕ) → ((i : ℕ) → at c1 i ≤ 250000) → ((i : ℕ) → at c2 i ≤ 250000) → (p1 p2 : ℕ) → p1 ≤ 1000 → p2 ≤ 1000
+      → (i : ℕ) → at (penaltiesOf d c1 c2 p1 p2) i ≤ 100000000
+  unfolding penaltiesOf
+  owed-small c1 c2 narrow1 narrow2 p1 p2 low1 low2 =
+      table-most (length (d .widths1)) 100000000
+      (λ i. penalty (at c1 i) (at c2 i) (at (d .credits1) i) (at (d .credits2) i) p1 p2)
+      (λ i l. penalty-most (at c1 i) (at c2 i) (at (d .credits1) i) (at (d .credits2) i) p1 p2 (narrow1 i) (narrow2 i) low1 low2)
+
 module _ (need first n : ℕ) (d : Duties) where
   abbrev b : Bands
   b = bandsOf d
@@ -97,17 +116,20 @@ module _ (need first n : ℕ) (d : Duties) where
   unfolding figures levied
   figures-long level =
       let pay = f .compensations in
+      let owed = f .penalties in
       let ws = d .weights in
       let cs = d .caps in
       record {
         called1 = calls-length need b first one ∙ level .widths1;
         called2 = calls-length need b first two ∙ level .widths1;
         compensations = pay-length n d level _ _ _ _;
-        cuts = cuts-length (whole pay) ws cs pay first ∙ pay-length n d level _ _ _ _;
+        cuts = cuts-length (whole pay) ws cs owed first pay ∙ pay-length n d level _ _ _ _;
         weights = level .weights;
         caps = level .caps;
         paid = payments-length ws cs (final (whole pay) ws cs) first ∙ level .weights;
         closing = final-sound (whole pay) ws cs .long ∙ level .weights;
+        penalties = owed-length n d level _ _ _ _;
+        returned = returned-length (whole pay) ws cs owed first ∙ owed-length n d level _ _ _ _;
       }
 
   pub figures-sized : Within n d → Sized need n (figures need first d)
@@ -118,6 +140,7 @@ module _ (need first n : ℕ) (d : Duties) where
       let p1 = price-le (d .bids1) c1 (d .energies1) 1000 (λ i _. within .low1 i) in
       let p2 = price-le (d .bids2) c2 (d .energies2) 1000 (λ i _. within .low2 i) in
       let pay = f .compensations in
+      let owed = f .penalties in
       let ws = d .weights in
       let cs = d .caps in
       record {
@@ -127,15 +150,23 @@ module _ (need first n : ℕ) (d : Duties) where
         shortfall = shortfall-le (whole pay) ws cs;
         rounds = omega (arith, rounds-few (whole pay) ws cs, within .level .weights);
         uncovered = uncovered-le;
-        called1 = λ i. omega (arith, calls-at need b first one i, called-le need b first one i, within .narrow1 i);
-        called2 = λ i. omega (arith, calls-at need b first two i, called-le need b first two i, within .narrow2 i);
+        called1 = narrow1;
+        called2 = narrow2;
         compensations = pay-small n d within c1 c2 _ _ p1 p2;
-        cuts = cut-le (whole pay) ws cs pay first refl;
+        cuts = cut-le (whole pay) ws cs owed first pay refl;
         weights = within .light;
         caps = within .covered;
         paid = payment-le-cap (whole pay) ws cs first;
         closing = marks-rounds (whole pay) ws cs;
+        penalties = owed-small n d c1 c2 narrow1 narrow2 _ _ p1 p2;
+        returned = returned-le (whole pay) ws cs owed first;
       }
     where
+      narrow1 : (i : ℕ) → at (calls need b first one) i ≤ 250000
+      narrow1 i = omega (arith, calls-le need b first one i, within .narrow1 i)
+
+      narrow2 : (i : ℕ) → at (calls need b first two) i ≤ 250000
+      narrow2 i = omega (arith, calls-le need b first two i, within .narrow2 i)
+
       uncovered-le : uncovered need b ≤ need
       uncovered-le = unfold uncovered in omega arith

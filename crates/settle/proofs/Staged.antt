@@ -3,33 +3,35 @@
 --   read, written, ruled     a field of the lines read as a column, a column put into a field, and that its cells are there
 --   called1-asked, called1-lines    tier 1: what it asks, and the lines that it leaves; so for the other stages
 --   figure-lines        after the last stage the lines are those of the figures
-use Prim.Native.Nat.{ℕ, _+_, _-_, _^_, _≤_, _<_}
+use Prim.Native.Nat.{ℕ, zero, suc, _+_, _-_, _^_, _≤_, _<_}
 use mathlib.Core.Path.{_≡_, refl, sym, ap, _∙_}
 use mathlib.Core.List.{List, [], _∷_}
 use native.Mathlib.Omega.{arith}
 use lib.ListN.{length, take, set}
 use Rattle.columns.specs.Sum.{whole}
 use Rattle.columns.specs.Table.{at, table}
-use Rattle.columns.proofs.Table.{table-list, table-same}
+use Rattle.columns.proofs.Table.{table-at, table-list, table-same}
 use Rattle.records.specs.declared.Field.{Field}
 use Rattle.records.specs.Fields.{span}
-use Rattle.records.specs.Sheet.{cell, columnOf, withColumn, fieldOf, sheet}
+use Rattle.records.specs.Sheet.{Lined, cell, columnOf, withColumn, fieldOf}
 use Rattle.records.proofs.Sheet.{sheet-of, sheet-with, sheet-cell-of, sheet-length}
 use Rattle.duties.specs.Duties.{Duties}
-use Rattle.merit.specs.Band.{one, Apart}
+use Rattle.merit.specs.Band.{Apart}
 use Rattle.merit.specs.OneTier.{tierCalls}
 use Rattle.merit.specs.Price.{price}
 use Rattle.merit.proofs.Apart.{calls-one, calls-two, uncovered-tiers}
-use Rattle.pay.specs.Pay.{compensation}
-use Rattle.levy.specs.Rounds.{Standing, final, payments, shortfall, cuts}
+use Rattle.pay.specs.Pay.{compensation, penalty}
+use Rattle.levy.specs.Rounds.{Standing, final, payments, shortfall, toCut, toReturn, cuts, returned}
 use Rattle.levy.specs.declared.Rest.{Rest}
+use Rattle.levy.specs.declared.Left.{Left}
 use Rattle.share.specs.Share.{shares}
 use Rattle.statement.specs.Statement.{letterL, lineWidths, headSize, lineSize, lineStart}
 use Rattle.statement.specs.Line as line
-use Rattle.settle.specs.Settlement.{bandsOf, compensationsOf, Figures, levied, figures}
+use Rattle.settle.specs.Settlement.{bandsOf, compensationsOf, penaltiesOf, Figures, levied, figures}
 use Rattle.settle.specs.Statement.{lineOf}
 use Rattle.settle.specs.Within.{Turn, Within}
-use Rattle.settle.specs.Work.{lined, Ruled, tierOne, tierTwo, Offered, callsIn, Called, payAt, Payable, Paid, Leviable, standingIn, Levied, Cuttable, cutFrom}
+use Rattle.settle.specs.Work.{lined, lineField, Ruled, tierOne, tierTwo, Offered, callsIn, Called, Pricing, paying, owing, pricedAt, Priceable, Priced}
+use Rattle.settle.specs.Work.{Leviable, standingIn, Levied, cutting, returning, Shareable, sharedOut, dividedTo, Divisible}
 use Rattle.settle.specs.declared.market.Cleared.{Cleared}
 use Rattle.settle.proofs.Sizes.{Sized, Long, figures-long, figures-sized}
 
@@ -40,20 +42,20 @@ module _ (n : ℕ) (out : List ℕ) (room : lineStart n ≤ length out) where
   abbrev fieldAt : ℕ → Field
   fieldAt j = fieldOf headSize lineWidths j
 
-  module _ (g : ℕ → List ℕ) (nine : (i : ℕ) → length (g i) ≡ 9) where
+  module _ (g : ℕ → List ℕ) (full : (i : ℕ) → length (g i) ≡ 11) where
     pub lines-long : length (lined out n g) ≡ length out
-    lines-long = sheet-length headSize letterL lineWidths out n g nine room
+    lines-long = sheet-length headSize letterL lineWidths out n g full room
 
-    module _ (j : ℕ) (known : j < 9) (xs : List ℕ) (long : length xs ≡ n) where
+    module _ (j : ℕ) (known : j < 11) (xs : List ℕ) (long : length xs ≡ n) where
       -- a field is read as the column that stands in it
       pub read : ((i : ℕ) → at (g i) j ≡ at xs i) → ((i : ℕ) → at xs i < 256 ^ at lineWidths j) → columnOf (fieldAt j) n (lined out n g) ≡ xs
       read is fits =
-          sheet-of headSize letterL lineWidths out n g j nine known (omega arith) (λ i l. rw (is i) (fits i))
+          sheet-of headSize letterL lineWidths out n g j full known (omega arith) (λ i l. rw (is i) (fits i))
           ∙ table-same n (λ i. at (g i) j) (at xs) (λ i l. is i) ∙ ap (λ (m : ℕ). table m (at xs)) (sym long) ∙ sym (table-list 0 xs)
 
       -- a column put into a field is that field of every line
       pub written : withColumn (fieldAt j) xs (lined out n g) ≡ lined out n (λ i. set (g i) j (at xs i))
-      written = sheet-with headSize letterL lineWidths out n g j xs nine known (omega arith) long
+      written = sheet-with headSize letterL lineWidths out n g j xs full known (omega arith) long
 
     -- a field's cells lie inside the lines
     pub ruled : (j : ℕ) → 2 + span (take j lineWidths) + at lineWidths j ≤ lineSize → at lineWidths j ≤ 4 → Ruled n (fieldAt j) (lined out n g)
@@ -61,6 +63,12 @@ module _ (n : ℕ) (out : List ℕ) (room : lineStart n ≤ length out) where
         record { lined = record { inside = inside; room = omega (arith, lines-long, room) }; narrow = narrow }
 
 -- ---- the stages, of any columns within sizes
+
+-- a stage that prices the energies of lines into the column xs: it may be run, and leaves xs in its field and the sum
+pub record PricedStage (g : Pricing) (n p1 p2 : ℕ) (out : List ℕ) (lines : ℕ → List ℕ) (xs : List ℕ) : Type 0 where
+  pub asked : Priceable g n p1 p2 (lined out n lines)
+  pub leaves : (t : List ℕ) (total : ℕ) → Priced g n p1 p2 (lined out n lines) t total → t ≡ lined out n (λ i. set (lines i) (g .into) (at xs i))
+  pub sums : (t : List ℕ) (total : ℕ) → Priced g n p1 p2 (lined out n lines) t total → total ≡ whole xs
 
 module _ (n : ℕ) (d : Duties) (within : Within n d) (need first : ℕ) (turn : Turn n first) (id : ℕ → ℕ) (out : List ℕ)
     (room : lineStart n ≤ length out) where
@@ -77,7 +85,7 @@ module _ (n : ℕ) (d : Duties) (within : Within n d) (need first : ℕ) (turn :
   abbrev pub lines0 : ℕ → List ℕ
   lines0 i =
       id i ∷ at (d .widths1) i ∷ at (d .widths2) i ∷ at (d .energies1) i ∷ at (d .energies2) i ∷ at (d .weights) i ∷ at (d .caps) i
-      ∷ at (d .bids2) i ∷ at (d .bids1) i ∷ []
+      ∷ at (d .bids2) i ∷ at (d .bids1) i ∷ at (d .credits1) i ∷ at (d .credits2) i ∷ []
 
   abbrev pub lines1 : ℕ → List ℕ
   lines1 i = set (lines0 i) 1 (at (f .called1) i)
@@ -92,7 +100,13 @@ module _ (n : ℕ) (d : Duties) (within : Within n d) (need first : ℕ) (turn :
   lines4 i = set (set (lines3 i) 7 (at (f .paid) i)) 8 (at (f .closing) i)
 
   abbrev pub lines5 : ℕ → List ℕ
-  lines5 i = set (lines4 i) 4 (at (f .cuts) i)
+  lines5 i = set (lines4 i) 9 (at (f .penalties) i)
+
+  abbrev pub lines6 : ℕ → List ℕ
+  lines6 i = set (lines5 i) 4 (at (f .cuts) i)
+
+  abbrev pub lines7 : ℕ → List ℕ
+  lines7 i = set (lines6 i) 10 (at (f .returned) i)
 
   -- no tier 1 bid is above a tier 2 bid
   apart : Apart (bandsOf d)
@@ -194,48 +208,70 @@ module _ (n : ℕ) (d : Duties) (within : Within n d) (need first : ℕ) (turn :
     unfolding figures
     called2-price = now .price ∙ (λ j. price (bids2-read j) (calls2 j) (energies2-read j))
 
-  -- ---- compensations
+  -- ---- compensations and penalties
 
-  -- a cell of lines 2 is the figure that stands there
-  cell2 : (j : ℕ) → j < 9 → (i : ℕ) → i < n → at (lines2 i) j < 256 ^ at lineWidths j → cell (fieldAt n out room j) (lined out n lines2) i ≡ at (lines2 i) j
-  cell2 j known i l fits = sheet-cell-of headSize letterL lineWidths out n lines2 j (λ i. refl) known (omega arith) i l fits
+  -- lines in which calls stand, and energies in the fields of a rule: the rule's figures are those of the columns
+  module _ (g : Pricing) (lines : ℕ → List ℕ) (full : (i : ℕ) → length (lines i) ≡ 11) (energies1 energies2 : List ℕ)
+      (called1-is : (i : ℕ) → at (lines i) 1 ≡ at (f .called1) i) (called2-is : (i : ℕ) → at (lines i) 2 ≡ at (f .called2) i)
+      (known1 : g .into < 11) (is1 : (i : ℕ) → at (lines i) (g .into) ≡ at energies1 i) (fits1 : (i : ℕ) → at energies1 i < 256 ^ at lineWidths (g .into))
+      (known2 : g .beside < 11) (is2 : (i : ℕ) → at (lines i) (g .beside) ≡ at energies2 i) (fits2 : (i : ℕ) → at energies2 i < 256 ^ at lineWidths (g .beside))
+    where
+      -- a cell is the figure that stands there
+      stands : (j : ℕ) → j < 11 → (x i : ℕ) → i < n → at (lines i) j ≡ x → x < 256 ^ at lineWidths j → cell (lineField j) (lined out n lines) i ≡ x
+      stands j known x i l e fits =
+          sheet-cell-of headSize letterL lineWidths out n lines j full known (omega arith) i l (rw e fits) ∙ e
 
-  energies : (i : ℕ) → (at (d .energies1) i < 4294967296) × (at (d .energies2) i < 4294967296)
-  energies i = (omega (arith, within .delivered i), omega (arith, within .delivered i))
+      priced-is : (i : ℕ) → i < n
+          → pricedAt g (f .price1) (f .price2) (lined out n lines) i
+          ≡ g .rule (at (f .called1) i) (at (f .called2) i) (at energies1 i) (at energies2 i) (f .price1) (f .price2)
+      priced-is i l =
+          let c1 = stands 1 (omega arith) (at (f .called1) i) i l (called1-is i) (omega (arith, sized .called1 i)) in
+          let c2 = stands 2 (omega arith) (at (f .called2) i) i l (called2-is i) (omega (arith, sized .called2 i)) in
+          let e1 = stands (g .into) known1 (at energies1 i) i l (is1 i) (fits1 i) in
+          let e2 = stands (g .beside) known2 (at energies2 i) i l (is2 i) (fits2 i) in
+          λ j. g .rule (c1 j) (c2 j) (e1 j) (e2 j) (f .price1) (f .price2)
 
-  pub paid-asked : Payable n (f .price1) (f .price2) (lined out n lines2)
-  paid-asked =
-      record {
-        few = within .few;
-        called1 = ruled n out room lines2 (λ i. refl) 1 (omega arith) (omega arith) .lined;
-        low1 = sized .price1;
-        low2 = sized .price2;
-        delivered = λ i l. rw (cell2 3 (omega arith) i l (energies i .0), cell2 4 (omega arith) i l (energies i .1)) (within .delivered i);
-      }
+      -- xs being the column that the rule makes of them
+      module _ (xs : List ℕ) (long-x : length xs ≡ n)
+          (made : (i : ℕ) → i < n
+          → at xs i ≡ g .rule (at (f .called1) i) (at (f .called2) i) (at energies1 i) (at energies2 i) (f .price1) (f .price2)) where
+        figures-made : table n (pricedAt g (f .price1) (f .price2) (lined out n lines)) ≡ xs
+        figures-made =
+            table-same n (pricedAt g (f .price1) (f .price2) (lined out n lines)) (at xs) (λ i l. priced-is i l ∙ sym (made i l))
+            ∙ ap (λ (m : ℕ). table m (at xs)) (sym long-x) ∙ sym (table-list 0 xs)
 
-  module _ (t : List ℕ) (total : ℕ) (now : Paid n (f .price1) (f .price2) (lined out n lines2) t total) where
-    pays : table n (payAt (f .price1) (f .price2) (lined out n lines2)) ≡ f .compensations
-    unfolding figures compensationsOf
-    pays =
-        table-same n (payAt (f .price1) (f .price2) (lined out n lines2))
-        (λ i. compensation (at (f .called1) i) (at (f .called2) i) (at (d .energies1) i) (at (d .energies2) i) (f .price1) (f .price2))
-        (λ i l. rw (
-          cell2 1 (omega arith) i l (omega (arith, sized .called1 i)),
-          cell2 2 (omega arith) i l (omega (arith, sized .called2 i)),
-          cell2 3 (omega arith) i l (energies i .0),
-          cell2 4 (omega arith) i l (energies i .1),
-        ))
-        ∙ ap (λ (m : ℕ). table m (λ i. compensation (at (f .called1) i) (at (f .called2) i) (at (d .energies1) i) (at (d .energies2) i) (f .price1) (f .price2)))
-        (sym (within .level .widths1))
+        priced-stage : Lined (lineField (g .into)) n (lined out n lines) → ((i : ℕ) → at xs i ≤ 100000000)
+            → PricedStage g n (f .price1) (f .price2) out lines xs
+        priced-stage there small =
+            record {
+              asked = record {
+                few = within .few;
+                lined = there;
+                low1 = sized .price1;
+                low2 = sized .price2;
+                small = λ i l. rw (priced-is i l ∙ sym (made i l)) (small i);
+              };
+              leaves = λ t total now.
+                  now .bytes ∙ ap (λ (ys : List ℕ). withColumn (lineField (g .into)) ys (lined out n lines)) figures-made
+                  ∙ written n out room lines full (g .into) known1 xs long-x;
+              sums = λ t total now. now .total ∙ ap whole figures-made;
+            }
 
-    pub paid-lines : t ≡ lined out n lines3
-    paid-lines =
-        now .bytes ∙ ap (λ (xs : List ℕ). withColumn line.compensation xs (lined out n lines2)) pays
-        ∙ written n out room lines2 (λ i. refl) 3 (omega arith) (f .compensations) (long .compensations)
+  pub paid : PricedStage paying n (f .price1) (f .price2) out lines2 (f .compensations)
+  paid =
+      priced-stage paying lines2 (λ i. refl) (d .energies1) (d .energies2) (λ i. refl) (λ i. refl)
+      (omega arith) (λ i. refl) (λ i. omega (arith, within .delivered i)) (omega arith) (λ i. refl) (λ i. omega (arith, within .delivered i))
+      (f .compensations) (long .compensations) made
+      (ruled n out room lines2 (λ i. refl) 3 (omega arith) (omega arith) .lined) (λ i. omega (arith, sized .compensations i))
+    where
+      made : (i : ℕ) → i < n
+          → at (f .compensations) i
+          ≡ compensation (at (f .called1) i) (at (f .called2) i) (at (d .energies1) i) (at (d .energies2) i) (f .price1) (f .price2)
+      made i l = unfold figures compensationsOf in table-at 0 (length (d .widths1)) _ i (omega (arith, within .level .widths1))
 
-    pub paid-total : total ≡ f .total
-    unfolding figures
-    paid-total = now .total ∙ ap whole pays
+  pub paid-total : whole (f .compensations) ≡ f .total
+  unfolding figures
+  paid-total = refl
 
   -- ---- rounds and payments
 
@@ -293,30 +329,83 @@ module _ (n : ℕ) (d : Duties) (within : Within n d) (need first : ℕ) (turn :
     levied-short x marks e =
         e ∙ rw (now .money ∙ ap (λ (st : Standing). st .money) ends, now .weight ∙ ap (λ (st : Standing). st .weight) ends)
 
-  -- ---- cuts
+  -- ---- penalties
 
-  pays-read : columnOf line.compensation n (lined out n lines4) ≡ f .compensations
+  pub owed : PricedStage owing n (f .price1) (f .price2) out lines4 (f .penalties)
+  owed =
+      priced-stage owing lines4 (λ i. refl) (d .credits1) (d .credits2) (λ i. refl) (λ i. refl)
+      (omega arith) (λ i. refl) (λ i. omega (arith, within .credited1 i)) (omega arith) (λ i. refl) (λ i. omega (arith, within .credited2 i))
+      (f .penalties) (long .penalties) made
+      (ruled n out room lines4 (λ i. refl) 9 (omega arith) (omega arith) .lined) (sized .penalties)
+    where
+      made : (i : ℕ) → i < n
+          → at (f .penalties) i ≡ penalty (at (f .called1) i) (at (f .called2) i) (at (d .credits1) i) (at (d .credits2) i) (f .price1) (f .price2)
+      made i l = unfold figures penaltiesOf in table-at 0 (length (d .widths1)) _ i (omega (arith, within .level .widths1))
+
+  -- ---- cuts and what is returned
+
+  -- what penalties leave of the shortfall, and what it leaves of them
+  abbrev short : ℕ
+  short = toCut (whole (f .penalties)) (f .shortfall)
+
+  abbrev over : ℕ
+  over = toReturn (whole (f .penalties)) (f .shortfall)
+
+  abbrev pub left : Left
+  left = record { cut = record { 0 = short }; returned = record { 0 = over } }
+
+  pays-read : columnOf line.compensation n (lined out n lines5) ≡ f .compensations
   pays-read =
-      read n out room lines4 (λ i. refl) 3 (omega arith) (f .compensations) (long .compensations) (λ i. refl) (λ i. omega (arith, sized .compensations i))
+      read n out room lines5 (λ i. refl) 3 (omega arith) (f .compensations) (long .compensations) (λ i. refl) (λ i. omega (arith, sized .compensations i))
 
-  pub cut-asked : Cuttable n first (f .shortfall) (lined out n lines4)
-  unfolding figures
+  cut-asked : Shareable n first (cutting left) (lined out n lines5)
   cut-asked =
       record {
         few = within .few;
         turn = turn;
-        ruled = ruled n out room lines4 (λ i. refl) 3 (omega arith) (omega arith);
-        cuts = ruled n out room lines4 (λ i. refl) 4 (omega arith) (omega arith);
-        covered = rw pays-read (sized .shortfall);
+        sums = ruled n out room lines5 (λ i. refl) 3 (omega arith) (omega arith);
+        parts = ruled n out room lines5 (λ i. refl) 4 (omega arith) (omega arith);
+        covered = rw pays-read (omega (arith, paid-total, sized .shortfall));
       }
 
-  pub cut-lines : (t : List ℕ) → t ≡ cutFrom n first (f .shortfall) (lined out n lines4) → t ≡ lined out n lines5
+  cut-lines : sharedOut n first (cutting left) (lined out n lines5) ≡ lined out n lines6
   unfolding figures cuts levied
-  cut-lines t now =
-      now ∙ ap (λ (ps : List ℕ). withColumn line.cut (shares (f .shortfall) ps first) (lined out n lines4)) pays-read
-      ∙ written n out room lines4 (λ i. refl) 4 (omega arith) (f .cuts) (long .cuts)
+  cut-lines =
+      ap (λ (ps : List ℕ). withColumn line.cut (shares short ps first) (lined out n lines5)) pays-read
+      ∙ written n out room lines5 (λ i. refl) 4 (omega arith) (f .cuts) (long .cuts)
+
+  owed-read : columnOf line.penalty n (lined out n lines6) ≡ f .penalties
+  owed-read =
+      read n out room lines6 (λ i. refl) 9 (omega arith) (f .penalties) (long .penalties) (λ i. refl) (λ i. omega (arith, sized .penalties i))
+
+  return-asked : Shareable n first (returning left) (lined out n lines6)
+  return-asked =
+      record {
+        few = within .few;
+        turn = turn;
+        sums = ruled n out room lines6 (λ i. refl) 9 (omega arith) (omega arith);
+        parts = ruled n out room lines6 (λ i. refl) 10 (omega arith) (omega arith);
+        covered = rw owed-read (omega arith);
+      }
+
+  return-lines : sharedOut n first (returning left) (lined out n lines6) ≡ lined out n lines7
+  unfolding figures returned levied
+  return-lines =
+      ap (λ (ps : List ℕ). withColumn line.returned (shares over ps first) (lined out n lines6)) owed-read
+      ∙ written n out room lines6 (λ i. refl) 10 (omega arith) (f .returned) (long .returned)
+
+  -- both
+  pub divide-asked : Divisible n first left (lined out n lines5)
+  unfolding dividedTo
+  divide-asked zero l = cut-asked
+  divide-asked (suc zero) l = rw cut-lines return-asked
+  divide-asked (suc (suc k)) l = absurd (omega arith)
+
+  pub divided-lines : dividedTo 2 n first left (lined out n lines5) ≡ lined out n lines7
+  unfolding dividedTo
+  divided-lines = ap (sharedOut n first (returning left)) cut-lines ∙ return-lines
 
   -- after the last stage the lines are those of the figures
-  pub figure-lines : (i : ℕ) → lines5 i ≡ lineOf (id i) f i
+  pub figure-lines : (i : ℕ) → lines7 i ≡ lineOf (id i) f i
   unfolding figures
   figure-lines i = refl

@@ -2,7 +2,7 @@
 -- buffer holds the statement. Each lemma takes what the stages before it left.
 --   read-lines                      the first stage's lines are those of the columns of duties
 --   asked-trade                     both tiers
---   asked-pay, asked-levy, asked-cut    compensations, rounds and payments, cuts
+--   asked-pay, asked-levy, asked-owe, asked-divide    compensations, rounds and payments, penalties, cuts and what is returned
 --   head-room, stated               the head may be put, and then the buffer holds the statement
 use Prim.Native.Nat.{ℕ, _-_, _≤_, _<_}
 use mathlib.Core.Path.{_≡_, refl, sym, ap, _∙_}
@@ -23,17 +23,19 @@ use Rattle.files.specs.Counting.{countingRow}
 use Rattle.files.specs.declared.Head.{Head}
 use Rattle.files.specs.declared.Verdict.the-variants.{Accepted}
 use Rattle.files.proofs.Laws.{accepted-count}
-use Rattle.duties.specs.Duty.{dutyOf, width1, width2, energy1, energy2, weight, cap}
+use Rattle.duties.specs.Duty.{dutyOf, width1, width2, energy1, energy2, credit1, credit2, weight, cap}
 use Rattle.duties.specs.Duties.{Duties, dutiesOf}
-use Rattle.levy.specs.Asked.{Short}
+use Rattle.levy.specs.Asked.{Short, Covered}
+use Rattle.levy.specs.Rounds.{toCut, toReturn}
 use Rattle.levy.specs.declared.Rest.{Rest}
+use Rattle.levy.specs.declared.Left.{Left}
 use Rattle.statement.specs.Statement.{letterL, lineWidths, headSize, lineStart, statementHeadBytes}
 use Rattle.statement.proofs.Laws.{head-length}
 use Rattle.settle.specs.Settlement.{firstTurn, Figures, figures}
 use Rattle.settle.specs.Statement.{statementHead, lineOf, statementBytes}
 use Rattle.settle.specs.Answer.{dutiesIn, figuresOf, statementOf}
 use Rattle.settle.specs.Within.{Turn, Within}
-use Rattle.settle.specs.Work.{lined, rowLine, tierOne, tierTwo, Offered, Called, Tradable, Traded, Payable, Paid, Leviable, Levied, Cuttable, cutFrom}
+use Rattle.settle.specs.Work.{lined, rowLine, tierOne, tierTwo, Offered, Called, Tradable, Traded, paying, owing, Priceable, Priced, Leviable, Levied, dividedTo, Divisible}
 use Rattle.settle.specs.declared.market.Cleared.{Cleared}
 use Rattle.settle.specs.declared.market.Market.{Market}
 use Rattle.settle.proofs.Accepted.{duties-within}
@@ -76,14 +78,13 @@ module _ (s k : List ℕ) (n : ℕ) (ok : verdictOf s k ≡ Accepted n) (out : L
   L0 = stage.lines0 n d within need first turn id out room
 
   -- a row's line is that of the columns
-  row-line : (i : ℕ) → i < n → rowLine (h .tariff .0) s k i ≡ L0 i
+  row-line : (i : ℕ) → i < n → rowLine (headAt s .tariff .0) s k i ≡ L0 i
   unfolding dutiesIn dutiesOf dutyOf
   row-line i l =
       let t = termsOf s in
       let r = countingRow s k in
       let m : i < rowCount s = omega (arith, count) in
       rw (
-        is,
         table-at 0 (rowCount s) (λ j. width1 t (r j)) i m,
         table-at 0 (rowCount s) (λ j. width2 t (r j)) i m,
         table-at 0 (rowCount s) (λ j. energy1 t (r j)) i m,
@@ -92,11 +93,13 @@ module _ (s k : List ℕ) (n : ℕ) (ok : verdictOf s k ≡ Accepted n) (out : L
         table-at 0 (rowCount s) (λ j. cap t (headAt s .tariff .0) (r j)) i m,
         table-at 0 (rowCount s) (λ j. r j .bid2 .0) i m,
         table-at 0 (rowCount s) (λ j. r j .bid1 .0) i m,
+        table-at 0 (rowCount s) (λ j. credit1 t (r j)) i m,
+        table-at 0 (rowCount s) (λ j. credit2 t (r j)) i m,
       )
 
-  module _ (t0 : List ℕ) (read : t0 ≡ lined out n (rowLine (h .tariff .0) s k)) where
+  module _ (t0 : List ℕ) (read : t0 ≡ lined out n (rowLine (headAt s .tariff .0) s k)) where
     read-lines : t0 ≡ lined out n L0
-    read-lines = read ∙ sheet-same headSize letterL lineWidths out n (rowLine (h .tariff .0) s k) L0 row-line
+    read-lines = read ∙ sheet-same headSize letterL lineWidths out n (rowLine (headAt s .tariff .0) s k) L0 row-line
 
     asked-1 : Offered n first tierOne t0
     asked-1 = rw read-lines (stage.called1-asked n d within need first turn id out room)
@@ -133,21 +136,22 @@ module _ (s k : List ℕ) (n : ℕ) (ok : verdictOf s k ≡ Accepted n) (out : L
         left-2 : c2 .left .0 ≡ f .uncovered
         left-2 = stage.called2-left n d within need first turn id out room (c1 .left .0) left-1 t2 c2 called-2
 
-        pay-asked : Payable n (c1 .price .0) (c2 .price .0) t2
-        pay-asked = rw (lines-2, price-1, price-2) (stage.paid-asked n d within need first turn id out room)
+        pay-asked : Priceable paying n (c1 .price .0) (c2 .price .0) t2
+        pay-asked = rw (lines-2, price-1, price-2) (stage.paid n d within need first turn id out room .asked)
 
-        module _ (t3 : List ℕ) (total : Fen) (three : Paid n (c1 .price .0) (c2 .price .0) t2 t3 (total .0)) where
+        module _ (t3 : List ℕ) (total : Fen) (three : Priced paying n (c1 .price .0) (c2 .price .0) t2 t3 (total .0)) where
           abbrev L2 : ℕ → List ℕ
           L2 = stage.lines2 n d within need first turn id out room
 
-          paid-3 : Paid n (f .price1) (f .price2) (lined out n L2) t3 (total .0)
+          paid-3 : Priced paying n (f .price1) (f .price2) (lined out n L2) t3 (total .0)
           paid-3 = rw (lines-2, price-1, price-2) at three
 
           lines-3 : t3 ≡ lined out n (stage.lines3 n d within need first turn id out room)
-          lines-3 = stage.paid-lines n d within need first turn id out room t3 (total .0) paid-3
+          lines-3 = stage.paid n d within need first turn id out room .leaves t3 (total .0) paid-3
 
           total-3 : total .0 ≡ f .total
-          total-3 = stage.paid-total n d within need first turn id out room t3 (total .0) paid-3
+          total-3 =
+              stage.paid n d within need first turn id out room .sums t3 (total .0) paid-3 ∙ stage.paid-total n d within need first turn id out room
 
           levy-asked : Leviable n first (total .0) t3
           levy-asked = rw (lines-3, total-3) (stage.levied-asked n d within need first turn id out room)
@@ -159,7 +163,10 @@ module _ (s k : List ℕ) (n : ℕ) (ok : verdictOf s k ≡ Accepted n) (out : L
             levied-4 : Levied n first (f .total) (lined out n L3) t4 r
             levied-4 = rw (lines-3, total-3) at four
 
-            lines-4 : t4 ≡ lined out n (stage.lines4 n d within need first turn id out room)
+            abbrev L4 : ℕ → List ℕ
+            L4 = stage.lines4 n d within need first turn id out room
+
+            lines-4 : t4 ≡ lined out n L4
             lines-4 = stage.levied-lines n d within need first turn id out room t4 r levied-4
 
             rounds-4 : r .rounds ≡ f .rounds
@@ -168,56 +175,80 @@ module _ (s k : List ℕ) (n : ℕ) (ok : verdictOf s k ≡ Accepted n) (out : L
             short-4 : x .0 ≡ f .shortfall
             short-4 = stage.levied-short n d within need first turn id out room t4 r levied-4 (x .0) [] (short 0 [])
 
-            cut-asked : Cuttable n first (x .0) t4
-            cut-asked = rw (lines-4, short-4) (stage.cut-asked n d within need first turn id out room)
+            owe-asked : Priceable owing n (c1 .price .0) (c2 .price .0) t4
+            owe-asked = rw (lines-4, price-1, price-2) (stage.owed n d within need first turn id out room .asked)
 
-            module _ (t5 : List ℕ) (five : t5 ≡ cutFrom n first (x .0) t4) where
-              lines-5 : t5 ≡ lined out n (λ i. lineOf (id i) f i)
-              lines-5 =
-                  stage.cut-lines n d within need first turn id out room t5 (rw (lines-4, short-4) at five)
-                  ∙ sheet-same headSize letterL lineWidths out n (stage.lines5 n d within need first turn id out room) (λ i. lineOf (id i) f i)
-                  (λ i l. stage.figure-lines n d within need first turn id out room i)
+            module _ (t5 : List ℕ) (penalties : Fen) (five : Priced owing n (c1 .price .0) (c2 .price .0) t4 t5 (penalties .0)) (left : Left)
+                (covered : Covered (penalties .0) (x .0) left) where
+              owed-5 : Priced owing n (f .price1) (f .price2) (lined out n L4) t5 (penalties .0)
+              owed-5 = rw (lines-4, price-1, price-2) at five
 
-              room-head : headSize ≤ length t5
-              room-head =
-                  omega (arith, room, ap length lines-5, stage.lines-long n out room (λ i. lineOf (id i) f i) (λ i. refl))
+              abbrev L5 : ℕ → List ℕ
+              L5 = stage.lines5 n d within need first turn id out room
 
-              all-stated : (t6 : List ℕ)
-                  → t6 ≡ put t5 0
-                  (statementHeadBytes
-                  (record {
-                    day = h .day;
-                    quarter = h .quarter;
-                    price1 = c1 .price;
-                    price2 = c2 .price;
-                    total = total;
-                    shortfall = x;
-                    rounds = r .rounds;
-                    uncovered = c2 .left;
-                    rows = n;
-                  }))
-                  → t6 ≡ put out 0 (statementOf s k)
-              unfolding statementOf statementBytes statementHead
-              all-stated t6 six =
-                  let top = statementHeadBytes (statementHead (headAt s) n f) in
-                  let lines : ℕ → List ℕ = λ i. lineOf (id i) f i in
-                  six
-                  ∙ (λ j. put (lines-5 j) 0
-                  (statementHeadBytes
-                  (record {
-                    day = is j .day;
-                    quarter = is j .quarter;
-                    price1 = record { 0 = price-1 j };
-                    price2 = record { 0 = price-2 j };
-                    total = record { 0 = total-3 j };
-                    shortfall = record { 0 = short-4 j };
-                    rounds = rounds-4 j;
-                    uncovered = record { 0 = left-2 j };
-                    rows = n;
-                  })))
-                  ∙ ap (λ (m : ℕ). put (sheet m letterL lineWidths out n lines) 0 top) (sym (head-length (statementHead (headAt s) n f)))
-                  ∙ sheet-head top letterL lineWidths out n lines (omega (arith, room, head-length (statementHead (headAt s) n f)))
-                  ∙ (λ j. put out 0 (statementBytes (headAt s) (sym count j) id (figures-are j)))
+              lines-5 : t5 ≡ lined out n L5
+              lines-5 = stage.owed n d within need first turn id out room .leaves t5 (penalties .0) owed-5
+
+              penalties-5 : penalties .0 ≡ whole (f .penalties)
+              penalties-5 = stage.owed n d within need first turn id out room .sums t5 (penalties .0) owed-5
+
+              left-5 : left ≡ stage.left n d within need first turn id out room
+              left-5 =
+                  λ j. record {
+                    cut = record { 0 = (covered .cut ∙ (λ i. toCut (penalties-5 i) (short-4 i))) j };
+                    returned = record { 0 = (covered .returned ∙ (λ i. toReturn (penalties-5 i) (short-4 i))) j };
+                  }
+
+              divide-asked : Divisible n first left t5
+              divide-asked = rw (lines-5, left-5) (stage.divide-asked n d within need first turn id out room)
+
+              module _ (t6 : List ℕ) (six : t6 ≡ dividedTo 2 n first left t5) where
+                lines-6 : t6 ≡ lined out n (λ i. lineOf (id i) f i)
+                lines-6 =
+                    six ∙ (λ j. dividedTo 2 n first (left-5 j) (lines-5 j)) ∙ stage.divided-lines n d within need first turn id out room
+                    ∙ sheet-same headSize letterL lineWidths out n (stage.lines7 n d within need first turn id out room) (λ i. lineOf (id i) f i)
+                    (λ i l. stage.figure-lines n d within need first turn id out room i)
+
+                room-head : headSize ≤ length t6
+                room-head =
+                    omega (arith, room, ap length lines-6, stage.lines-long n out room (λ i. lineOf (id i) f i) (λ i. refl))
+
+                all-stated : (t7 : List ℕ)
+                    → t7 ≡ put t6 0
+                    (statementHeadBytes
+                    (record {
+                      day = h .day;
+                      quarter = h .quarter;
+                      price1 = c1 .price;
+                      price2 = c2 .price;
+                      total = total;
+                      shortfall = x;
+                      rounds = r .rounds;
+                      uncovered = c2 .left;
+                      rows = n;
+                    }))
+                    → t7 ≡ put out 0 (statementOf s k)
+                unfolding statementOf statementBytes statementHead
+                all-stated t7 seven =
+                    let top = statementHeadBytes (statementHead (headAt s) n f) in
+                    let lines : ℕ → List ℕ = λ i. lineOf (id i) f i in
+                    seven
+                    ∙ (λ j. put (lines-6 j) 0
+                    (statementHeadBytes
+                    (record {
+                      day = is j .day;
+                      quarter = is j .quarter;
+                      price1 = record { 0 = price-1 j };
+                      price2 = record { 0 = price-2 j };
+                      total = record { 0 = total-3 j };
+                      shortfall = record { 0 = short-4 j };
+                      rounds = rounds-4 j;
+                      uncovered = record { 0 = left-2 j };
+                      rows = n;
+                    })))
+                    ∙ ap (λ (m : ℕ). put (sheet m letterL lineWidths out n lines) 0 top) (sym (head-length (statementHead (headAt s) n f)))
+                    ∙ sheet-head top letterL lineWidths out n lines (omega (arith, room, head-length (statementHead (headAt s) n f)))
+                    ∙ (λ j. put out 0 (statementBytes (headAt s) (sym count j) id (figures-are j)))
 
     -- ---- the same by the market that both tiers leave
 
@@ -228,41 +259,53 @@ module _ (s k : List ℕ) (n : ℕ) (ok : verdictOf s k ≡ Accepted n) (out : L
       abbrev t1 : List ℕ
       t1 = traded .between
 
-      pub asked-pay : Payable n (m .price1 .0) (m .price2 .0) t2
+      pub asked-pay : Priceable paying n (m .price1 .0) (m .price2 .0) t2
       asked-pay =
           rw (traded .price1, traded .price2) (pay-asked t1 (traded .one) (traded .called1) t2 (traded .two) (traded .called2))
 
-      module _ (t3 : List ℕ) (total : Fen) (three : Paid n (m .price1 .0) (m .price2 .0) t2 t3 (total .0)) where
-        paid : Paid n (traded .one .price .0) (traded .two .price .0) t2 t3 (total .0)
+      module _ (t3 : List ℕ) (total : Fen) (three : Priced paying n (m .price1 .0) (m .price2 .0) t2 t3 (total .0)) where
+        paid : Priced paying n (traded .one .price .0) (traded .two .price .0) t2 t3 (total .0)
         paid = rw (traded .price1, traded .price2) at three
 
         pub asked-levy : Leviable n first (total .0) t3
         asked-levy = levy-asked t1 (traded .one) (traded .called1) t2 (traded .two) (traded .called2) t3 total paid
 
         module _ (t4 : List ℕ) (r : Rest) (four : Levied n first (total .0) t3 t4 r) (x : Fen) (short : Short r (x .0)) where
-          pub asked-cut : Cuttable n first (x .0) t4
-          asked-cut = cut-asked t1 (traded .one) (traded .called1) t2 (traded .two) (traded .called2) t3 total paid t4 r four x short
+          pub asked-owe : Priceable owing n (m .price1 .0) (m .price2 .0) t4
+          asked-owe =
+              rw (traded .price1, traded .price2)
+              (owe-asked t1 (traded .one) (traded .called1) t2 (traded .two) (traded .called2) t3 total paid t4 r four x short)
 
-          module _ (t5 : List ℕ) (five : t5 ≡ cutFrom n first (x .0) t4) where
-            pub head-room : headSize ≤ length t5
-            head-room =
-                room-head t1 (traded .one) (traded .called1) t2 (traded .two) (traded .called2) t3 total paid t4 r four x short t5 five
+          module _ (t5 : List ℕ) (penalties : Fen) (five : Priced owing n (m .price1 .0) (m .price2 .0) t4 t5 (penalties .0)) (left : Left)
+              (covered : Covered (penalties .0) (x .0) left) where
+            owed : Priced owing n (traded .one .price .0) (traded .two .price .0) t4 t5 (penalties .0)
+            owed = rw (traded .price1, traded .price2) at five
 
-            pub stated : (t6 : List ℕ)
-                → t6 ≡ put t5 0
-                (statementHeadBytes
-                (record {
-                  day = h .day;
-                  quarter = h .quarter;
-                  price1 = m .price1;
-                  price2 = m .price2;
-                  total = total;
-                  shortfall = x;
-                  rounds = r .rounds;
-                  uncovered = m .uncovered;
-                  rows = n;
-                }))
-                → t6 ≡ put out 0 (statementOf s k)
-            stated t6 six =
-                all-stated t1 (traded .one) (traded .called1) t2 (traded .two) (traded .called2) t3 total paid t4 r four x short t5 five t6
-                (rw (traded .price1, traded .price2, traded .uncovered) at six)
+            pub asked-divide : Divisible n first left t5
+            asked-divide =
+                divide-asked t1 (traded .one) (traded .called1) t2 (traded .two) (traded .called2) t3 total paid t4 r four x short t5 penalties owed left covered
+
+            module _ (t6 : List ℕ) (six : t6 ≡ dividedTo 2 n first left t5) where
+              pub head-room : headSize ≤ length t6
+              head-room =
+                  room-head t1 (traded .one) (traded .called1) t2 (traded .two) (traded .called2) t3 total paid t4 r four x short t5 penalties owed left covered t6
+                  six
+
+              pub stated : (t7 : List ℕ)
+                  → t7 ≡ put t6 0
+                  (statementHeadBytes
+                  (record {
+                    day = h .day;
+                    quarter = h .quarter;
+                    price1 = m .price1;
+                    price2 = m .price2;
+                    total = total;
+                    shortfall = x;
+                    rounds = r .rounds;
+                    uncovered = m .uncovered;
+                    rows = n;
+                  }))
+                  → t7 ≡ put out 0 (statementOf s k)
+              stated t7 seven =
+                  all-stated t1 (traded .one) (traded .called1) t2 (traded .two) (traded .called2) t3 total paid t4 r four x short t5 penalties owed left covered t6
+                  six t7 (rw (traded .price1, traded .price2, traded .uncovered) at seven)

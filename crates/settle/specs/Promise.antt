@@ -1,8 +1,8 @@
--- What the promises of the engine speak of besides its definitions: the figures that a statement's bytes hold, how prices follow from
--- the rows, whose turn it is, and demand 3 said of any figures.
+-- What the promises of the engine speak of besides its definitions: the figures that a statement's bytes hold, how prices and penalties
+-- follow from the rows, whose turn it is, and demand 3 said of any figures.
 use Prim.Native.Nat.{ℕ, _+_, _-_, _*_, _≤_, _<_}
 use mathlib.Core.Path.{_≡_}
-use mathlib.Core.Bool.{Bool}
+use mathlib.Core.Bool.{Bool, cond}
 use mathlib.Core.List.{List}
 use lib.Dec.{eqb}
 use lib.ListN.{length}
@@ -13,7 +13,10 @@ use Rattle.files.specs.Layout.{headAt, rowCount}
 use Rattle.files.specs.Terms.{termsOf}
 use Rattle.files.specs.Counting.{countingRow}
 use Rattle.files.specs.declared.Row.{Row}
-use Rattle.duties.specs.Duty.{normal, meterEnergy1, meterEnergy2}
+use Rattle.files.specs.declared.Terms.{Terms}
+use Rattle.duties.specs.Duty.{normal, reduced, meterEnergy1, meterEnergy2}
+use Rattle.duties.specs.Duties.{Duties}
+use Rattle.pay.specs.Pay.{penalty}
 use Rattle.share.specs.Share.{turn}
 use Rattle.levy.specs.Rounds.{payers}
 use Rattle.levy.specs.Capped.{hasClosed, outside, payersInside, capsInside, leftBy, weightsBeside, Capped}
@@ -47,6 +50,8 @@ figuresAt b =
       caps = columnOf line.cap n b;
       paid = columnOf line.paid n b;
       closing = columnOf line.closing n b;
+      penalties = columnOf line.penalty n b;
+      returned = columnOf line.returned n b;
     }
 
 -- ---- a tier's price (02, request 1), said of the rows that count
@@ -74,6 +79,65 @@ pub record Prices (s k : List ℕ) (f : Figures) : Type 0 where
   pub tier2 :
       SetBy (rowCount s) (λ i. Delivers (countingRow s k i) (at (f .called2) i) (meterEnergy2 (termsOf s) (countingRow s k i)))
       (λ i. countingRow s k i .bid2 .0) (f .price2)
+
+-- ---- a row's penalty (02, request 4), said of the rows that count
+
+-- what a row owes by its status and its meter: a row of status 2, for what it was called for and the meter does not show, others nothing
+abbrev pub owedBy : Terms → Row → ℕ → ℕ → ℕ → ℕ → ℕ
+owedBy t r call1 call2 price1 price2 =
+    cond (eqb (r .status) reduced) (penalty call1 call2 (meterEnergy1 t r) (meterEnergy2 t r) price1 price2) 0
+
+-- the penalties of a pair of files are these, by the calls and prices that are stated
+abbrev pub Penalties : List ℕ → List ℕ → Figures → Type 0
+Penalties s k f =
+    (i : ℕ) → i < rowCount s
+    → at (f .penalties) i
+    ≡ owedBy (termsOf s) (countingRow s k i) (at (f .called1) i) (at (f .called2) i) (f .price1) (f .price2)
+
+-- the same rows, credited with something else: so they may owe something else, and nothing else about them has changed
+abbrev pub creditedWith : List ℕ → List ℕ → Duties → Duties
+creditedWith credits1 credits2 d =
+    record {
+      widths1 = d .widths1;
+      widths2 = d .widths2;
+      energies1 = d .energies1;
+      energies2 = d .energies2;
+      credits1 = credits1;
+      credits2 = credits2;
+      weights = d .weights;
+      caps = d .caps;
+      bids1 = d .bids1;
+      bids2 = d .bids2;
+    }
+
+-- two settlements are the same but for penalties, cuts and what is returned
+pub record SameButPenalties (f g : Figures) : Type 0 where
+  pub price1 : f .price1 ≡ g .price1
+  pub price2 : f .price2 ≡ g .price2
+  pub total : f .total ≡ g .total
+  pub shortfall : f .shortfall ≡ g .shortfall
+  pub rounds : f .rounds ≡ g .rounds
+  pub uncovered : f .uncovered ≡ g .uncovered
+  pub called1 : f .called1 ≡ g .called1
+  pub called2 : f .called2 ≡ g .called2
+  pub compensations : f .compensations ≡ g .compensations
+  pub weights : f .weights ≡ g .weights
+  pub caps : f .caps ≡ g .caps
+  pub paid : f .paid ≡ g .paid
+  pub closing : f .closing ≡ g .closing
+
+-- one shortfall over the same compensations, and penalties of which the second come to no less
+pub record MorePenalty (f g : Figures) : Type 0 where
+  pub shortfall : f .shortfall ≡ g .shortfall
+  pub compensations : f .compensations ≡ g .compensations
+  pub penalties : whole (f .penalties) ≤ whole (g .penalties)
+
+-- the second cut nobody more: not together, not anybody before fen are made (what is cut together, by its compensation), and then by a
+-- fen at most, since the sharing rule may move a leftover fen from one row to another when the amount falls
+pub record LessCut (f g : Figures) : Type 0 where
+  pub together : whole (g .cuts) ≤ whole (f .cuts)
+  pub before-fen : (i : ℕ) → whole (g .cuts) * at (g .compensations) i ≤ whole (f .cuts) * at (f .compensations) i
+  pub in-fen : (i : ℕ) → at (g .cuts) i ≤ at (f .cuts) i + 1
 
 -- ---- whose turn it is among equal remainders (02, request 2)
 
@@ -108,6 +172,8 @@ pub record InTurn (s k : List ℕ) (f : Figures) : Type 0 where
       → SameOrOneMore (at (f .paid) i) (at (f .paid) j)
   -- receivers of one compensation
   pub cuts : (i j : ℕ) → Earlier s i j → Alike (f .compensations) i j → SameOrOneMore (at (f .cuts) i) (at (f .cuts) j)
+  -- rows that owe one penalty
+  pub returned : (i j : ℕ) → Earlier s i j → Alike (f .penalties) i j → SameOrOneMore (at (f .returned) i) (at (f .returned) j)
 
 -- the figures of a pair if equal remainders went to the lower id at every quarter, as in document 01
 unfoldable pub figuresByLowerId : List ℕ → List ℕ → Figures
@@ -148,9 +214,11 @@ kept f i = at (f .compensations) i - at (f .cuts) i
 pub record Demand3 (f : Figures) : Type 0 where
   -- the total is that of the compensations
   pub total-is : f .total ≡ whole (f .compensations)
-  -- what payers pay equals what receivers keep; and nobody is cut by more than it is due
-  pub paid-is-kept : whole (f .paid) ≡ sumTo (length (f .compensations)) (kept f)
+  -- what payers pay, with the penalties and less what is returned of them, equals what receivers keep; nobody is cut by more than it is
+  -- due, and nobody is returned more than it owes
+  pub paid-is-kept : (whole (f .paid) + whole (f .penalties)) - whole (f .returned) ≡ sumTo (length (f .compensations)) (kept f)
   pub cut-within : (i : ℕ) → at (f .cuts) i ≤ at (f .compensations) i
+  pub returned-within : (i : ℕ) → at (f .returned) i ≤ at (f .penalties) i
   -- no payer exceeds its cap; a capped one pays just that, one without corrected energy nothing
   pub within-cap : (i : ℕ) → at (f .paid) i ≤ at (f .caps) i
   pub capped-pays-cap : (i : ℕ) → CappedPayer f i → at (f .paid) i ≡ at (f .caps) i
@@ -169,11 +237,18 @@ pub record Demand3 (f : Figures) : Type 0 where
   pub capped-set : Capped (f .total) (f .weights) (f .caps) (capped f)
   pub one-capped-set :
       (p : ℕ → Bool) → Capped (f .total) (f .weights) (f .caps) p → (i : ℕ) → 0 < at (f .weights) i → p i ≡ capped f i
-  -- receivers are cut only if all are capped, and then by exactly what those caps fail to cover
+  -- the shortfall told is that before penalties: what the caps fail to cover if all are capped, else nothing
+  pub shortfall-all-capped : AllCapped f → f .shortfall ≡ f .total - cappedCaps f
+  pub shortfall-open : (i : ℕ) → OpenPayer f i → f .shortfall ≡ 0
+  -- receivers are cut only if all are capped and the penalties do not cover what those caps leave, by exactly what both leave open
   pub cut-only-if-all-capped : (j : ℕ) → 0 < at (f .cuts) j → AllCapped f
-  pub cut-exactly : AllCapped f → whole (f .cuts) ≡ f .total - cappedCaps f
-  -- the shortfall told is what is cut
-  pub shortfall-is-cut : whole (f .cuts) ≡ f .shortfall
+  pub cut-only-if-uncovered : (j : ℕ) → 0 < at (f .cuts) j → whole (f .penalties) < f .total - cappedCaps f
+  pub cut-exactly : AllCapped f → whole (f .cuts) ≡ f .total - cappedCaps f - whole (f .penalties)
+  pub cut-is-shortfall-left : whole (f .cuts) ≡ f .shortfall - whole (f .penalties)
+  -- what the shortfall leaves of the penalties is returned; with an open payer, or without a shortfall, every penalty whole
+  pub returned-is-penalties-left : whole (f .returned) ≡ whole (f .penalties) - f .shortfall
+  pub returned-whole-if-open : (i : ℕ) → OpenPayer f i → f .returned ≡ f .penalties
+  pub returned-whole-if-none-short : f .shortfall ≡ 0 → f .returned ≡ f .penalties
   -- the rounds told are those in which a payer closes, and they number at most the payers with corrected energy, and at most
   -- those of them that are capped
   pub rounds-are-closings : f .rounds ≡ maxTo (length (f .weights)) (at (f .closing))

@@ -1,6 +1,6 @@
 -- Worked figures of the requests of document 02 that have landed, a table in the manner of specs/Table.antt: a few rows of 100 MW, from
 -- their bytes through the settlement to the statement's bytes read back.
-use Prim.Native.Nat.{ℕ}
+use Prim.Native.Nat.{ℕ, _+_}
 use mathlib.Core.List.{List, [], _∷_, _++_}
 use lib.ListN.{length, replicate}
 use Rattle.records.specs.Record.{recordBytes, recordsBytes}
@@ -11,6 +11,7 @@ use Rattle.share.specs.Share.{shares}
 use Rattle.merit.specs.Band.{one}
 use Rattle.merit.specs.Call.{calls}
 use Rattle.merit.specs.Price.{price}
+use Rattle.pay.specs.Pay.{penalty}
 use Rattle.statement.specs.Statement.{lineStart, statementHeadAt}
 use Rattle.statement.specs.Line as line
 use Rattle.settle.specs.Settlement.{firstTurn}
@@ -38,9 +39,9 @@ fileOf quarter tariff need rows =
 -- the settlement of three rows read back: number, prices, total, shortfall, rounds; then for each row what it is paid, and what it pays
 unfoldable pub settledThree : List ℕ → List ℕ
 settledThree s =
-    let out = bufferAfter s [] (replicate 137 255) in
+    let out = bufferAfter s [] (replicate 161 255) in
     let h = statementHeadAt out in
-    numberOf (answerOf s [] 137) ∷ h .price1 .0 ∷ h .price2 .0 ∷ h .total .0 ∷ h .shortfall .0 ∷ h .rounds
+    numberOf (answerOf s [] 161) ∷ h .price1 .0 ∷ h .price2 .0 ∷ h .total .0 ∷ h .shortfall .0 ∷ h .rounds
     ∷ cell line.compensation out 0 ∷ cell line.compensation out 1 ∷ cell line.compensation out 2
     ∷ cell line.paid out 0 ∷ cell line.paid out 1 ∷ cell line.paid out 2 ∷ []
 
@@ -48,10 +49,13 @@ settledThree s =
 abbrev pub meteredX : ℕ → List ℕ
 meteredX metered = fileOf 0 1300 3000 (offering 1 metered 0 200 400 ∷ thermalRow 2 20000 ∷ windRow 3 5000 ∷ [])
 
--- row 1 of interval X and its wind farm; between them a dearer offer, called in full as row 1 is
+-- row 1 of interval X and its wind farm; between them a dearer offer. A need of 9,000 calls both in full
+abbrev pub besideAt : ℕ → ℕ → ℕ → ℕ → List ℕ
+besideAt tariff need metered status =
+    fileOf 0 tariff need (offering 1 9000 0 200 400 ∷ offering 2 metered status 300 500 ∷ windRow 3 5000 ∷ [])
+
 abbrev pub besideX : ℕ → ℕ → List ℕ
-besideX metered status =
-    fileOf 0 1300 9000 (offering 1 9000 0 200 400 ∷ offering 2 metered status 300 500 ∷ windRow 3 5000 ∷ [])
+besideX metered status = besideAt 1300 9000 metered status
 
 -- the price of P9's two bands if the first alone has energy
 abbrev pub priceTwo : ℕ → ℕ
@@ -91,6 +95,31 @@ settledNone quarter =
     let s = fileOf quarter 1300 3000 [] in
     let h = statementHeadAt (bufferAfter s [] (replicate 35 255)) in
     numberOf (answerOf s [] 35) ∷ valueOf (answerOf s [] 35) ∷ h .quarter ∷ h .uncovered .0 ∷ []
+
+-- ---- request 4, penalty money first
+
+-- the settlement of such a file with the dearer row reduced, read back: total, shortfall, rounds; what row 1 is cut; what rows 2 and 3 pay;
+-- what row 2 owes, and what is returned to it
+unfoldable pub settledReduced : ℕ → ℕ → List ℕ
+settledReduced tariff metered =
+    let out = bufferAfter (besideAt tariff 9000 metered 2) [] (replicate 161 255) in
+    let h = statementHeadAt out in
+    h .total .0 ∷ h .shortfall .0 ∷ h .rounds ∷ cell line.cut out 0 ∷ cell line.paid out 1 ∷ cell line.paid out 2
+    ∷ cell line.penalty out 1 ∷ cell line.returned out 1 ∷ []
+
+-- a row that delivers 5 kWh at 200 li, for which nobody pays the 100 fen, and three rows that are a kWh short each
+abbrev pub tiedReturns : ℕ → List ℕ
+tiedReturns quarter =
+    told line.returned
+    (fileOf quarter 1300 10000
+    (offering 1 12495 0 200 400 ∷ offering 2 10001 2 200 400 ∷ offering 3 10001 2 200 400 ∷ offering 4 10001 2 200 400 ∷ []))
+
+-- rows that deliver 40, 40 and 1 kWh at 105 li, a wind farm that pays 3 of the 851 fen, and a row that is short of so many kWh
+abbrev pub shortOf : ℕ → List ℕ
+shortOf kwh =
+    fileOf 0 200 10000
+    (offering 1 12460 0 105 400 ∷ offering 2 12460 0 105 400 ∷ offering 3 12499 0 105 400 ∷ windRow 4 3
+    ∷ offering 5 (10000 + kwh) 2 105 400 ∷ [])
 
 -- the figures, request by request
 unfoldable pub requestTable : List Entry
@@ -136,4 +165,38 @@ requestTable =
     ∷ entry (tiedCuts 0) (67 ∷ 67 ∷ 66 ∷ 0 ∷ [])
     ∷ entry (tiedCuts 1) (66 ∷ 67 ∷ 67 ∷ 0 ∷ [])
     ∷ entry (tiedCuts 2) (67 ∷ 66 ∷ 67 ∷ 0 ∷ [])
+    -- request 4, penalty money first. Row 2 is called for 2,500 and 2,000 kWh at 200 and 400 li; 57,500 fen are short. It delivered all
+    ∷ entry (settledReduced 1300 8000) (90000 ∷ 57500 ∷ 1 ∷ 57500 ∷ 0 ∷ 32500 ∷ 0 ∷ 0 ∷ [])
+    -- 1,000 kWh short in tier 2: twice 400,000 li; what the shortfall does not need goes back
+    ∷ entry (settledReduced 1300 9000) (90000 ∷ 57500 ∷ 1 ∷ 0 ∷ 0 ∷ 32500 ∷ 80000 ∷ 22500 ∷ [])
+    -- 1,000 and 2,000 kWh short
+    ∷ entry (settledReduced 1300 11000) (90000 ∷ 57500 ∷ 1 ∷ 0 ∷ 0 ∷ 32500 ∷ 200000 ∷ 142500 ∷ [])
+    -- delivered nothing, at half load
+    ∷ entry (settledReduced 1300 12500) (90000 ∷ 57500 ∷ 1 ∷ 0 ∷ 0 ∷ 32500 ∷ 260000 ∷ 202500 ∷ [])
+    -- above half load it pays too. The wind farm is open, so nothing is short, and the penalty goes back whole
+    ∷ entry (settledReduced 1300 20000) (90000 ∷ 0 ∷ 1 ∷ 0 ∷ 65000 ∷ 25000 ∷ 260000 ∷ 260000 ∷ [])
+    -- both capped: 15,000 are short, and the penalty fills them
+    ∷ entry (settledReduced 1000 20000) (90000 ∷ 15000 ∷ 2 ∷ 0 ∷ 50000 ∷ 25000 ∷ 260000 ∷ 245000 ∷ [])
+    -- 60,000 are short, and a kWh costs 80 fen: penalties below, equal to and above the shortfall
+    ∷ entry (settledReduced 1200 8749) (90000 ∷ 60000 ∷ 1 ∷ 80 ∷ 0 ∷ 30000 ∷ 59920 ∷ 0 ∷ [])
+    ∷ entry (settledReduced 1200 8750) (90000 ∷ 60000 ∷ 1 ∷ 0 ∷ 0 ∷ 30000 ∷ 60000 ∷ 0 ∷ [])
+    ∷ entry (settledReduced 1200 8751) (90000 ∷ 60000 ∷ 1 ∷ 0 ∷ 0 ∷ 30000 ∷ 60080 ∷ 80 ∷ [])
+    -- called for 500 kWh in tier 2 and delivered 1,000; called for 1,000 in tier 1 alone and delivered 1,500
+    ∷ entry (told line.penalty (besideAt 1300 7500 9000 2)) (0 ∷ 0 ∷ 0 ∷ [])
+    ∷ entry (told line.penalty (besideAt 1300 3500 11000 2)) (0 ∷ 0 ∷ 0 ∷ [])
+    -- 1,000 kWh too much in tier 1 do not make up for 500 in tier 2
+    ∷ entry (penalty 1500 2500 2500 2000 200 400 ∷ []) (40000 ∷ [])
+    -- starting, or in a grid accident: nothing is owed
+    ∷ entry (told line.penalty (besideX 11000 1) ++ told line.penalty (besideX 11000 3)) (0 ∷ 0 ∷ 0 ∷ 0 ∷ 0 ∷ 0 ∷ [])
+    -- of 204 li 4 are dropped, of 206 li 6 make a fen; 315 li, with half a fen, are doubled before fen are made; 204 and 644 li together
+    ∷ entry (penalty 2500 0 2499 0 102 0 ∷ penalty 2500 0 2499 0 103 0 ∷ penalty 2500 0 2497 0 105 0 ∷ penalty 2500 1 2499 0 102 322 ∷ [])
+    (20 ∷ 21 ∷ 63 ∷ 85 ∷ [])
+    -- 40 fen from each of three rows, of which 20 go back: 6 each and two more, at quarters 0, 2, 3 and 95 of four rows
+    ∷ entry (tiedReturns 0) (0 ∷ 7 ∷ 7 ∷ 6 ∷ [])
+    ∷ entry (tiedReturns 2) (0 ∷ 6 ∷ 7 ∷ 7 ∷ [])
+    ∷ entry (tiedReturns 3) (0 ∷ 7 ∷ 6 ∷ 7 ∷ [])
+    ∷ entry (tiedReturns 95) (0 ∷ 7 ∷ 6 ∷ 7 ∷ [])
+    -- a penalty larger by 21 fen leaves 29 to cut in place of 50, and row 3 is cut by a fen more
+    ∷ entry (told line.penalty (shortOf 38) ++ told line.cut (shortOf 38)) (0 ∷ 0 ∷ 0 ∷ 0 ∷ 798 ∷ 25 ∷ 25 ∷ 0 ∷ 0 ∷ 0 ∷ [])
+    ∷ entry (told line.penalty (shortOf 39) ++ told line.cut (shortOf 39)) (0 ∷ 0 ∷ 0 ∷ 0 ∷ 819 ∷ 14 ∷ 14 ∷ 1 ∷ 0 ∷ 0 ∷ [])
     ∷ []

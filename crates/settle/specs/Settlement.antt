@@ -1,5 +1,5 @@
 -- The rules put together: from columns of duties to the figures of a statement (01, Calls and prices to Rounds; prices by 02,
--- request 1, leftovers by its request 2). Nothing here knows where the columns came from.
+-- request 1, leftovers by its request 2, penalties by its request 4). Nothing here knows where the columns came from.
 use Prim.Native.Nat.{ℕ, _%_}
 use mathlib.Core.Bool.{cond}
 use mathlib.Core.List.{List}
@@ -11,8 +11,8 @@ use Rattle.duties.specs.Duties.{Duties}
 use Rattle.merit.specs.Band.{one, two, Bands}
 use Rattle.merit.specs.Call.{calls, uncovered}
 use Rattle.merit.specs.Price.{price}
-use Rattle.pay.specs.Pay.{compensation}
-use Rattle.levy.specs.Rounds.{Standing, final, payments, shortfall, cuts}
+use Rattle.pay.specs.Pay.{compensation, penalty}
+use Rattle.levy.specs.Rounds.{Standing, final, payments, shortfall, cuts, returned}
 
 -- the position whose turn comes first among equal remainders: the quarter modulo the n rows of the file, sharers or not. Without
 -- rows there is nothing to divide by, and nobody shares
@@ -30,6 +30,12 @@ compensationsOf d called1 called2 price1 price2 =
     table (length (d .widths1))
     (λ i. compensation (at called1 i) (at called2 i) (at (d .energies1) i) (at (d .energies2) i) price1 price2)
 
+-- what each row owes: its calls less what it is credited with, at twice the prices of both tiers
+unfoldable pub penaltiesOf : Duties → List ℕ → List ℕ → ℕ → ℕ → List ℕ
+penaltiesOf d called1 called2 price1 price2 =
+    table (length (d .widths1))
+    (λ i. penalty (at called1 i) (at called2 i) (at (d .credits1) i) (at (d .credits2) i) price1 price2)
+
 -- the figures of a statement: what its head shows, and a column for each field of a line
 pub record Figures : Type 0 where
   pub price1 : ℕ
@@ -46,12 +52,15 @@ pub record Figures : Type 0 where
   pub caps : List ℕ
   pub paid : List ℕ
   pub closing : List ℕ
+  pub penalties : List ℕ
+  pub returned : List ℕ
 
 -- what the rounds make of compensations, weights and caps
 unfoldable pub levied : List ℕ → List ℕ → List ℕ → Standing
 levied pay ws cs = final (whole pay) ws cs
 
--- calls, prices, compensations, rounds, payments and cuts of a need, by the position that goes first
+-- calls, prices, compensations, rounds, payments, penalties, cuts and what is returned of a need, by the position that goes first. The
+-- shortfall is that before penalties
 unfoldable pub figures : ℕ → ℕ → Duties → Figures
 figures need first d =
     let b = bandsOf d in
@@ -60,6 +69,7 @@ figures need first d =
     let p1 = price (d .bids1) c1 (d .energies1) in
     let p2 = price (d .bids2) c2 (d .energies2) in
     let pay = compensationsOf d c1 c2 p1 p2 in
+    let owed = penaltiesOf d c1 c2 p1 p2 in
     let st = levied pay (d .weights) (d .caps) in
     record {
       price1 = p1;
@@ -71,9 +81,11 @@ figures need first d =
       called1 = c1;
       called2 = c2;
       compensations = pay;
-      cuts = cuts st pay first;
+      cuts = cuts st owed pay first;
       weights = d .weights;
       caps = d .caps;
       paid = payments (d .weights) (d .caps) st first;
       closing = st .marks;
+      penalties = owed;
+      returned = returned st owed first;
     }

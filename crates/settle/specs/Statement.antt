@@ -1,4 +1,4 @@
--- The statement that the figures make (01, The files).
+-- The statement that the figures make (01, The files; 02, request 4).
 use Prim.Native.Nat.{ℕ}
 use mathlib.Core.List.{List, [], _∷_, _++_}
 use Rattle.columns.specs.Table.{at, table}
@@ -27,7 +27,7 @@ statementHead h n f =
 abbrev pub lineOf : ℕ → Figures → ℕ → List ℕ
 lineOf id f i =
     id ∷ at (f .called1) i ∷ at (f .called2) i ∷ at (f .compensations) i ∷ at (f .cuts) i ∷ at (f .weights) i ∷ at (f .caps) i
-    ∷ at (f .paid) i ∷ at (f .closing) i ∷ []
+    ∷ at (f .paid) i ∷ at (f .closing) i ∷ at (f .penalties) i ∷ at (f .returned) i ∷ []
 
 -- its bytes: the head, then a line for each of n rows
 unfoldable pub statementBytes : Head → ℕ → (ℕ → ℕ) → Figures → List ℕ

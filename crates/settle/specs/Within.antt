@@ -18,5 +18,7 @@ pub record Within (n : ℕ) (d : Duties) : Type 0 where
   pub covered : (i : ℕ) → at (d .caps) i ≤ 44000000
   pub low1 : (i : ℕ) → at (d .bids1) i ≤ 1000
   pub low2 : (i : ℕ) → at (d .bids2) i ≤ 1000
+  pub credited1 : (i : ℕ) → at (d .credits1) i ≤ 250000
+  pub credited2 : (i : ℕ) → at (d .credits2) i ≤ 250000
   -- no tier 1 bid is above a tier 2 bid, where both have a width
   pub apart : (i j : ℕ) → 0 < at (d .widths1) i → 0 < at (d .widths2) j → at (d .bids1) i ≤ at (d .bids2) j

@@ -1,6 +1,6 @@
 -- The stages of a settlement over the sheet: what each asks of it, and what it leaves in it. Lines hold duties until the figures
 -- that belong there replace them. No promise of the engine speaks of this page.
-use Prim.Native.Nat.{ℕ, _+_, _-_, _≤_, _<_}
+use Prim.Native.Nat.{ℕ, zero, suc, _-_, _≤_, _<_}
 use mathlib.Core.Path.{_≡_}
 use mathlib.Core.Bool.{cond}
 use mathlib.Core.List.{List, [], _∷_}
@@ -8,7 +8,7 @@ use lib.Dec.{eqb}
 use lib.ListN.{length}
 use Rattle.columns.specs.Sum.{whole}
 use Rattle.columns.specs.Table.{at, table}
-use Rattle.records.specs.Sheet.{Lined, cell, columnOf, withColumn, sheet}
+use Rattle.records.specs.Sheet.{Lined, cell, columnOf, withColumn, fieldOf, sheet}
 use Rattle.records.specs.declared.Field.{Field}
 use Rattle.files.specs.Terms.{termsOf}
 use Rattle.files.specs.Counting.{countingRow}
@@ -16,10 +16,11 @@ use Rattle.duties.specs.Duty.{dutyOf}
 use Rattle.duties.specs.declared.Duty.{Duty}
 use Rattle.merit.specs.OneTier.{tierCalls}
 use Rattle.merit.specs.Price.{price}
-use Rattle.pay.specs.Pay.{compensation}
+use Rattle.pay.specs.Pay.{compensation, penalty}
 use Rattle.levy.specs.Asked.{standingOf}
 use Rattle.levy.specs.Rounds.{Standing, final, payments}
 use Rattle.levy.specs.declared.Rest.{Rest}
+use Rattle.levy.specs.declared.Left.{Left}
 use Rattle.share.specs.Share.{shares}
 use Rattle.statement.specs.Statement.{letterL, lineWidths, headSize}
 use Rattle.statement.specs.Line as line
@@ -27,16 +28,18 @@ use Rattle.settle.specs.Within.{Turn}
 use Rattle.settle.specs.declared.market.Cleared.{Cleared}
 use Rattle.settle.specs.declared.market.Market.{Market}
 use Rattle.settle.specs.declared.market.TierFields.{TierFields}
+use Rattle.settle.specs.declared.payers.Sharing.{Sharing}
 
 -- n lines in a buffer
 abbrev pub lined : List ℕ → ℕ → (ℕ → List ℕ) → List ℕ
 lined out n f = sheet headSize letterL lineWidths out n f
 
--- a row's line before the market: its id, then its duties in the places of called 1, called 2, compensation, cut, weight, cap, paid
--- and closing round
+-- a row's line before the market: its id, then its duties in the places of called 1, called 2, compensation, cut, weight, cap, paid,
+-- closing round, penalty and what is returned
 abbrev pub dutyLine : ℕ → Duty → List ℕ
 dutyLine id d =
-    id ∷ d .width1 .0 ∷ d .width2 .0 ∷ d .energy1 .0 ∷ d .energy2 .0 ∷ d .weight .0 ∷ d .cap .0 ∷ d .bid2 .0 ∷ d .bid1 .0 ∷ []
+    id ∷ d .width1 .0 ∷ d .width2 .0 ∷ d .energy1 .0 ∷ d .energy2 .0 ∷ d .weight .0 ∷ d .cap .0 ∷ d .bid2 .0 ∷ d .bid1 .0
+    ∷ d .credit1 .0 ∷ d .credit2 .0 ∷ []
 
 -- that of the row that counts at position i
 abbrev pub rowLine : ℕ → List ℕ → List ℕ → ℕ → List ℕ
@@ -108,23 +111,45 @@ pub record Traded (need first n : ℕ) (s t : List ℕ) (m : Market) : Type 0 wh
   pub price1 : m .price1 ≡ one .price
   pub price2 : m .price2 ≡ two .price
 
--- what the row at position i is paid
-abbrev pub payAt : ℕ → ℕ → List ℕ → ℕ → ℕ
-payAt p1 p2 s i =
-    compensation (cell line.called1 s i) (cell line.called2 s i) (cell line.compensation s i) (cell line.cut s i) p1 p2
+-- what a row is paid, and what it owes: figures by its calls, what it delivered or is credited with, and the prices of both tiers
+abbrev pub Rule : Type 0
+Rule = ℕ → ℕ → ℕ → ℕ → ℕ → ℕ → ℕ
 
--- calls and energies stand in their fields; prices are low, and nobody delivered more than a row can
-pub record Payable (n p1 p2 : ℕ) (s : List ℕ) : Type 0 where
+-- a field of a line by its place in the table
+abbrev pub lineField : ℕ → Field
+lineField j = fieldOf headSize lineWidths j
+
+-- a rule, the field in which the energies of tier 1 stand and into which its figures go, and that of the energies of tier 2
+pub record Pricing : Type 0 where
+  pub rule : Rule
+  pub into : ℕ
+  pub beside : ℕ
+
+-- by the energies delivered, in the places of compensation and cut
+abbrev pub paying : Pricing
+paying = record { rule = compensation; into = 3; beside = 4 }
+
+-- by those credited, in the places of penalty and what is returned
+abbrev pub owing : Pricing
+owing = record { rule = penalty; into = 9; beside = 10 }
+
+-- the figure of the row at position i
+abbrev pub pricedAt : Pricing → ℕ → ℕ → List ℕ → ℕ → ℕ
+pricedAt g p1 p2 s i =
+    g .rule (cell line.called1 s i) (cell line.called2 s i) (cell (lineField (g .into)) s i) (cell (lineField (g .beside)) s i) p1 p2
+
+-- calls and energies stand in their fields; prices are low, and so is every figure
+pub record Priceable (g : Pricing) (n p1 p2 : ℕ) (s : List ℕ) : Type 0 where
   pub few : n ≤ 256
-  pub called1 : Lined line.called1 n s
+  pub lined : Lined (lineField (g .into)) n s
   pub low1 : p1 ≤ 1000
   pub low2 : p2 ≤ 1000
-  pub delivered : (i : ℕ) → i < n → cell line.compensation s i + cell line.cut s i ≤ 250000
+  pub small : (i : ℕ) → i < n → pricedAt g p1 p2 s i ≤ 100000000
 
--- everybody is paid, and the total is known
-pub record Paid (n p1 p2 : ℕ) (s t : List ℕ) (r : ℕ) : Type 0 where
-  pub bytes : t ≡ withColumn line.compensation (table n (payAt p1 p2 s)) s
-  pub total : r ≡ whole (table n (payAt p1 p2 s))
+-- every row has its figure, and their sum is known
+pub record Priced (g : Pricing) (n p1 p2 : ℕ) (s t : List ℕ) (r : ℕ) : Type 0 where
+  pub bytes : t ≡ withColumn (lineField (g .into)) (table n (pricedAt g p1 p2 s)) s
+  pub total : r ≡ whole (table n (pricedAt g p1 p2 s))
 
 -- weights and caps stand in their fields
 pub record Leviable (n first total : ℕ) (s : List ℕ) : Type 0 where
@@ -162,14 +187,33 @@ pub record Levied (n first total : ℕ) (s t : List ℕ) (r : Rest) : Type 0 whe
   pub weight : r .weight ≡ standingIn total n s .weight
   pub rounds : r .rounds ≡ standingIn total n s .rounds
 
--- compensations stand in their field, and no more is cut than they come to
-pub record Cuttable (n first shortfall : ℕ) (s : List ℕ) : Type 0 where
+-- what is cut, over the compensations, and what is returned, over the penalties
+abbrev pub cutting : Left → Sharing
+cutting left = record { amount = left .cut; from = line.compensation; to = line.cut }
+
+abbrev pub returning : Left → Sharing
+returning left = record { amount = left .returned; from = line.penalty; to = line.returned }
+
+abbrev pub sharingOf : Left → ℕ → Sharing
+sharingOf left k = cond (eqb k 0) (cutting left) (returning left)
+
+-- sums stand in a field, and no more is shared over them than they come to
+pub record Shareable (n first : ℕ) (what : Sharing) (s : List ℕ) : Type 0 where
   pub few : n ≤ 256
   pub turn : Turn n first
-  pub ruled : Ruled n line.compensation s
-  pub cuts : Ruled n line.cut s
-  pub covered : shortfall ≤ whole (columnOf line.compensation n s)
+  pub sums : Ruled n (what .from) s
+  pub parts : Ruled n (what .to) s
+  pub covered : what .amount .0 ≤ whole (columnOf (what .from) n s)
 
--- what is cut stands in its field
-abbrev pub cutFrom : ℕ → ℕ → ℕ → List ℕ → List ℕ
-cutFrom n first shortfall s = withColumn line.cut (shares shortfall (columnOf line.compensation n s) first) s
+-- the shares stand in theirs
+abbrev pub sharedOut : ℕ → ℕ → Sharing → List ℕ → List ℕ
+sharedOut n first what s = withColumn (what .to) (shares (what .amount .0) (columnOf (what .from) n s) first) s
+
+-- the first so many of the two sharings are made
+unfoldable pub dividedTo : ℕ → ℕ → ℕ → Left → List ℕ → List ℕ
+dividedTo zero n first left s = s
+dividedTo (suc k) n first left s = sharedOut n first (sharingOf left k) (dividedTo k n first left s)
+
+-- each may be made once those before it are
+abbrev pub Divisible : ℕ → ℕ → Left → List ℕ → Type 0
+Divisible n first left s = (k : ℕ) → k < 2 → Shareable n first (sharingOf left k) (dividedTo k n first left s)

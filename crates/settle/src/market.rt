@@ -1,6 +1,7 @@
-// The market's stages: calls and price of a tier, then what each row is paid.
+// The market's stages: calls and price of a tier, then what each row is paid, and what it owes.
 use crate::pairs::get_pair;
 use pay::compensation;
+use pay::penalty;
 use records::Field;
 use records::cell;
 use records::get_column;
@@ -12,6 +13,8 @@ use statement::CLOSING;
 use statement::COMPENSATION;
 use statement::CUT;
 use statement::PAID;
+use statement::PENALTY;
+use statement::RETURNED;
 use units::Fen;
 use units::Kwh;
 use units::Li;
@@ -22,7 +25,7 @@ ghost use Rattle.records.specs.Sheet.{cellAt, cell, columnOf};
 ghost use Rattle.statement.specs.Statement.{lineStart};
 ghost use Rattle.merit.specs.Price.{price};
 ghost use Rattle.merit.specs.Ready.{OneLength};
-ghost use Rattle.settle.specs.Work.{Ruled, Offered, Lent, ClearedIn, Called, fieldsOf, Tradable, Traded, payAt, Payable, Paid};
+ghost use Rattle.settle.specs.Work.{Ruled, Offered, Lent, ClearedIn, Called, fieldsOf, Tradable, Traded, paying, owing, pricedAt, Priceable, Priced};
 
 // What a tier comes to: the need that it leaves, and its clearing price.
 pub struct Cleared {
@@ -162,7 +165,7 @@ fn energy_at(sheet: &[u8], field: Field, i: usize) -> Kwh
 // What the row at a position is paid.
 fn pay_at(sheet: &[u8], i: usize, price1: Li, price2: Li) -> Fen
     requires { ⌜ (lineStart (i + 1) ≤ length (now sheet)) × (price1 .0 ≤ 1000) × (price2 .0 ≤ 1000) ⌝ }
-    ensures { λ r. ⌜ r .0 ≡ payAt (price1 .0) (price2 .0) (now (sheet .entry)) i ⌝ }
+    ensures { λ r. ⌜ r .0 ≡ pricedAt paying (price1 .0) (price2 .0) (now (sheet .entry)) i ⌝ }
 {
     let call1 = energy_at(sheet, CALLED1, i);
     let call2 = energy_at(sheet, CALLED2, i);
@@ -173,8 +176,8 @@ fn pay_at(sheet: &[u8], i: usize, price1: Li, price2: Li) -> Fen
 
 // What each row is paid, in the place of the energy that it delivered in tier 1; answers the total.
 pub fn compensate(n: usize, price1: Li, price2: Li, sheet: &mut [u8]) -> Fen
-    requires { ⌜ Payable n (price1 .0) (price2 .0) (now sheet) ⌝ }
-    ensures { λ r. ⌜ Paid n (price1 .0) (price2 .0) (now (sheet .entry)) (now (sheet .exit)) (r .0) ⌝ }
+    requires { ⌜ Priceable paying n (price1 .0) (price2 .0) (now sheet) ⌝ }
+    ensures { λ r. ⌜ Priced paying n (price1 .0) (price2 .0) (now (sheet .entry)) (now (sheet .exit)) (r .0) ⌝ }
 {
     let mut total: u64 = 0;
     let mut i = 0;
@@ -182,6 +185,34 @@ pub fn compensate(n: usize, price1: Li, price2: Li, sheet: &mut [u8]) -> Fen
         let pay = pay_at(sheet, i, price1, price2);
         put_cell(sheet, COMPENSATION, i, pay.0);
         total += pay.0;
+        i += 1;
+    }
+    Fen(total)
+}
+
+// What the row at a position owes.
+fn owed_at(sheet: &[u8], i: usize, price1: Li, price2: Li) -> Fen
+    requires { ⌜ (lineStart (i + 1) ≤ length (now sheet)) × (price1 .0 ≤ 1000) × (price2 .0 ≤ 1000) ⌝ }
+    ensures { λ r. ⌜ r .0 ≡ pricedAt owing (price1 .0) (price2 .0) (now (sheet .entry)) i ⌝ }
+{
+    let call1 = energy_at(sheet, CALLED1, i);
+    let call2 = energy_at(sheet, CALLED2, i);
+    let credit1 = energy_at(sheet, PENALTY, i);
+    let credit2 = energy_at(sheet, RETURNED, i);
+    penalty(call1, call2, credit1, credit2, price1, price2)
+}
+
+// What each row owes, in the place of what it is credited with in tier 1; answers the total.
+pub fn penalise(n: usize, price1: Li, price2: Li, sheet: &mut [u8]) -> Fen
+    requires { ⌜ Priceable owing n (price1 .0) (price2 .0) (now sheet) ⌝ }
+    ensures { λ r. ⌜ Priced owing n (price1 .0) (price2 .0) (now (sheet .entry)) (now (sheet .exit)) (r .0) ⌝ }
+{
+    let mut total: u64 = 0;
+    let mut i = 0;
+    while i < n {
+        let owed = owed_at(sheet, i, price1, price2);
+        put_cell(sheet, PENALTY, i, owed.0);
+        total += owed.0;
         i += 1;
     }
     Fen(total)

@@ -1,6 +1,8 @@
-// The payers' stages: the rounds and what each payer pays, then what is cut from the receivers.
+// The payers' stages: the rounds and what each payer pays, then what is cut from the receivers, and what is returned to those who owe.
 use crate::pairs::get_pair;
+use levy::Left;
 use levy::Rest;
+use records::Field;
 use records::get_column;
 use records::put_column;
 use statement::CAP;
@@ -8,6 +10,8 @@ use statement::CLOSING;
 use statement::COMPENSATION;
 use statement::CUT;
 use statement::PAID;
+use statement::PENALTY;
+use statement::RETURNED;
 use statement::WEIGHT;
 use units::Fen;
 ghost use mathlib.Core.Path.{_≡_};
@@ -15,7 +19,7 @@ ghost use lib.ListN.{length, take};
 ghost use Rattle.levy.specs.Asked.{Levyable};
 ghost use Rattle.statement.specs.Line as line;
 ghost use Rattle.settle.specs.Within.{Turn};
-ghost use Rattle.settle.specs.Work.{Ruled, Leviable, LeviedOn, LeviedIn, Levied, Cuttable, cutFrom};
+ghost use Rattle.settle.specs.Work.{Ruled, Leviable, LeviedOn, LeviedIn, Levied, sharingOf, Shareable, sharedOut, dividedTo, Divisible};
 
 // The rounds over columns, and what each position pays after the last.
 fn levy_on(
@@ -78,22 +82,61 @@ pub fn collect(total: Fen, first: usize, n: usize, sheet: &mut [u8]) -> Rest
     rest
 }
 
-// What is cut from each receiver, in columns that the caller lends.
-fn cut_in(shortfall: Fen, first: usize, pay: &mut [u32], cuts: &mut [u32], sheet: &mut [u8])
-    requires { ⌜ Cuttable (length (now pay)) first (shortfall .0) (now sheet) × (length (now cuts) ≡ length (now pay)) ⌝ }
-    ensures { λ _. ⌜ now (sheet .exit) ≡ cutFrom (length (now (pay .entry))) first (shortfall .0) (now (sheet .entry)) ⌝ }
-{
-    get_column(sheet, COMPENSATION, pay);
-    levy::cuts(shortfall, pay, first, cuts);
-    put_column(sheet, CUT, cuts);
+// An amount, the field of the sums that it is shared over, and the field of the shares.
+pub struct Sharing {
+    pub amount: Fen,
+    pub from: Field,
+    pub to: Field,
 }
 
-// What is cut from each receiver.
-pub fn cut(shortfall: Fen, first: usize, n: usize, sheet: &mut [u8])
-    requires { ⌜ Cuttable n first (shortfall .0) (now sheet) ⌝ }
-    ensures { λ _. ⌜ now (sheet .exit) ≡ cutFrom n first (shortfall .0) (now (sheet .entry)) ⌝ }
+// What is left by the penalties: first what is cut, over the compensations, then what is returned, over the penalties.
+fn sharing_of(left: Left, k: usize) -> Sharing
+    ensures { λ r. ⌜ r ≡ sharingOf left k ⌝ }
 {
-    let mut pay = [0u32; 256];
-    let mut cuts = [0u32; 256];
-    cut_in(shortfall, first, &mut pay[..n], &mut cuts[..n], sheet);
+    let cut = left.cut;
+    let returned = left.returned;
+    if k == 0 {
+        return Sharing {
+            amount: cut,
+            from: COMPENSATION,
+            to: CUT,
+        };
+    }
+    Sharing {
+        amount: returned,
+        from: PENALTY,
+        to: RETURNED,
+    }
+}
+
+// A sharing from one field into another, in columns that the caller lends.
+fn share_in(first: usize, what: Sharing, sums: &mut [u32], parts: &mut [u32], sheet: &mut [u8])
+    requires { ⌜ Shareable (length (now sums)) first what (now sheet) × (length (now parts) ≡ length (now sums)) ⌝ }
+    ensures { λ _. ⌜ now (sheet .exit) ≡ sharedOut (length (now (sums .entry))) first what (now (sheet .entry)) ⌝ }
+{
+    get_column(sheet, what.from, sums);
+    levy::apportion(what.amount, sums, first, parts);
+    put_column(sheet, what.to, parts);
+}
+
+// The same, with columns of its own.
+fn share_out(first: usize, n: usize, what: Sharing, sheet: &mut [u8])
+    requires { ⌜ Shareable n first what (now sheet) ⌝ }
+    ensures { λ _. ⌜ now (sheet .exit) ≡ sharedOut n first what (now (sheet .entry)) ⌝ }
+{
+    let mut sums = [0u32; 256];
+    let mut parts = [0u32; 256];
+    share_in(first, what, &mut sums[..n], &mut parts[..n], sheet);
+}
+
+// Cuts, and what is returned. There is one call, so that its columns share the engine's frame.
+pub fn divide(left: Left, first: usize, n: usize, sheet: &mut [u8])
+    requires { ⌜ Divisible n first left (now sheet) ⌝ }
+    ensures { λ _. ⌜ now (sheet .exit) ≡ dividedTo 2 n first left (now (sheet .entry)) ⌝ }
+{
+    let mut k = 0;
+    while k < 2 {
+        share_out(first, n, sharing_of(left, k), sheet);
+        k += 1;
+    }
 }

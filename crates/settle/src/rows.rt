@@ -1,5 +1,5 @@
-// The first stage: a line for each row, with what the row offers, delivered, weighs and may be asked to pay in the places of the
-// figures that will stand there. A row is decoded here, and nowhere after.
+// The first stage: a line for each row, with what the row offers, delivered, weighs, may be asked to pay and is credited with in the
+// places of the figures that will stand there. A row is decoded here, and nowhere after.
 use duties::Duty;
 use duties::duty_of;
 use files::Verdict;
@@ -11,15 +11,24 @@ use statement::LINE;
 use statement::LINE_LETTER;
 use statement::LINE_WIDTHS;
 use units::Hao;
+use units::Kwh;
 ghost use mathlib.Core.Path.{_≡_};
 ghost use Prim.Native.Nat.{_+_, _<_, _≤_};
 ghost use lib.ListN.{length};
 ghost use Rattle.records.specs.Buffer.{put};
 ghost use Rattle.records.specs.Record.{recordBytes};
+ghost use Rattle.files.specs.Layout.{headAt};
 ghost use Rattle.files.specs.Order.{verdictOf};
 ghost use Rattle.files.specs.Counting.{sourceOf};
 ghost use Rattle.statement.specs.Statement.{letterL, lineWidths, lineStart};
 ghost use Rattle.settle.specs.Work.{lined, dutyLine, rowLine};
+
+// An energy as a field of a line.
+fn field(energy: Kwh) -> u64
+    ensures { λ r. ⌜ r ≡ energy .0 ⌝ }
+{
+    energy.0 as u64
+}
 
 // Puts one row's line: its id and its duties.
 fn put_duty(sheet: &mut [u8], i: usize, id: u16, d: Duty)
@@ -28,14 +37,16 @@ fn put_duty(sheet: &mut [u8], i: usize, id: u16, d: Duty)
 {
     let fields = [
         id as u64,
-        d.width1.0 as u64,
-        d.width2.0 as u64,
-        d.energy1.0 as u64,
-        d.energy2.0 as u64,
-        d.weight.0 as u64,
+        field(d.width1),
+        field(d.width2),
+        field(d.energy1),
+        field(d.energy2),
+        field(d.weight),
         d.cap.0,
         d.bid2.0,
         d.bid1.0,
+        field(d.credit1),
+        field(d.credit2),
     ];
     put_record(sheet, HEAD + i * LINE, LINE_LETTER, &LINE_WIDTHS, &fields);
 }
@@ -61,11 +72,14 @@ fn read_row(
 }
 
 // The duties of all rows of an accepted pair.
-pub fn read(interval: &[u8], correction: &[u8], n: usize, tariff: Hao, sheet: &mut [u8])
+pub fn read(interval: &[u8], correction: &[u8], n: usize, sheet: &mut [u8])
     requires { ⌜ verdictOf (now interval) (now correction) ≡ Verdict.Accepted n ⌝ }
     requires { ⌜ lineStart n ≤ length (now sheet) ⌝ }
-    ensures { λ _. ⌜ now (sheet .exit) ≡ lined (now (sheet .entry)) n (rowLine (tariff .0) (now (interval .entry)) (now (correction .entry))) ⌝ }
+    ensures { λ _. ⌜ now (sheet .exit) ≡ lined (now (sheet .entry)) n
+        (rowLine (headAt (now (interval .entry)) .tariff .0) (now (interval .entry)) (now (correction .entry))) ⌝ }
 {
+    let head = files::head_at(interval);
+    let tariff = head.tariff;
     let mut sources = [0u16; 256];
     files::sources(interval, correction, n, &mut sources);
     let mut i = 0;

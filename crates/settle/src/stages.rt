@@ -1,9 +1,10 @@
 // A settlement as a flat run of stages over the lent buffer, which is the work sheet: a line for each row, each stage one field of it.
 // The head comes last.
 use crate::market::compensate;
+use crate::market::penalise;
 use crate::market::trade;
 use crate::payers::collect;
-use crate::payers::cut;
+use crate::payers::divide;
 use crate::rows::read;
 use files::Verdict;
 use statement::StatementHead;
@@ -33,11 +34,10 @@ pub fn write_statement(interval: &[u8], correction: &[u8], n: usize, sheet: &mut
     requires { ⌜ lineStart n ≤ length (now sheet) ⌝ }
     ensures { λ _. ⌜ now (sheet .exit) ≡ put (now (sheet .entry)) 0 (statementOf (now (interval .entry)) (now (correction .entry))) ⌝ }
 {
+    read(interval, correction, n, sheet);
     let head = files::head_at(interval);
-    let tariff = head.tariff;
     let need = head.need;
     let first = first_turn(head.quarter, n);
-    read(interval, correction, n, tariff, sheet);
     let market = trade(need, first, n, sheet);
     let price1 = market.price1;
     let price2 = market.price2;
@@ -45,7 +45,10 @@ pub fn write_statement(interval: &[u8], correction: &[u8], n: usize, sheet: &mut
     let total = compensate(n, price1, price2, sheet);
     let rest = collect(total, first, n, sheet);
     let shortfall = levy::shortfall(rest);
-    cut(shortfall, first, n, sheet);
+    let penalties = penalise(n, price1, price2, sheet);
+    let left = levy::cover(penalties, shortfall);
+    divide(left, first, n, sheet);
+    let rows = n as u16;
     let top = StatementHead {
         day: head.day,
         quarter: head.quarter,
@@ -55,7 +58,7 @@ pub fn write_statement(interval: &[u8], correction: &[u8], n: usize, sheet: &mut
         shortfall,
         rounds: rest.rounds,
         uncovered,
-        rows: n as u16,
+        rows,
     };
     put_statement_head(sheet, top);
 }

@@ -1,6 +1,7 @@
 -- The laws of the sharing rule, for whoever calls `split`. They hold of every position i, also past the column's end,
 -- where weight and share are 0, and of every `first`, unless a law asks that `first` is inside the column.
 --     shares-sum         the shares sum to the amount, if a weight is above 0 and `first` is inside
+--     shares-within      the same of an amount that is at most the sum of the weights
 --     shares-none        all are 0 if no weight is above 0
 --     shares-length      as many shares as weights
 --     shares-at          what stands in the column at i is the share of i
@@ -13,6 +14,7 @@
 --     share-le-weight    the amount is at most the sum of the weights: a share is at most its weight
 --     share-is-weight    the amount is just that sum: each share is its weight
 --     shares-are-weights     the same of the whole column
+--     share-more         a larger amount gives nobody less, but for one: of fen that are rounded more cannot be said
 --     share-alike        of two equal weights the one whose turn comes first gets as much as the other, or one more
 --     share-none, share-sum      shares-none and shares-sum of the share itself
 --     split-unique       two results that the contract of `split` allows are equal
@@ -126,6 +128,22 @@ module _ (a : ℕ) (ws : List ℕ) (first : ℕ) where
   unfolding shares
   shares-are-weights e =
       table-same (length ws) (share a ws first) (at ws) (λ i l. share-is-weight i e) ∙ sym (table-list 0 ws)
+
+  pub shares-within : a ≤ whole ws → (0 < length ws → first < length ws) → whole (shares a ws first) ≡ a
+  shares-within h inside =
+      ⊎-elim
+      (λ (e : whole ws ≡ 0). ap whole (shares-are-weights (omega arith)) ∙ omega arith)
+      (λ (some : 0 < whole ws). shares-sum some inside) (eq-zero-or-pos (whole ws))
+
+pub share-more : (a b : ℕ) (ws : List ℕ) (first second i : ℕ) → a ≤ b → share a ws first i ≤ share b ws second i + 1
+share-more a b ws first second i h =
+    ⊎-elim (λ (z : whole ws ≡ 0). omega (arith, share-none a ws first z i))
+    (λ (some : 0 < whole ws).
+    let l : share a ws first i < share b ws second i + 2 =
+    lt-of-mul-lt-mul-right (whole ws)
+    (omega (arith, over a ws some first i, short b ws some second i, mul-le-mul-right (at ws i) h)) in
+    omega arith)
+    (eq-zero-or-pos (whole ws))
 
 pub split-unique : Leaves-one split.Learnt (λ κs x y e f. e .1 .1 .1 .0 .now ≡ f .1 .1 .1 .0 .now)
 split-unique κs a x y e f p q = p ∙ sym q

@@ -3,7 +3,7 @@
 --   head-read         a head whose fields fit their widths, written and read again, is the same head
 --   statement-length  a head and n lines are as long as their tables say
 --   statement-read    line i of a whole statement, read again, if its fields fit their widths
-use mathlib.Core.Path.{_≡_, refl, ap, _∙_}
+use mathlib.Core.Path.{_≡_, refl, ap}
 use mathlib.Core.List.{List, [], _++_, append-assoc}
 use Prim.Native.Nat.{ℕ, _<_}
 use native.Mathlib.Omega.{arith}
@@ -30,7 +30,7 @@ pub head-read : (h : StatementHead) (b : List ℕ) → HeadFits h → statementH
 unfolding statementHeadAt statementHeadBytes
 head-read h b f = ap headOf (record-read letterS headWidths (headFields h) [] b refl f)
 
-module _ (h : StatementHead) (n : ℕ) (f : ℕ → List ℕ) (full : (i : ℕ) → length (f i) ≡ 9) where
+module _ (h : StatementHead) (n : ℕ) (f : ℕ → List ℕ) (full : (i : ℕ) → length (f i) ≡ 11) where
   pub statement-length : length (statementHeadBytes h ++ recordsBytes letterL lineWidths (table n f)) ≡ lineStart n
   statement-length =
       omega (

@@ -29,3 +29,9 @@ paid = fieldOf headSize lineWidths 7
 
 abbrev pub closing : Field
 closing = fieldOf headSize lineWidths 8
+
+abbrev pub penalty : Field
+penalty = fieldOf headSize lineWidths 9
+
+abbrev pub returned : Field
+returned = fieldOf headSize lineWidths 10

@@ -1,4 +1,4 @@
--- Statements in bytes (01, The files): a head, then a line for each row, each a record by its table of widths.
+-- Statements in bytes (01, The files; 02, request 4): a head, then a line for each row, each a record by its table of widths.
 use Prim.Native.Nat.{ℕ, _+_, _*_}
 use mathlib.Core.List.{List, [], _∷_}
 use Rattle.columns.specs.Table.{at}
@@ -16,9 +16,9 @@ letterL = 76
 abbrev pub headWidths : List ℕ
 headWidths = 4 ∷ 1 ∷ 2 ∷ 2 ∷ 8 ∷ 8 ∷ 2 ∷ 4 ∷ 2 ∷ []
 
--- id, called in tier 1, in tier 2, compensation, cut, weight, cap, paid, closing round
+-- id, called in tier 1, in tier 2, compensation, cut, weight, cap, paid, closing round, penalty, returned
 abbrev pub lineWidths : List ℕ
-lineWidths = 2 ∷ 4 ∷ 4 ∷ 4 ∷ 4 ∷ 4 ∷ 4 ∷ 4 ∷ 2 ∷ []
+lineWidths = 2 ∷ 4 ∷ 4 ∷ 4 ∷ 4 ∷ 4 ∷ 4 ∷ 4 ∷ 2 ∷ 4 ∷ 4 ∷ []
 
 abbrev pub headSize : ℕ
 headSize = recordSize headWidths

@@ -1,4 +1,4 @@
-// Statements in bytes (01, The files): a head and a line for each row, each a record by its table of widths. A line is its list of fields,
+// Statements in bytes (01, The files; 02, request 4): a head and a line for each row, each a record by its table of widths. A line is its list of fields,
 // and a field of all lines is a column.
 use records::Field;
 use records::get_record;
@@ -28,11 +28,11 @@ pub struct StatementHead {
 // The widths of a head's fields and of a line's, and how many bytes each takes with its mark.
 pub const HEAD_WIDTHS: [u8; 9] = [4, 1, 2, 2, 8, 8, 2, 4, 2];
 
-pub const LINE_WIDTHS: [u8; 9] = [2, 4, 4, 4, 4, 4, 4, 4, 2];
+pub const LINE_WIDTHS: [u8; 11] = [2, 4, 4, 4, 4, 4, 4, 4, 2, 4, 4];
 
 pub const HEAD: usize = 35;
 
-pub const LINE: usize = 34;
+pub const LINE: usize = 42;
 
 // The letter of a line's mark.
 pub const LINE_LETTER: u8 = b'L';
@@ -99,6 +99,20 @@ pub const CLOSING: Field = Field {
     stride: LINE,
     offset: 32,
     width: 2,
+};
+
+pub const PENALTY: Field = Field {
+    start: HEAD,
+    stride: LINE,
+    offset: 34,
+    width: 4,
+};
+
+pub const RETURNED: Field = Field {
+    start: HEAD,
+    stride: LINE,
+    offset: 38,
+    width: 4,
 };
 
 // The head at the front of a statement.

@@ -1,4 +1,5 @@
 -- What `tell` prints, piece by piece, as the code asks for it.
+--   fields-lent                     room for a record's fields, the front of a fresh array
 --   record-placed                   the fields read by a record's table make its line of text
 --   no-lines, lines-more, lines-all the start, a turn and the end of `tell_lines`
 --   statement-placed                the head's line and the lines are the statement's text
@@ -11,7 +12,8 @@ use mathlib.Core.List.{List, [], _∷_, _++_}
 use Prim.Native.Nat.{ℕ, _+_, _*_, _≤_}
 use native.Mathlib.Numerals.{add-one}
 use native.Mathlib.Omega.{arith}
-use lib.ListN.{length, take}
+use lib.ListN.{length, take, replicate}
+use lib.Seq.{length-take-le}
 use Rattle.records.specs.Buffer.{put}
 use Rattle.records.proofs.Buffer.{put-whole}
 use Rattle.records.specs.Record.{recordAt}
@@ -27,6 +29,9 @@ use Rattle.telling.specs.Text.{decimal, lineText, linesTo, linesIn, stat
 use Rattle.telling.specs.Text.{room, numberMost, lineMost, textMost, refusalMost}
 use Rattle.telling.proofs.Texts.{placed-none, placed-after}
 use Rattle.telling.proofs.Size.{settled-is}
+
+pub fields-lent : (n : ℕ) → n ≤ 11 → length (take {A = ℕ} n (replicate 11 0)) ≡ n
+fields-lent n l = length-take-le n (replicate 11 0) l
 
 pub record-placed : (l l′ fields ws b : List ℕ) (from end k : ℕ) → fields ≡ recordAt ws b k
     → Placed l l′ from (lineText fields) end lineMost → Placed l l′ from (lineText (recordAt ws b k)) end lineMost

@@ -16,13 +16,13 @@ use Rattle.files.specs.Order.{headChecks, rowChecks, rowChecksAt, rowChecksOf, 
 use Rattle.files.specs.Terms.{termsOf}
 use Rattle.files.specs.Walk.{hasId, findId}
 use Rattle.files.specs.Counting.{countingRow}
-use Rattle.duties.specs.Duty.{width1, width2, energy1, energy2, payer, weight, cap}
+use Rattle.duties.specs.Duty.{width1, width2, energy1, energy2, credit1, credit2, payer, weight, cap}
 use Rattle.duties.specs.Duties.{dutiesOf}
 use Rattle.merit.specs.Call.{cheaperIn, cheaper, group, due, called, calls, uncovered}
 use Rattle.merit.specs.Price.{price}
-use Rattle.levy.specs.Rounds.{closes, closed, next, run, opening, final, openWeights, paid, payments, shortfall, cuts}
+use Rattle.levy.specs.Rounds.{closes, closed, next, run, opening, final, openWeights, paid, payments, shortfall, cuts, returned}
 use Rattle.statement.specs.Statement.{statementHeadBytes}
-use Rattle.settle.specs.Settlement.{firstTurn, compensationsOf, levied, figures}
+use Rattle.settle.specs.Settlement.{firstTurn, compensationsOf, penaltiesOf, levied, figures}
 use Rattle.settle.specs.Statement.{statementHead, statementBytes}
 use Rattle.settle.specs.Answer.{dutiesIn, figuresOf, statementOf, settleOrder, answerOf}
 use Rattle.settle.specs.Table.{intervalX}
@@ -30,15 +30,15 @@ use Rattle.telling.specs.Text.{decimalIn, textTo, linesTo, statementText
 
 pub shown-statement : tellText (intervalX 1300)
     ≡ 48 ∷ 32 ∷ 48 ∷ 32 ∷ 50 ∷ 48 ∷ 48 ∷ 32 ∷ 52 ∷ 48 ∷ 48 ∷ 32 ∷ 57 ∷ 48 ∷ 48 ∷ 48 ∷ 48 ∷ 32 ∷ 48 ∷ 32 ∷ 49 ∷ 32 ∷ 48 ∷ 32 ∷ 51 ∷ 10
-    ∷ 49 ∷ 32 ∷ 50 ∷ 53 ∷ 48 ∷ 48 ∷ 32 ∷ 53 ∷ 48 ∷ 48 ∷ 32 ∷ 57 ∷ 48 ∷ 48 ∷ 48 ∷ 48 ∷ 32 ∷ 48 ∷ 32 ∷ 48 ∷ 32 ∷ 48 ∷ 32 ∷ 48 ∷ 32 ∷ 48 ∷ 10
-    ∷ 50 ∷ 32 ∷ 48 ∷ 32 ∷ 48 ∷ 32 ∷ 48 ∷ 32 ∷ 48 ∷ 32 ∷ 49 ∷ 53 ∷ 48 ∷ 48 ∷ 48 ∷ 32 ∷ 54 ∷ 53 ∷ 48 ∷ 48 ∷ 48 ∷ 32 ∷ 54 ∷ 53 ∷ 48 ∷ 48 ∷ 48 ∷ 32 ∷ 49 ∷ 10
-    ∷ 51 ∷ 32 ∷ 48 ∷ 32 ∷ 48 ∷ 32 ∷ 48 ∷ 32 ∷ 48 ∷ 32 ∷ 53 ∷ 48 ∷ 48 ∷ 48 ∷ 32 ∷ 51 ∷ 50 ∷ 53 ∷ 48 ∷ 48 ∷ 32 ∷ 50 ∷ 53 ∷ 48 ∷ 48 ∷ 48 ∷ 32 ∷ 48 ∷ 10 ∷ []
+    ∷ 49 ∷ 32 ∷ 50 ∷ 53 ∷ 48 ∷ 48 ∷ 32 ∷ 53 ∷ 48 ∷ 48 ∷ 32 ∷ 57 ∷ 48 ∷ 48 ∷ 48 ∷ 48 ∷ 32 ∷ 48 ∷ 32 ∷ 48 ∷ 32 ∷ 48 ∷ 32 ∷ 48 ∷ 32 ∷ 48 ∷ 32 ∷ 48 ∷ 32 ∷ 48 ∷ 10
+    ∷ 50 ∷ 32 ∷ 48 ∷ 32 ∷ 48 ∷ 32 ∷ 48 ∷ 32 ∷ 48 ∷ 32 ∷ 49 ∷ 53 ∷ 48 ∷ 48 ∷ 48 ∷ 32 ∷ 54 ∷ 53 ∷ 48 ∷ 48 ∷ 48 ∷ 32 ∷ 54 ∷ 53 ∷ 48 ∷ 48 ∷ 48 ∷ 32 ∷ 49 ∷ 32 ∷ 48 ∷ 32 ∷ 48 ∷ 10
+    ∷ 51 ∷ 32 ∷ 48 ∷ 32 ∷ 48 ∷ 32 ∷ 48 ∷ 32 ∷ 48 ∷ 32 ∷ 53 ∷ 48 ∷ 48 ∷ 48 ∷ 32 ∷ 51 ∷ 50 ∷ 53 ∷ 48 ∷ 48 ∷ 32 ∷ 50 ∷ 53 ∷ 48 ∷ 48 ∷ 48 ∷ 32 ∷ 48 ∷ 32 ∷ 48 ∷ 32 ∷ 48 ∷ 10 ∷ []
 unfolding sumTo countTo maxTo maxWhere findTo whole table numberAt numberBytes fieldsBytes fieldsAt recordAt recordBytes recordsBytes
     quota rest turn before rank left share shares
     firstRefusal rowByRow previous headAt rowAt correctionHeadAt headTests headOk statusOk idleTests notOffering offerTests offering rowTests rowOk
     headChecks rowChecks rowChecksAt rowChecksOf intervalOrder fileOrder termsOf hasId findId countingRow
-    width1 width2 energy1 energy2 payer weight cap dutiesOf cheaperIn cheaper group due called calls uncovered price
-    closes closed next run opening final openWeights paid payments shortfall cuts firstTurn compensationsOf levied figures
+    width1 width2 energy1 energy2 credit1 credit2 payer weight cap dutiesOf cheaperIn cheaper group due called calls uncovered price
+    closes closed next run opening final openWeights paid payments shortfall cuts returned firstTurn compensationsOf penaltiesOf levied figures
     statementHeadBytes statementHead statementBytes dutiesIn figuresOf statementOf settleOrder answerOf intervalX
     decimalIn textTo linesTo statementText toldText tellText
 shown-statement = refl

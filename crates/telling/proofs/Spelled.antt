@@ -2,7 +2,7 @@
 --   spelled          the fewest digits that hold a number are its decimal text
 --   few-digits       a number of eight bytes has at most twenty
 --   number-placed    the digits, then what stands after them: `tell_number`
---   no-fields, fields-more   the start and a turn of `tell_fields`
+--   no-fields, fields-more, fields-all   the start, a turn and the end of `tell_fields`
 use mathlib.Core.Path.{_≡_, sym, ap, _∙_}
 use mathlib.Core.Logic.{_⊎_, ⊎-elim}
 use mathlib.Core.List.{List, [], _∷_, _++_}
@@ -17,7 +17,7 @@ use Rattle.records.specs.Buffer.{put}
 use Rattle.records.proofs.Buffer.{put-length, put-put, set-put}
 use Rattle.columns.proofs.Sum.{lt-or-le}
 use Rattle.io.specs.Digits.{digits, glyph, Fewest}
-use Rattle.telling.specs.Text.{decimalIn, decimal, endOf, textTo, Placed, numberMost, lineMost}
+use Rattle.telling.specs.Text.{decimalIn, decimal, endOf, textTo, lineText, Placed, numberMost, lineMost}
 use Rattle.telling.proofs.Texts.{placed-none, placed-after}
 
 -- a decimal digit's glyph
@@ -81,15 +81,26 @@ pub no-fields : (l fields : List ℕ) (from : ℕ) → Placed l l from (textTo 0
 unfolding textTo
 no-fields l fields from = placed-none l from
 
-pub text-next : (i : ℕ) (fields : List ℕ) → textTo (i + 1) fields ≡ textTo i fields ++ (decimal (getD fields i 0) ++ (endOf i ∷ []))
+pub text-next : (i : ℕ) (fields : List ℕ) → textTo (i + 1) fields ≡ textTo i fields ++ (decimal (getD fields i 0) ++ (endOf (length fields) i ∷ []))
 unfolding textTo
 text-next i fields = rw add-one
 
-pub fields-more : (l l′ l″ fields : List ℕ) (from at i end e : ℕ) → from + lineMost ≤ length l
-    → Placed l l′ from (textTo i fields) at (i * numberMost) → e ≡ endOf i
+pub fields-more : (l l′ l″ fields : List ℕ) (from at i end e : ℕ) → i < length fields → length fields ≤ 11 → from + lineMost ≤ length l
+    → Placed l l′ from (textTo i fields) at (i * numberMost) → e ≡ endOf (length fields) i
     → Placed l′ l″ at (decimal (getD fields i 0) ++ (e ∷ [])) end numberMost
     → Placed l l″ from (textTo (i + 1) fields) end ((i + 1) * numberMost)
-fields-more l l′ l″ fields from at i end e room p q r =
-    let new : List ℕ = decimal (getD fields i 0) ++ (endOf i ∷ []) in
+fields-more l l′ l″ fields from at i end e inside few room p q r =
+    let new : List ℕ = decimal (getD fields i 0) ++ (endOf (length fields) i ∷ []) in
     rw (text-next i fields)
     (placed-after l l′ l″ (textTo i fields) new from at end (i * numberMost) numberMost ((i + 1) * numberMost) (omega arith) (omega arith) p (rw q at r))
+
+pub fields-all : (l l′ fields : List ℕ) (from at i : ℕ) → i ≤ length fields → length fields ≤ i → length fields ≤ 11
+    → Placed l l′ from (textTo i fields) at (i * numberMost) → Placed l l′ from (lineText fields) at lineMost
+fields-all l l′ fields from at i h k few p =
+    let e : i ≡ length fields = omega arith in
+    let text : textTo i fields ≡ lineText fields = ap (λ (m : ℕ). textTo m fields) e in
+    record {
+      bytes = p .bytes ∙ ap (put l from) text;
+      end-is = p .end-is ∙ ap (λ (x : List ℕ). from + length x) text;
+      fits = omega (arith, p .fits);
+    }

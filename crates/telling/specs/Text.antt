@@ -22,18 +22,18 @@ decimalIn (suc more) x = cond (ltb x 10) ((48 + x % 10) ∷ []) (decimalIn more 
 abbrev pub decimal : ℕ → List ℕ
 decimal x = decimalIn 19 x
 
--- what stands after field i of nine: a space, or the line's end
-abbrev pub endOf : ℕ → ℕ
-endOf i = cond (eqb i 8) 10 32
+-- what stands after field i of n: a space, or the line's end
+abbrev pub endOf : ℕ → ℕ → ℕ
+endOf n i = cond (eqb i (n - 1)) 10 32
 
--- the text of the first so many of nine fields
+-- the text of the first so many of a record's fields
 unfoldable pub textTo : ℕ → List ℕ → List ℕ
 textTo zero fields = []
-textTo (suc i) fields = textTo i fields ++ (decimal (getD fields i 0) ++ (endOf i ∷ []))
+textTo (suc i) fields = textTo i fields ++ (decimal (getD fields i 0) ++ (endOf (length fields) i ∷ []))
 
 -- a record's line of text
 abbrev pub lineText : List ℕ → List ℕ
-lineText fields = textTo 9 fields
+lineText fields = textTo (length fields) fields
 
 -- the text of the first so many lines of a statement's bytes
 unfoldable pub linesTo : ℕ → List ℕ → List ℕ
@@ -76,12 +76,13 @@ pub record Placed (before after : List ℕ) (from : ℕ) (text : List ℕ) (end 
   pub end-is : end ≡ from + length text
   pub fits : end ≤ from + most
 
--- how many bytes a number takes at most with the one after it, a record's line, a statement's text and a refusal's
+-- how many bytes a number takes at most with the one after it, a record's line of at most eleven of them, a statement's text and a
+-- refusal's
 abbrev pub numberMost : ℕ
 numberMost = 20 + 1
 
 abbrev pub lineMost : ℕ
-lineMost = 9 * numberMost
+lineMost = 11 * numberMost
 
 abbrev pub textMost : ℕ
 textMost = (1 + 256) * lineMost

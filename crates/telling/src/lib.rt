@@ -9,7 +9,7 @@ use statement::LINE_WIDTHS;
 ghost use mathlib.Core.Path.{_≡_};
 ghost use mathlib.Core.Bool.{true};
 ghost use mathlib.Core.List.{[], _∷_, _++_};
-ghost use Prim.Native.Nat.{_+_, _*_, _≤_};
+ghost use Prim.Native.Nat.{_+_, _*_, _≤_, _<_};
 ghost use lib.ListN.{length};
 ghost use Rattle.records.specs.Record.{recordSize, recordAt, narrow};
 ghost use Rattle.statement.specs.Statement.{headSize, lineStart};
@@ -20,14 +20,14 @@ ghost use Rattle.telling.specs.Text.{room, numberMost, lineMost, textMos
 // One byte more than the longest interval file has, a head of 15 and 256 rows of 21: a longer one is refused and never cut.
 const INTERVAL: usize = 5392;
 
-// The statement of 256 rows: a head of 35 and 256 lines of 34.
-const STATEMENT: usize = 8739;
+// The statement of 256 rows: a head of 35 and 256 lines of 42.
+const STATEMENT: usize = 10787;
 
-// Its text: 257 records of nine fields, each of at most twenty digits and one byte more.
-const TEXT: usize = 48573;
+// Its text: 257 records of at most eleven fields, each of at most twenty digits and one byte more.
+const TEXT: usize = 59367;
 
-// How many fields a record of a statement has, head or line.
-const FIELDS: usize = 9;
+// The most fields that a record of a statement has: those of a line.
+const FIELDS: usize = 11;
 
 // The most digits that a number of 64 bits has.
 const DIGITS: usize = 20;
@@ -97,41 +97,54 @@ fn tell_lines(text: &mut [u8], from: usize, statement: &[u8], n: usize) -> usize
 }
 
 // The record at a position of a statement, its fields read by their table of widths, as text from a position on.
-fn tell_record(
-    text: &mut [u8],
-    from: usize,
-    statement: &[u8],
-    at: usize,
-    widths: &[u8; FIELDS],
-) -> usize
-    requires { ⌜ (at + recordSize (now widths) ≤ length (now statement)) × (length (now widths) ≡ 9) × (narrow (now widths) ≡ true) ⌝ }
+fn tell_record(text: &mut [u8], from: usize, statement: &[u8], at: usize, widths: &[u8]) -> usize
+    requires { ⌜ (at + recordSize (now widths) ≤ length (now statement)) × (length (now widths) ≤ 11) × (narrow (now widths) ≡ true) ⌝ }
     requires { ⌜ from + lineMost ≤ length (now text) ⌝ }
     ensures { λ r. ⌜ Placed (now (text .entry)) (now (text .exit)) from (lineText (recordAt (now (widths .entry)) (now (statement .entry)) at)) r lineMost ⌝ }
 {
     let mut fields = [0u64; FIELDS];
-    get_record(statement, at, widths, &mut fields);
-    tell_fields(text, from, &fields)
+    let n = widths.len();
+    tell_read(text, from, statement, at, widths, &mut fields[..n])
 }
 
-// The text of nine fields, from a position on; hands back the position after it.
-fn tell_fields(text: &mut [u8], from: usize, fields: &[u64; FIELDS]) -> usize
-    requires { ⌜ (length (now fields) ≡ 9) × (from + lineMost ≤ length (now text)) ⌝ }
+// The same, with room for the fields lent.
+fn tell_read(
+    text: &mut [u8],
+    from: usize,
+    statement: &[u8],
+    at: usize,
+    widths: &[u8],
+    fields: &mut [u64],
+) -> usize
+    requires { ⌜ (at + recordSize (now widths) ≤ length (now statement)) × (length (now widths) ≤ 11) × (narrow (now widths) ≡ true) ⌝ }
+    requires { ⌜ (length (now fields) ≡ length (now widths)) × (from + lineMost ≤ length (now text)) ⌝ }
+    ensures { λ r. ⌜ Placed (now (text .entry)) (now (text .exit)) from (lineText (recordAt (now (widths .entry)) (now (statement .entry)) at)) r lineMost ⌝ }
+{
+    get_record(statement, at, widths, fields);
+    tell_fields(text, from, fields)
+}
+
+// The text of a record's fields, from a position on; hands back the position after it.
+fn tell_fields(text: &mut [u8], from: usize, fields: &[u64]) -> usize
+    requires { ⌜ (length (now fields) ≤ 11) × (from + lineMost ≤ length (now text)) ⌝ }
     ensures { λ r. ⌜ Placed (now (text .entry)) (now (text .exit)) from (lineText (now (fields .entry))) r lineMost ⌝ }
 {
+    let n = fields.len();
     let mut at = from;
     let mut i = 0;
-    while i < FIELDS {
-        at = tell_number(text, at, fields[i], end_of(i));
+    while i < n {
+        at = tell_number(text, at, fields[i], end_of(n, i));
         i += 1;
     }
     at
 }
 
-// What stands after field i: a space, or the line's end.
-fn end_of(i: usize) -> u8
-    ensures { λ r. ⌜ r ≡ endOf i ⌝ }
+// What stands after field i of n: a space, or the line's end.
+fn end_of(n: usize, i: usize) -> u8
+    requires { ⌜ i < n ⌝ }
+    ensures { λ r. ⌜ r ≡ endOf n i ⌝ }
 {
-    if i == 8 { b'\n' } else { b' ' }
+    if i == n - 1 { b'\n' } else { b' ' }
 }
 
 // A number in decimal and what stands after it, from a position on; hands back the position after both.

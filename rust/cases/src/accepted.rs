@@ -26,6 +26,12 @@ pub enum Shape {
     NoWidth,
     /// Offers only, most of them called and delivered in part or not at all, of any status: few rows set a price.
     Undelivered,
+    /// Offers that are all called, nearly half of reduced units that delivered all, some or nothing: penalties below, near and far
+    /// above the shortfall.
+    Reduced,
+    /// Offers alike but for the status, and few payers: a reduced unit owes as many fen as another gets, so penalties may equal the
+    /// shortfall, and what is left over of cuts and of what is returned goes by turn.
+    TiedPenalties,
     NeedNothing,
     NeedBeyond,
     LowestTariff,
@@ -38,7 +44,7 @@ pub enum Shape {
     Full,
 }
 
-pub const SHAPES: [Shape; 19] = [
+pub const SHAPES: [Shape; 21] = [
     Shape::Mixed,
     Shape::Edges,
     Shape::TiedBids,
@@ -49,6 +55,8 @@ pub const SHAPES: [Shape; 19] = [
     Shape::HalfLoad,
     Shape::NoWidth,
     Shape::Undelivered,
+    Shape::Reduced,
+    Shape::TiedPenalties,
     Shape::NeedNothing,
     Shape::NeedBeyond,
     Shape::LowestTariff,
@@ -60,9 +68,14 @@ pub const SHAPES: [Shape; 19] = [
     Shape::Full,
 ];
 
-/// Any shape; one in four is the one with many ties.
+/// Any shape; one in five is the one with many ties, one in four has penalties in plenty.
 fn shape(random: &mut Random) -> Shape {
-    if random.once_in(4) { Shape::Alike } else { random.one_of(&SHAPES) }
+    match random.below(20) {
+        0..4 => Shape::Alike,
+        4..6 => Shape::Reduced,
+        6..8 => Shape::TiedPenalties,
+        _ => random.one_of(&SHAPES),
+    }
 }
 
 /// A case that must be accepted, with a correction in half of the draws and a buffer of at least the needed length.
@@ -117,7 +130,7 @@ pub fn interval_of(random: &mut Random, shape: Shape, count: u32) -> Interval {
         Shape::NeedNothing => 0,
         Shape::NeedBeyond => (width + random.within(1..=1_000_000)).min(64_000_000),
         Shape::Edges => random.one_of(&[0, 1, width.saturating_sub(1), width, width + 1, 64_000_000]),
-        Shape::AllCapped | Shape::TiedRemainders => width,
+        Shape::AllCapped | Shape::TiedRemainders | Shape::Reduced | Shape::TiedPenalties => width,
         _ => random.within(0..=width + width / 8),
     };
     let tariff = match shape {
@@ -162,17 +175,17 @@ fn row(random: &mut Random, shape: Shape) -> Row {
         Shape::SmallestUnits => 1,
         Shape::LargestUnits => 2_000,
         Shape::Edges => random.one_of(&[1, 2, 3, 1_999, 2_000]),
-        Shape::TiedRemainders | Shape::Alike => 300,
+        Shape::TiedRemainders | Shape::Alike | Shape::TiedPenalties => 300,
         _ if random.once_in(3) => random.one_of(&[1, 100, 300, 600, 1_000, 2_000]),
         _ => random.within(1..=2_000) as u16,
     };
     let kind = match shape {
         Shape::TiedBids | Shape::NoWidth | Shape::NobodyPays => THERMAL,
-        Shape::Undelivered if !random.once_in(8) => THERMAL,
+        Shape::Undelivered | Shape::Reduced | Shape::TiedPenalties if !random.once_in(8) => THERMAL,
         _ => random.one_of(&[THERMAL, THERMAL, THERMAL, WIND, SOLAR]),
     };
     let receives = match shape {
-        Shape::NobodyPays | Shape::Undelivered => true,
+        Shape::NobodyPays | Shape::Undelivered | Shape::Reduced | Shape::TiedPenalties => true,
         Shape::TiedBids | Shape::NoWidth => !random.once_in(4),
         _ => random.once_in(2),
     };
@@ -180,18 +193,24 @@ fn row(random: &mut Random, shape: Shape) -> Row {
         Shape::Edges => edge(random, capacity),
         Shape::HalfLoad if kind == THERMAL && !receives => 125 * u32::from(capacity),
         Shape::Alike if kind == THERMAL && receives => 20_000,
-        Shape::Alike => 60_000,
+        // 7,500 and 9,998 kWh delivered at 107 and 321 li come to as much as 6,249 kWh short at twice 321.
+        Shape::TiedPenalties if kind == THERMAL => 20_002,
+        Shape::Alike | Shape::TiedPenalties => 60_000,
         Shape::TiedRemainders if !receives => 60_000,
         Shape::NobodyPays if random.once_in(2) => 0,
         Shape::Undelivered => {
             let load = random.one_of(&[100, 125, 125, 125, 200]);
             (load * u32::from(capacity) + random.within(0..=2)).saturating_sub(1)
         }
+        // Below 40 percent, between the tiers' ends, and above half load, where the unit pays too.
+        Shape::Reduced if kind == THERMAL => random.within(75 * u32::from(capacity)..=140 * u32::from(capacity)),
         _ => metered(random, capacity, receives),
     };
     let status = match (kind, shape) {
         (_, Shape::AllCapped | Shape::TiedRemainders | Shape::Alike) => 0,
         (THERMAL, Shape::Edges | Shape::Undelivered) => random.within(0..=3) as u8,
+        (THERMAL, Shape::Reduced) => random.one_of(&[0, 0, 0, 0, 1, 2, 2, 2, 2, 3]),
+        (THERMAL, Shape::TiedPenalties) => random.one_of(&[0, 2]),
         (THERMAL, _) if random.once_in(6) => random.within(1..=3) as u8,
         (THERMAL, _) => 0,
         _ => random.one_of(&[0, 0, 0, 3]),
@@ -218,6 +237,9 @@ fn offer(random: &mut Random, shape: Shape, row: Row) -> Row {
         Shape::NoWidth => random.within(two_fifths..=half),
         Shape::Edges => random.one_of(&[0, 1, two_fifths - 1, two_fifths, two_fifths + 1, half - 1, half]),
         Shape::TiedRemainders | Shape::Alike => 10_000,
+        Shape::TiedPenalties => 13_753,
+        // Most minimums are met to 2 kWh, so that penalties do not always come to more than the shortfall.
+        Shape::Reduced if !random.once_in(6) => (row.metered + 2).min(half) - random.within(0..=4),
         _ => random.within(0..=half),
     };
     let bids = match shape {
@@ -225,6 +247,7 @@ fn offer(random: &mut Random, shape: Shape, row: Row) -> Row {
         Shape::TiedBids => [random.one_of(&[200, 200, 320]), random.one_of(&[320, 320, 500])],
         Shape::Undelivered if random.once_in(2) => [200, 400],
         Shape::TiedRemainders | Shape::Alike => [150, 400],
+        Shape::TiedPenalties => [107, 321],
         _ => [random.within(100..=320) as u16, random.within(320..=750) as u16],
     };
     row.offering(minimum, bids[0], bids[1])

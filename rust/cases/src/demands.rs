@@ -10,6 +10,8 @@ struct Line {
     cap: u128,
     paid: u128,
     closing: u128,
+    penalty: u128,
+    returned: u128,
 }
 
 fn number(bytes: &[u8]) -> u128 {
@@ -25,6 +27,8 @@ fn line(bytes: &[u8]) -> Line {
         cap: number(&bytes[24..28]),
         paid: number(&bytes[28..32]),
         closing: number(&bytes[32..34]),
+        penalty: number(&bytes[34..38]),
+        returned: number(&bytes[38..42]),
     }
 }
 
@@ -45,20 +49,21 @@ pub fn check(statement: &[u8]) -> Result<(), String> {
     demand(rising, "ids rise")?;
     let lines: Vec<Line> = body.chunks_exact(LINE).map(line).collect();
     demand(total == sum(&lines, |line| line.compensation), "the total is the sum of the compensations")?;
-    prices(&lines, [number(&head[7..9]), number(&head[9..11])])?;
+    let clearing = [number(&head[7..9]), number(&head[9..11])];
+    prices(&lines, clearing)?;
+    penalties(&lines, clearing)?;
     books(&lines)?;
     numbering(&lines, rounds)?;
+    penalty_money_first(&lines, shortfall)?;
     let (closed, open): (Vec<&Line>, Vec<&Line>) =
         lines.iter().filter(|line| line.weight > 0).partition(|line| line.closing > 0);
     let caps: u128 = closed.iter().map(|line| line.cap).sum();
     demand(closed.iter().all(|line| line.paid == line.cap), "the capped pay their caps")?;
     demand(caps <= total, "the caps reached are together at most the total compensation")?;
-    let cut = sum(&lines, |line| line.cut);
-    demand(cut == shortfall, "the cuts add up to the shortfall")?;
     if open.is_empty() {
-        demand(shortfall == total - caps, "receivers are cut by exactly what the caps fail to cover")
+        demand(shortfall == total - caps, "the shortfall is exactly what the caps fail to cover")
     } else {
-        demand(cut == 0, "receivers are cut only if all payers are capped")?;
+        demand(shortfall == 0, "there is a shortfall only if all payers are capped")?;
         common_rate(&open, &closed, total - caps)
     }
 }
@@ -67,12 +72,38 @@ fn sum(lines: &[Line], field: impl Fn(&Line) -> u128) -> u128 {
     lines.iter().map(field).sum()
 }
 
+/// Li brought to fen, half a fen upward.
+fn fen(li: u128) -> u128 {
+    (li + 5) / 10
+}
+
+/// Whether a part of an amount is within a fen of what a weight gets of it, all weights together being `all`.
+fn within_a_fen(part: u128, amount: u128, weight: u128, all: u128) -> bool {
+    all == 0 && part == 0 || (part * all).abs_diff(amount * weight) < all
+}
+
+/// Whether a line was called in a tier that has a price.
+fn priced(line: &Line, prices: [u128; 2]) -> bool {
+    (0..2).any(|tier| line.called[tier] > 0 && prices[tier] > 0)
+}
+
 /// Who delivered sets the price and is paid by it: a kWh at the lowest bid, 100 li, already comes to 10 fen.
 fn prices(lines: &[Line], prices: [u128; 2]) -> Result<(), String> {
-    let priced = |line: &Line| (0..2).any(|tier| line.called[tier] > 0 && prices[tier] > 0);
-    demand(lines.iter().all(|line| line.compensation == 0 || priced(line)), "nobody is paid where there is no price")?;
+    let due = |line: &Line| line.compensation == 0 || priced(line, prices);
+    demand(lines.iter().all(due), "nobody is paid where there is no price")?;
     let paid = |tier: usize| lines.iter().any(|line| line.called[tier] > 0 && line.compensation > 0);
     demand((0..2).all(|tier| prices[tier] == 0 || paid(tier)), "a tier has a price only if a row called there is paid")
+}
+
+/// Who owes a penalty was called, and did not deliver all of it.
+fn penalties(lines: &[Line], prices: [u128; 2]) -> Result<(), String> {
+    let owing = || lines.iter().filter(|line| line.penalty > 0);
+    demand(owing().all(|line| line.compensation == 0), "nobody with a penalty is paid")?;
+    demand(owing().all(|line| line.called != [0, 0]), "nobody has a penalty who was not called")?;
+    demand(owing().all(|line| priced(line, prices)), "nobody has a penalty where there is no price")?;
+    let called = |line: &Line| line.called[0] * prices[0] + line.called[1] * prices[1];
+    let within = |line: &Line| line.penalty <= fen(2 * called(line));
+    demand(owing().all(within), "a penalty is at most twice the price of all that was called")
 }
 
 /// What holds of payments and cuts whoever is capped.
@@ -81,8 +112,26 @@ fn books(lines: &[Line]) -> Result<(), String> {
     demand(lines.iter().all(|line| line.paid <= line.cap), "no payer pays above its cap")?;
     demand(lines.iter().all(|line| line.weight > 0 || line.paid == 0), "a weight of 0 pays nothing")?;
     demand(lines.iter().all(|line| line.weight == 0 || line.compensation == 0), "no payer receives")?;
-    let kept = sum(lines, |line| line.compensation) - sum(lines, |line| line.cut);
-    demand(sum(lines, |line| line.paid) == kept, "what payers pay equals what receivers keep")
+    demand(lines.iter().all(|line| line.returned <= line.penalty), "nobody is returned more than its penalty")?;
+    let owed = sum(lines, |line| line.paid + line.penalty - line.returned);
+    let kept = sum(lines, |line| line.compensation - line.cut);
+    demand(owed == kept, "what payers pay and penalties leave equals what receivers keep")
+}
+
+/// Penalties fill the shortfall. Cuts share what is still missing, and what is over goes back by the penalties.
+fn penalty_money_first(lines: &[Line], shortfall: u128) -> Result<(), String> {
+    let (penalties, compensations) = (sum(lines, |line| line.penalty), sum(lines, |line| line.compensation));
+    let (missing, over) = (shortfall.saturating_sub(penalties), penalties.saturating_sub(shortfall));
+    let nobody_cut = lines.iter().all(|line| line.cut == 0);
+    demand(nobody_cut || penalties < shortfall, "receivers are cut only if penalties are below the shortfall")?;
+    demand(sum(lines, |line| line.cut) == missing, "the cuts add up to the shortfall less the penalties")?;
+    let cut = |line: &Line| within_a_fen(line.cut, missing, line.compensation, compensations);
+    demand(lines.iter().all(cut), "each receiver is cut within a fen of its part")?;
+    let whole = lines.iter().all(|line| line.returned == line.penalty);
+    demand(whole || shortfall > 0, "without a shortfall every penalty is returned whole")?;
+    demand(sum(lines, |line| line.returned) == over, "what is returned adds up to the penalties less the shortfall")?;
+    let returned = |line: &Line| within_a_fen(line.returned, over, line.penalty, penalties);
+    demand(lines.iter().all(returned), "each penalty is returned within a fen of its part")
 }
 
 /// Rounds are those in which a payer reached its cap: no more than the payers of weight above 0, nor than the capped ones.
@@ -100,8 +149,8 @@ fn numbering(lines: &[Line], rounds: u128) -> Result<(), String> {
 /// The rate is `rest` for the sum of the open weights; every open and every capped payer is checked against it.
 fn common_rate(open: &[&Line], closed: &[&Line], rest: u128) -> Result<(), String> {
     let weight: u128 = open.iter().map(|line| line.weight).sum();
-    let within_a_fen = |line: &&Line| (line.paid * weight).abs_diff(rest * line.weight) < weight;
-    demand(open.iter().all(within_a_fen), "open payers are within a fen of one rate")?;
+    let at_rate = |line: &&Line| within_a_fen(line.paid, rest, line.weight, weight);
+    demand(open.iter().all(at_rate), "open payers are within a fen of one rate")?;
     let below = |line: &&Line| rest * line.weight < line.cap * weight;
     demand(open.iter().all(below), "at that rate each open payer owes less than its cap")?;
     demand(!closed.iter().any(below), "at that rate each capped payer owes at least its cap")

@@ -11,6 +11,8 @@ mod many_rounds;
 pub mod random;
 pub mod refused;
 
+use file::{LINE, STATEMENT_HEAD};
+
 /// The answer of an engine: bytes written, or a refusal's number and place.
 pub type Answer = Result<usize, (u8, u16)>;
 
@@ -52,8 +54,12 @@ pub fn pattern(length: usize) -> Vec<u8> {
     (0..length).map(|place| (place * 37 % 251) as u8 + 1).collect()
 }
 
+/// How far from the needed length every length is tried: a line and a little.
+const NEAR: usize = LINE + 2;
+
 /// Lengths of buffer worth trying where a number of bytes is needed: none, few, and all near the edge.
 pub fn lengths_near(needed: usize) -> impl Iterator<Item = usize> {
-    let near = needed.saturating_sub(36)..=needed + 36;
-    [0, 1, 34, 35, 36].into_iter().filter(move |length| *length + 36 < needed).chain(near)
+    let near = needed.saturating_sub(NEAR)..=needed + NEAR;
+    let few = [0, 1, STATEMENT_HEAD - 1, STATEMENT_HEAD, STATEMENT_HEAD + 1];
+    few.into_iter().filter(move |length| *length + NEAR < needed).chain(near)
 }

@@ -2,6 +2,7 @@
 //!
 //! Each trial is drawn from the run's seed and its own number, so that one alone can be repeated.
 
+use cases::file::{CORRECTION_HEAD, INTERVAL_HEAD, LINE, ROW, STATEMENT_HEAD};
 use cases::random::Random;
 use cases::{Answer, Case, Outcome, accepted, demands, lengths_near, pattern, refused};
 
@@ -31,8 +32,15 @@ pub struct Tally {
     pub rewritten: u64,
     /// Settlements in which a row that was called but did not deliver bid above a tier's price.
     pub outbid: u64,
-    /// Settlements whose calls, payments and cuts are others than by the lower id.
-    pub turned: [u64; 3],
+    /// Settlements with a penalty above 0.
+    pub penalised: u64,
+    /// Of these, the ones in which penalties fill a shortfall, wholly or in part; in which somebody is cut all the same; and in
+    /// which something is returned.
+    pub filled: u64,
+    pub still_cut: u64,
+    pub returned: u64,
+    /// Settlements whose calls, payments, cuts and returned penalties are others than by the lower id.
+    pub turned: [u64; 4],
 }
 
 impl Tally {
@@ -46,6 +54,10 @@ impl Tally {
         self.rows_copied += other.rows_copied;
         self.rewritten += other.rewritten;
         self.outbid += other.outbid;
+        self.penalised += other.penalised;
+        self.filled += other.filled;
+        self.still_cut += other.still_cut;
+        self.returned += other.returned;
         self.turned.iter_mut().zip(other.turned).for_each(|(sum, more)| *sum += more);
     }
 }
@@ -64,7 +76,8 @@ pub fn trial(seed: u64, number: u64, tally: &mut Tally) -> Result<(), String> {
     let mut random = Random::from_seed(seed << 32 ^ number);
     let mut case = drawn(&mut random);
     if random.once_in(4) {
-        case.buffer = near(&mut random, 35 + case.interval.len().saturating_sub(15) / 21 * 34);
+        let rows = case.interval.len().saturating_sub(INTERVAL_HEAD) / ROW;
+        case.buffer = near(&mut random, STATEMENT_HEAD + LINE * rows);
     }
     let outcome = same(&case, "settle", settle, reference::settle)?;
     match outcome.answer {
@@ -73,6 +86,7 @@ pub fn trial(seed: u64, number: u64, tally: &mut Tally) -> Result<(), String> {
             demands::check(statement).map_err(|what| format!("{what} ({})", case.name))?;
             tally.settled += 1;
             tally.outbid += u64::from(outbid(&case.interval, statement)?);
+            count_penalties(statement, tally);
             tally.turned.iter_mut().zip(turned(&case, statement)).for_each(|(sum, is)| *sum += u64::from(is));
         }
         Err((number, _)) => tally.refused[usize::from(number)] += 1,
@@ -88,20 +102,36 @@ pub fn trial(seed: u64, number: u64, tally: &mut Tally) -> Result<(), String> {
 
 /// Whether a price is below the highest bid called in its tier, as it never was before request 1; above it no price may be.
 fn outbid(interval: &[u8], statement: &[u8]) -> Result<bool, String> {
-    let number = |bytes: &[u8], at: usize| u16::from_le_bytes([bytes[at], bytes[at + 1]]);
-    let highest = |bid: usize, called: usize| {
-        let rows = interval[15..].chunks_exact(21).zip(statement[35..].chunks_exact(34));
-        rows.filter(|(_, line)| line[called..called + 4] != [0; 4]).map(|(row, _)| number(row, bid)).max().unwrap_or(0)
-    };
-    let (prices, called) = ([number(statement, 7), number(statement, 9)], [highest(17, 4), highest(19, 8)]);
-    if (0..2).any(|tier| prices[tier] > called[tier]) {
-        return Err(format!("prices {prices:?} above the bids called, {called:?}"));
+    let bid = |row: &[u8], at: usize| u16::from_le_bytes([row[at], row[at + 1]]);
+    let mut highest = [0; 2];
+    for (row, line) in interval[INTERVAL_HEAD..].chunks_exact(ROW).zip(wheatrudder::lines(statement)) {
+        let bids = [bid(row, 17), bid(row, 19)];
+        for tier in (0..2).filter(|&tier| line.called[tier] > 0) {
+            highest[tier] = bids[tier].max(highest[tier]);
+        }
     }
-    Ok(prices != called)
+    let prices = wheatrudder::head(statement).expect("a statement has a head").prices;
+    if (0..2).any(|tier| prices[tier] > highest[tier]) {
+        return Err(format!("prices {prices:?} above the bids called, {highest:?}"));
+    }
+    Ok(prices != highest)
 }
 
-/// Whether calls, payments and cuts are others than at quarter 0, where leftovers go to the lower id as before request 2.
-fn turned(case: &Case, statement: &[u8]) -> [bool; 3] {
+/// Puts a settlement with penalties into the tally.
+fn count_penalties(statement: &[u8], tally: &mut Tally) {
+    if wheatrudder::lines(statement).all(|line| line.penalty == 0) {
+        return;
+    }
+    let shortfall = wheatrudder::head(statement).expect("a statement has a head").shortfall;
+    tally.penalised += 1;
+    tally.filled += u64::from(shortfall > 0);
+    tally.still_cut += u64::from(wheatrudder::lines(statement).any(|line| line.cut > 0));
+    tally.returned += u64::from(wheatrudder::lines(statement).any(|line| line.returned > 0));
+}
+
+/// Whether calls, payments, cuts and returned penalties are others than at quarter 0, where leftovers go to the lower id as before
+/// request 2.
+fn turned(case: &Case, statement: &[u8]) -> [bool; 4] {
     let at_quarter_0 = |file: &[u8]| {
         let mut file = file.to_vec();
         file.get_mut(6).into_iter().for_each(|quarter| *quarter = 0);
@@ -110,10 +140,14 @@ fn turned(case: &Case, statement: &[u8]) -> [bool; 3] {
     let mut before = vec![0; statement.len()];
     reference::settle(&at_quarter_0(&case.interval), &at_quarter_0(&case.correction), &mut before)
         .expect("a pair is accepted at any quarter");
-    [4..12, 28..32, 16..20].map(|field| {
-        let mut lines = statement[35..].chunks_exact(34).zip(before[35..].chunks_exact(34));
-        lines.any(|(line, before)| line[field.clone()] != before[field.clone()])
-    })
+    let mut turned = [false; 4];
+    for (line, before) in wheatrudder::lines(statement).zip(wheatrudder::lines(&before)) {
+        turned[0] |= line.called != before.called;
+        turned[1] |= line.paid != before.paid;
+        turned[2] |= line.cut != before.cut;
+        turned[3] |= line.returned != before.returned;
+    }
+    turned
 }
 
 /// Accepted files, files with faults put in, and files damaged without a plan.
@@ -159,11 +193,11 @@ pub fn same(
 /// A few ids that the files name, and some that hardly any does.
 fn ids(random: &mut Random, case: &Case) -> Vec<u16> {
     let named = |file: &[u8], head: usize| -> Vec<u16> {
-        let rows = file.get(head..).unwrap_or_default().chunks_exact(21);
+        let rows = file.get(head..).unwrap_or_default().chunks_exact(ROW);
         rows.map(|row| u16::from_le_bytes([row[2], row[3]])).collect()
     };
     let mut ids = vec![0, 1, u16::MAX, random.within(0..=65_535) as u16];
-    for file_ids in [named(&case.interval, 15), named(&case.correction, 9)] {
+    for file_ids in [named(&case.interval, INTERVAL_HEAD), named(&case.correction, CORRECTION_HEAD)] {
         ids.extend((0..3).filter(|_| !file_ids.is_empty()).map(|_| random.one_of(&file_ids)));
     }
     ids
@@ -172,7 +206,7 @@ fn ids(random: &mut Random, case: &Case) -> Vec<u16> {
 /// One row by the engine and by the reference, into a buffer of some length; whether bytes were copied.
 fn same_row(random: &mut Random, case: &Case, id: u16) -> Result<bool, String> {
     let part = reference::counting_row(&case.interval, &case.correction, id);
-    let before = pattern(random.one_of(&[0, 1, 20, 21, 21, 21, 22, 40]));
+    let before = pattern(random.one_of(&[0, 1, ROW - 1, ROW, ROW, ROW, ROW + 1, 40]));
     let mut out = before.clone();
     let answer = plain(wheatrudder::row(&case.interval, &case.correction, id, &mut out));
     let mut due = before;

@@ -3,7 +3,7 @@
 //! `SEED=n` repeats a run, `TRIALS=n` makes it longer; a failure prints its trial and its seed, and
 //! `SEED=n TRIAL=m cargo test one_trial` repeats it alone.
 
-use cases::file::{Interval, Row};
+use cases::file::{INTERVAL_HEAD, Interval, LINE, ROW, Row, STATEMENT_HEAD};
 use cases::ladder::{self, ladder};
 use cases::random::Random;
 use cases::{Case, accepted, demands, lengths_near, refused};
@@ -28,10 +28,18 @@ fn the_engine_answers_as_the_reference() {
     });
     println!("seed {seed}: {} files, {tally:?}", tally.trials());
     assert_eq!(tally.trials(), trials);
-    // A run that settled or refused too little would show nothing.
-    assert!(trials < 20_000 || (tally.settled > trials / 4 && tally.refused[1..].iter().all(|&count| count > 0)));
-    assert!(trials < 20_000 || tally.outbid > tally.settled / 5);
-    assert!(trials < 20_000 || tally.turned.iter().all(|&count| count > tally.settled / 25));
+    if trials >= 20_000 {
+        enough(&tally);
+    }
+}
+
+/// A run that met too little of something would show nothing of it.
+fn enough(tally: &Tally) {
+    assert!(tally.settled > tally.trials() / 4 && tally.refused[1..].iter().all(|&count| count > 0));
+    assert!(tally.outbid > tally.settled / 5);
+    assert!(tally.penalised > tally.settled / 8 && tally.filled > tally.settled / 10);
+    assert!(tally.still_cut > tally.settled / 20 && tally.returned > tally.settled / 20);
+    assert!(tally.turned.iter().all(|&count| count > tally.settled / 40));
 }
 
 #[test]
@@ -67,11 +75,11 @@ fn buffers_of_every_length_near_the_needed_one() {
     let mut random = Random::from_seed(seed);
     for _ in 0..40 {
         let mut case = accepted::case(&mut random);
-        let rows = (case.interval.len() - 15) / 21;
-        for length in lengths_near(35 + 34 * rows) {
+        let needed = STATEMENT_HEAD + LINE * ((case.interval.len() - INTERVAL_HEAD) / ROW);
+        for length in lengths_near(needed) {
             case.buffer = length;
             let outcome = same(&case, "settle", settle, reference::settle).unwrap_or_else(|what| panic!("{what}"));
-            let due = if length < 35 + 34 * rows { Err((11, 0)) } else { Ok(35 + 34 * rows) };
+            let due = if length < needed { Err((11, 0)) } else { Ok(needed) };
             assert_eq!(outcome.answer, due, "{} of seed {seed}", case.name);
         }
         for length in lengths_near(case.interval.len()) {
@@ -119,6 +127,19 @@ fn figures_are_read_from_a_statement() {
     assert_eq!((head.total, head.shortfall, head.rounds, head.rows), (90_000, 0, 1, 3));
     let paid: Vec<(u16, u32)> = wheatrudder::lines(&statement).map(|line| (line.id, line.paid)).collect();
     assert_eq!(paid, [(1, 0), (2, 65_000), (3, 25_000)]);
+}
+
+#[test]
+fn a_penalty_fills_the_shortfall_and_the_rest_is_returned() {
+    let mut interval = Interval::x(1300);
+    interval.need = 9_000;
+    interval.rows[1] = Row::thermal(2, 100, 9_000).offering(8_000, 300, 500).with_status(2);
+    let mut statement = vec![0; interval.statement_length()];
+    wheatrudder::settle(&interval.bytes(), &[], &mut statement).expect("accepted");
+    assert_eq!(wheatrudder::head(&statement).expect("a head").shortfall, 57_500);
+    let figures: Vec<[u32; 3]> =
+        wheatrudder::lines(&statement).map(|line| [line.cut, line.penalty, line.returned]).collect();
+    assert_eq!(figures, [[0, 0, 0], [0, 80_000, 22_500], [0, 0, 0]]);
 }
 
 #[test]

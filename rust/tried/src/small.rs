@@ -1,7 +1,10 @@
 //! Intervals of 0 to 5 rows, chosen so that every rule and every refusal is met at least once.
 
 use cases::Case;
-use cases::file::{Correction, Interval, Row};
+use cases::file::{Correction, Interval, LINE, Row, STATEMENT_HEAD};
+
+/// Length of the statement of interval X.
+const X_STATEMENT: usize = STATEMENT_HEAD + 3 * LINE;
 
 /// The cases of every group, each under a name of its own.
 pub fn cases() -> Vec<Case> {
@@ -12,6 +15,7 @@ pub fn cases() -> Vec<Case> {
         pay(),
         rounds(),
         turns(),
+        penalties(),
         corrections(),
         interval_faults(),
         correction_faults(),
@@ -38,6 +42,11 @@ fn x_with(change: impl FnOnce(&mut Interval)) -> Interval {
     let mut interval = Interval::x(1300);
     change(&mut interval);
     interval
+}
+
+/// Row 1 of interval X at tariff 1300, another row beside it, and X's wind farm; all that is offered is called.
+fn x_beside(row: Row) -> Interval {
+    x_with(|x| (x.need, x.rows[1]) = (9_000, row))
 }
 
 /// P1 to P5, and the figures of document 01 that are only run.
@@ -112,7 +121,6 @@ fn calls() -> Vec<Case> {
 
 /// Who sets a price: row 1 of interval X delivers in both tiers unless changed, and a dearer row beside it is called in full too.
 fn prices() -> Vec<Case> {
-    let beside = |dearer: Row| x_with(|x| (x.need, x.rows[1]) = (9_000, dearer));
     let dearer = |metered| Row::thermal(2, 100, metered).offering(8_000, 300, 500);
     let tied = |need| {
         x_with(|x| {
@@ -128,10 +136,10 @@ fn prices() -> Vec<Case> {
         case("one of two at a bid delivers", &tied(100)),
     ];
     for metered in [0, 9_999, 10_000, 12_499, 12_500, 20_000] {
-        cases.push(case(format!("the dearer row metered {metered}"), &beside(dearer(metered))));
+        cases.push(case(format!("the dearer row metered {metered}"), &x_beside(dearer(metered))));
     }
     for status in [1, 2, 3] {
-        cases.push(case(format!("the dearer row of status {status}"), &beside(dearer(9_000).with_status(status))));
+        cases.push(case(format!("the dearer row of status {status}"), &x_beside(dearer(9_000).with_status(status))));
         cases.push(case(format!("row 1 of status {status}"), &x_with(|x| x.rows[0].status = status)));
     }
     cases
@@ -277,6 +285,75 @@ fn turns() -> Vec<Case> {
     cases
 }
 
+/// Who owes a penalty, and what it fills of a shortfall. Unless changed, row 1 of interval X gets 90,000 fen, and row 2 beside it
+/// is reduced and called in full, for 2,500 and 2,000 kWh.
+fn penalties() -> Vec<Case> {
+    let offer = |metered| Row::thermal(2, 100, metered).offering(8_000, 300, 500);
+    let reduced = |tariff, metered| Interval { tariff, ..x_beside(offer(metered).with_status(2)) };
+    let no_price = vec![offer(12_499).with_status(2), Row::wind(3, 100, 5_000)];
+    let mut one_price = reduced(1300, 11_000);
+    one_price.rows[0].metered = 11_000;
+    let mut cases = vec![
+        case("reduced, more in tier 1 than was called", &Interval { need: 3_500, ..reduced(1300, 11_000) }),
+        case("reduced, more in tier 2 than was called", &Interval { need: 7_500, ..reduced(1300, 9_000) }),
+        case("reduced, not called", &Interval { need: 2_500, ..reduced(1300, 12_000) }),
+        case("reduced, not offering", &x_beside(Row::thermal(2, 100, 12_000).with_status(2))),
+        case("reduced, nobody delivered", &Interval::new(1300, 4_500, no_price)),
+        case("reduced, nobody delivered in tier 2", &one_price),
+        case("reduced, the payer meets its cap exactly", &reduced(3600, 9_000)),
+        case("reduced, the payer stays open", &reduced(3601, 9_000)),
+        case("reduced and paying, all capped", &reduced(1000, 20_000)),
+    ];
+    for metered in [8_000, 9_500, 10_000, 11_000, 12_499, 12_500, 12_501, 20_000] {
+        cases.push(case(format!("reduced, metered {metered}"), &reduced(1300, metered)));
+    }
+    // 60,000 fen are missing, and a kWh short in tier 2 costs 80.
+    for metered in [8_001, 8_749, 8_750, 8_751] {
+        cases.push(case(format!("60000 fen missing, metered {metered}"), &reduced(1200, metered)));
+    }
+    for status in [0, 1, 3] {
+        cases.push(case(format!("short in status {status}"), &x_beside(offer(11_000).with_status(status))));
+    }
+    let (normal, reduced) = (x_beside(offer(9_000)), reduced(1300, 9_000));
+    cases.push(corrected("corrected to reduced", &normal, &reduced.correcting(&[1])));
+    cases.push(corrected("corrected from reduced", &reduced, &normal.correcting(&[1])));
+    [cases, small_penalties(), returned()].concat()
+}
+
+/// Penalties of a few fen: 4 li dropped, 6 li rounded up, li doubled before they are rounded, both tiers added before.
+fn small_penalties() -> Vec<Case> {
+    let short = |bids: [u16; 2], metered, minimum| {
+        let offer = |id, metered, minimum| Row::thermal(id, 100, metered).offering(minimum, bids[0], bids[1]);
+        let rows = vec![offer(1, 9_000, 8_000), offer(2, metered, minimum).with_status(2), Row::wind(3, 100, 5_000)];
+        Interval::new(1300, 9_000, rows)
+    };
+    vec![
+        case("a penalty of 204 li", &short([102, 322], 10_001, 10_000)),
+        case("a penalty of 206 li", &short([103, 322], 10_001, 10_000)),
+        case("a penalty of twice 315 li", &short([105, 322], 10_003, 10_000)),
+        case("a penalty of 204 and 644 li", &short([102, 322], 10_001, 9_999)),
+    ]
+}
+
+/// Leftovers of what is returned at several quarters, and two files in which a larger penalty goes with a fen more of one cut.
+fn returned() -> Vec<Case> {
+    let tied = |quarter| {
+        let offer = |id, metered| Row::thermal(id, 100, metered).offering(10_000, 200, 320);
+        let mut rows = vec![offer(1, 12_495)];
+        rows.extend([2, 3, 4].map(|id| offer(id, 10_001).with_status(2)));
+        Interval { quarter, ..Interval::new(1300, 10_000, rows) }
+    };
+    let cut = |short: u32| {
+        let offer = |id, metered| Row::thermal(id, 100, metered).offering(10_000, 105, 320);
+        let receivers = [offer(1, 12_460), offer(2, 12_460), offer(3, 12_499)];
+        let others = [Row::wind(4, 100, 3), offer(5, 10_000 + short).with_status(2)];
+        Interval::new(200, 10_000, [&receivers[..], &others].concat())
+    };
+    let tied = [0, 1, 2, 3, 95].map(|quarter| case(format!("returned tied at quarter {quarter}"), &tied(quarter)));
+    let cuts = [38, 39].map(|short| case(format!("{short} kWh short, others cut"), &cut(short)));
+    [&tied[..], &cuts].concat()
+}
+
 /// Corrections that are accepted, and buffers of several lengths.
 fn corrections() -> Vec<Case> {
     let x = Interval::x(1300);
@@ -303,7 +380,7 @@ fn corrections() -> Vec<Case> {
         ),
         corrected("on the longest day", &dated, &dated.correcting(&[1])),
     ];
-    for buffer in [138, 150, 171] {
+    for buffer in [X_STATEMENT + 1, X_STATEMENT + 13, X_STATEMENT + LINE] {
         cases.push(bytes_case(format!("a buffer of {buffer}"), x.bytes(), Vec::new(), buffer));
     }
     cases.push(bytes_case("no rows in a buffer of 40", x_with(|x| x.rows.clear()).bytes(), Vec::new(), 40));
@@ -313,11 +390,12 @@ fn corrections() -> Vec<Case> {
 /// 1 to 7 and 11, one fault at a time.
 fn interval_faults() -> Vec<Case> {
     let x = Interval::x(1300);
-    let cut = |length: usize| bytes_case(format!("cut to {length}"), x.bytes()[..length].to_vec(), Vec::new(), 137);
+    let cut =
+        |length: usize| bytes_case(format!("cut to {length}"), x.bytes()[..length].to_vec(), Vec::new(), X_STATEMENT);
     let mut cases = vec![cut(0), cut(1), cut(14), cut(15), cut(77)];
     let mut head = |name: &str, change: &dyn Fn(&mut Interval)| {
         let changed = x_with(change);
-        cases.push(bytes_case(name, changed.bytes(), Vec::new(), 137));
+        cases.push(bytes_case(name, changed.bytes(), Vec::new(), X_STATEMENT));
     };
     head("head mark PK", &|x| x.mark = *b"PK");
     head("head mark QH", &|x| x.mark = *b"QH");
@@ -351,11 +429,12 @@ fn interval_faults() -> Vec<Case> {
     head("ids falling", &|x| x.rows[2].id = 1);
     let mut longer = x.bytes();
     longer.push(0);
-    cases.push(bytes_case("a byte too many", longer, Vec::new(), 137));
-    for buffer in [0, 35, 136] {
+    cases.push(bytes_case("a byte too many", longer, Vec::new(), X_STATEMENT));
+    for buffer in [0, STATEMENT_HEAD, X_STATEMENT - 1] {
         cases.push(bytes_case(format!("a buffer of {buffer}"), x.bytes(), Vec::new(), buffer));
     }
-    cases.push(bytes_case("no rows in a buffer of 34", x_with(|x| x.rows.clear()).bytes(), Vec::new(), 34));
+    let no_rows = x_with(|x| x.rows.clear()).bytes();
+    cases.push(bytes_case("no rows in a buffer that is a byte short", no_rows, Vec::new(), STATEMENT_HEAD - 1));
     cases
 }
 
@@ -364,7 +443,7 @@ fn correction_faults() -> Vec<Case> {
     let x = Interval::x(1300);
     let good = x.correcting(&[0, 1, 2]);
     let cut = |length: usize| {
-        bytes_case(format!("correction cut to {length}"), x.bytes(), good.bytes()[..length].to_vec(), 137)
+        bytes_case(format!("correction cut to {length}"), x.bytes(), good.bytes()[..length].to_vec(), X_STATEMENT)
     };
     let mut cases = vec![cut(1), cut(8), cut(9), cut(71)];
     let mut faulty = |name: &str, change: &dyn Fn(&mut Correction)| {
@@ -415,26 +494,26 @@ fn several_faults() -> Vec<Case> {
         change(&mut interval, &mut correction);
         cases.push(bytes_case(name, interval.bytes(), correction.bytes(), buffer));
     };
-    faulty("2 before 3", 137, &|x, _| (x.mark, x.tariff) = (*b"PX", 0));
-    faulty("3 before 4", 137, &|x, _| (x.day, x.count) = (36_525, Some(1)));
-    faulty("3 before 4 by the count", 137, &|x, _| x.count = Some(300));
-    faulty("4 before 5", 137, &|x, _| (x.count, x.rows[0].mark) = (Some(4), *b"XX"));
-    faulty("6 of row 1 before 5 of row 2", 137, &|x, _| (x.rows[0].kind, x.rows[1].mark) = (9, *b"XX"));
-    faulty("7 of row 2 before 5 of row 3", 137, &|x, _| (x.rows[1].id, x.rows[2].mark) = (1, *b"XX"));
-    faulty("5 before 6 and 7", 137, &|x, _| x.rows[1] = Row { mark: *b"XX", id: 1, kind: 9, ..x.rows[1] });
-    faulty("6 before 7", 137, &|x, _| x.rows[1] = Row { id: 1, kind: 9, ..x.rows[1] });
-    faulty("id 0 in row 2 is 6", 137, &|x, _| x.rows[1].id = 0);
-    faulty("7 before 8", 137, &|x, k| (x.rows[2].id, k.mark) = (2, *b"XX"));
-    faulty("8 by its length before its rows", 137, &|_, k| (k.count, k.rows[0].mark) = (Some(2), *b"XX"));
-    faulty("8 by its day before its rows", 137, &|_, k| (k.day, k.rows[0].mark) = (36_525, *b"XX"));
-    faulty("8 of row 1 before row 2", 137, &|_, k| (k.rows[0].id, k.rows[1].mark) = (0, *b"XX"));
-    faulty("8 of row 3 before 9", 137, &|_, k| (k.day, k.rows[2].status) = (1, 1));
-    faulty("8 of row 3 before 10 of row 1", 137, &|_, k| (k.rows[0].bids[0], k.rows[2].status) = (201, 1));
-    faulty("9 before 10", 137, &|_, k| (k.quarter, k.rows[0].bids[0]) = (1, 201));
-    faulty("10 of row 2 before row 3", 137, &|_, k| (k.rows[1].capacity, k.rows[2].id) = (101, 4));
-    faulty("10 before 11", 136, &|_, k| k.rows[2].kind = 3);
-    faulty("11 last", 136, &|_, _| ());
-    faulty("8 with an interval that is too short", 137, &|x, k| {
+    faulty("2 before 3", X_STATEMENT, &|x, _| (x.mark, x.tariff) = (*b"PX", 0));
+    faulty("3 before 4", X_STATEMENT, &|x, _| (x.day, x.count) = (36_525, Some(1)));
+    faulty("3 before 4 by the count", X_STATEMENT, &|x, _| x.count = Some(300));
+    faulty("4 before 5", X_STATEMENT, &|x, _| (x.count, x.rows[0].mark) = (Some(4), *b"XX"));
+    faulty("6 of row 1 before 5 of row 2", X_STATEMENT, &|x, _| (x.rows[0].kind, x.rows[1].mark) = (9, *b"XX"));
+    faulty("7 of row 2 before 5 of row 3", X_STATEMENT, &|x, _| (x.rows[1].id, x.rows[2].mark) = (1, *b"XX"));
+    faulty("5 before 6 and 7", X_STATEMENT, &|x, _| x.rows[1] = Row { mark: *b"XX", id: 1, kind: 9, ..x.rows[1] });
+    faulty("6 before 7", X_STATEMENT, &|x, _| x.rows[1] = Row { id: 1, kind: 9, ..x.rows[1] });
+    faulty("id 0 in row 2 is 6", X_STATEMENT, &|x, _| x.rows[1].id = 0);
+    faulty("7 before 8", X_STATEMENT, &|x, k| (x.rows[2].id, k.mark) = (2, *b"XX"));
+    faulty("8 by its length before its rows", X_STATEMENT, &|_, k| (k.count, k.rows[0].mark) = (Some(2), *b"XX"));
+    faulty("8 by its day before its rows", X_STATEMENT, &|_, k| (k.day, k.rows[0].mark) = (36_525, *b"XX"));
+    faulty("8 of row 1 before row 2", X_STATEMENT, &|_, k| (k.rows[0].id, k.rows[1].mark) = (0, *b"XX"));
+    faulty("8 of row 3 before 9", X_STATEMENT, &|_, k| (k.day, k.rows[2].status) = (1, 1));
+    faulty("8 of row 3 before 10 of row 1", X_STATEMENT, &|_, k| (k.rows[0].bids[0], k.rows[2].status) = (201, 1));
+    faulty("9 before 10", X_STATEMENT, &|_, k| (k.quarter, k.rows[0].bids[0]) = (1, 201));
+    faulty("10 of row 2 before row 3", X_STATEMENT, &|_, k| (k.rows[1].capacity, k.rows[2].id) = (101, 4));
+    faulty("10 before 11", X_STATEMENT - 1, &|_, k| k.rows[2].kind = 3);
+    faulty("11 last", X_STATEMENT - 1, &|_, _| ());
+    faulty("8 with an interval that is too short", X_STATEMENT, &|x, k| {
         (x.rows, x.count, k.mark) = (Vec::new(), Some(3), *b"XX");
     });
     cases

@@ -2,6 +2,7 @@
 //!
 //! `SEED=n` repeats a run, `TRIALS=n` makes it longer.
 
+use cases::file::{INTERVAL_HEAD, LINE, ROW, STATEMENT_HEAD};
 use cases::ladder::{self, ladder};
 use cases::random::Random;
 use cases::refused::{self, Fault, HeadField};
@@ -122,7 +123,7 @@ fn buffers_of_every_length_near_the_needed_one() {
     let mut random = Random::from_seed(seed);
     for _ in 0..40 {
         let mut case = accepted::case(&mut random);
-        let needed = 35 + (case.interval.len() - 15) / 21 * 34;
+        let needed = STATEMENT_HEAD + LINE * ((case.interval.len() - INTERVAL_HEAD) / ROW);
         for length in lengths_near(needed) {
             case.buffer = length;
             let due = if length < needed { Err((11, 0)) } else { Ok(needed) };
@@ -177,11 +178,12 @@ fn a_changed_figure_fails_the_demands() {
         let case = accepted::case(&mut random);
         let outcome = run(&case, seed);
         let statement = &outcome.buffer[..outcome.answer.expect("accepted")];
-        // Total, shortfall and rounds in the head; compensation, cut and paid in a line.
+        // Total, shortfall and rounds in the head; compensation, cut, paid, penalty and returned in a line.
         let mut places = vec![11, 19, 27];
-        if statement.len() > 35 {
-            let line = 35 + 34 * random.below((statement.len() - 35) / 34);
-            places.extend([12, 16, 28].map(|field| line + field));
+        let rows = (statement.len() - STATEMENT_HEAD) / LINE;
+        if rows > 0 {
+            let line = STATEMENT_HEAD + LINE * random.below(rows);
+            places.extend([12, 16, 28, 34, 38].map(|field| line + field));
         }
         for place in places {
             let mut changed = statement.to_vec();

@@ -1,7 +1,7 @@
 //! A statement's bytes as figures: money in fen, energy in kWh, prices in li for each kWh.
 
 pub const STATEMENT_HEAD: usize = 35;
-pub const LINE: usize = 34;
+pub const LINE: usize = 42;
 
 #[derive(Clone, Copy, Debug, PartialEq, Eq)]
 pub struct Head {
@@ -13,7 +13,7 @@ pub struct Head {
     pub prices: [u16; 2],
     /// The compensations of all rows together.
     pub total: u64,
-    /// What the payers' caps leave uncovered of the total.
+    /// What the payers' caps leave uncovered of the total, before penalties.
     pub shortfall: u64,
     /// The rounds in which a payer reached its cap.
     pub rounds: u16,
@@ -31,7 +31,7 @@ pub struct Line {
     pub called: [u32; 2],
     /// What it is paid before any cut.
     pub compensation: u32,
-    /// Its part of the shortfall.
+    /// Its part of what caps and penalties leave open.
     pub cut: u32,
     /// The energy by which it shares the bill.
     pub weight: u32,
@@ -40,6 +40,10 @@ pub struct Line {
     pub paid: u32,
     /// The round in which it reached its cap, or 0.
     pub closing: u16,
+    /// What it owes for energy that it was called for and, reduced for reasons of its own, did not deliver.
+    pub penalty: u32,
+    /// Its part of the penalties that no shortfall needed.
+    pub returned: u32,
 }
 
 fn u16_at(bytes: &[u8], at: usize) -> u16 {
@@ -85,6 +89,8 @@ pub fn lines(statement: &[u8]) -> impl Iterator<Item = Line> {
         cap: u32_at(line, 24),
         paid: u32_at(line, 28),
         closing: u16_at(line, 32),
+        penalty: u32_at(line, 34),
+        returned: u32_at(line, 38),
     })
 }
 
@@ -106,8 +112,10 @@ mod tests {
         let fields = [0x1020_3040, 95, 320, 750, 0x0102_0304_0506_0708, 0x1112_1314_1516_1718, 27, 0x2122_2324, 2];
         let mut bytes = record(b"PS", &fields.into_iter().zip(widths).collect::<Vec<_>>());
         for id in [7, 0x0908] {
-            let fields = [id, 0x3132_3334, 42, 0x4142_4344, 44, 0x5152_5354, 46, 0x6162_6364, 0x7172];
-            bytes.extend(record(b"PL", &fields.into_iter().zip([2, 4, 4, 4, 4, 4, 4, 4, 2]).collect::<Vec<_>>()));
+            let widths = [2, 4, 4, 4, 4, 4, 4, 4, 2, 4, 4];
+            let fields =
+                [id, 0x3132_3334, 42, 0x4142_4344, 44, 0x5152_5354, 46, 0x6162_6364, 0x7172, 0x8182_8384, 0x9192_9394];
+            bytes.extend(record(b"PL", &fields.into_iter().zip(widths).collect::<Vec<_>>()));
         }
         bytes
     }
@@ -134,6 +142,8 @@ mod tests {
             cap: 46,
             paid: 0x6162_6364,
             closing: 0x7172,
+            penalty: 0x8182_8384,
+            returned: 0x9192_9394,
         };
         assert_eq!(lines(&statement()).collect::<Vec<_>>(), [line(7), line(0x0908)]);
     }

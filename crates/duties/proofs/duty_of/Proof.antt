@@ -16,6 +16,12 @@ energy1-requires c κs = search needs
 energy2-requires : tie.Need-energy2-requires
 energy2-requires c κs = search needs
 
+credit1-requires : tie.Need-credit1-requires
+credit1-requires c κs = search needs
+
+credit2-requires : tie.Need-credit2-requires
+credit2-requires c κs = search needs
+
 weight-requires : tie.Need-weight-requires
 weight-requires c κs = search needs
 
@@ -33,6 +39,8 @@ duty-of-spec =
     width2-requires
     energy1-requires
     energy2-requires
+    credit1-requires
+    credit2-requires
     weight-requires
     cap-requires
     returns)

@@ -24,6 +24,9 @@ mul-tell-record c = search needs
 add-tell-record : tie.Need-add-tell-record Inv-loop μ-loop
 add-tell-record c = search needs
 
+slice-aggregate-tell-record : tie.Need-slice-aggregate-tell-record Inv-loop μ-loop
+slice-aggregate-tell-record c = search needs
+
 tell-record-requires : tie.Need-tell-record-requires Inv-loop μ-loop
 tell-record-requires c κs = search needs
 
@@ -51,6 +54,7 @@ tell-lines-spec =
     loop-holds
     mul-tell-record
     add-tell-record
+    slice-aggregate-tell-record
     tell-record-requires
     add-i
     loop-less

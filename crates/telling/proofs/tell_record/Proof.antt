@@ -1,30 +1,31 @@
--- `telling::tell_record` meets its contract.
-use Rattle.telling.proofs.Printed.{record-placed}
+-- `telling::tell_record` meets its contract: it only lends room for the fields.
+use Rattle.columns.proofs.Table.{front-long}
+use Rattle.telling.proofs.Printed.{fields-lent}
 use borrow.Author.Needs.{needs}
 use Rattle.telling.proofs.tell_record.Statement.{statement}
 use Rattle.telling.proofs.tell_record.Tie as tie
 
-slice-aggregate-get-record : tie.Need-slice-aggregate-get-record
-slice-aggregate-get-record c = search needs
+array-borrow-prefix-fields : tie.Need-array-borrow-prefix-fields
+array-borrow-prefix-fields c = search needs
 
-get-record-requires : tie.Need-get-record-requires
-get-record-requires c κs = search needs
+slice-aggregate-tell-read : tie.Need-slice-aggregate-tell-read
+slice-aggregate-tell-read c = search front-long
 
-tell-fields-requires : tie.Need-tell-fields-requires
-tell-fields-requires c κs = search needs
+tell-read-requires : tie.Need-tell-read-requires
+tell-read-requires c κs = (search needs, (search fields-lent, search needs))
 
 same-length : tie.Need-same-length
 same-length c = search needs
 
 returns : tie.Need-returns
-returns c = search record-placed
+returns c = search needs
 
 pub tell-record-spec : {M : Type 1} → statement M
 tell-record-spec =
     tie.close
     (tie.spec
-    slice-aggregate-get-record
-    get-record-requires
-    tell-fields-requires
+    array-borrow-prefix-fields
+    slice-aggregate-tell-read
+    tell-read-requires
     same-length
     returns)

@@ -4,6 +4,9 @@ use borrow.Author.Needs.{needs}
 use Rattle.telling.proofs.tell_statement.Statement.{statement}
 use Rattle.telling.proofs.tell_statement.Tie as tie
 
+slice-aggregate-tell-record : tie.Need-slice-aggregate-tell-record
+slice-aggregate-tell-record c = search needs
+
 tell-record-requires : tie.Need-tell-record-requires
 tell-record-requires c κs = search needs
 
@@ -22,4 +25,4 @@ returns c = search statement-placed
 pub tell-statement-spec : {M : Type 1} → statement M
 tell-statement-spec =
     tie.close
-    (tie.spec tell-record-requires sub-tell-lines tell-lines-requires same-length returns)
+    (tie.spec slice-aggregate-tell-record tell-record-requires sub-tell-lines tell-lines-requires same-length returns)

@@ -7,7 +7,7 @@ use std::hint::black_box;
 use std::time::Instant;
 
 use cases::accepted::{self, Shape};
-use cases::file::{Interval, Row};
+use cases::file::{Interval, LINE, Row, STATEMENT_HEAD};
 use cases::ladder::{MOST, ladder};
 use cases::random::Random;
 
@@ -45,7 +45,7 @@ fn spread(mut times: Vec<f64>) -> [f64; 3] {
 }
 
 fn measure(name: &str, intervals: &[Vec<u8>]) {
-    let mut statement = vec![0; 35 + 34 * ROWS];
+    let mut statement = vec![0; STATEMENT_HEAD + LINE * ROWS];
     let (mut ours, mut theirs, mut ratios) = (Vec::new(), Vec::new(), Vec::new());
     settle_all(engine, intervals, &mut statement);
     settle_all(reference, intervals, &mut statement);

@@ -37,6 +37,8 @@ fn main() {
     println!("seed {seed}: {} pairs of files in {} s, {rate:.0} a second: no difference", tally.trials(), seconds);
     println!("settled {}, refused by number {:?}", tally.settled, &tally.refused[1..]);
     println!("called bids above the price in {}", tally.outbid);
-    println!("others than by the lower id: calls, payments, cuts in {:?}", tally.turned);
+    println!("penalties in {}, a shortfall that they fill in {}", tally.penalised, tally.filled);
+    println!("somebody cut all the same in {}, something returned in {}", tally.still_cut, tally.returned);
+    println!("others than by the lower id: calls, payments, cuts, returned penalties in {:?}", tally.turned);
     println!("rows copied {}, files rewritten {}", tally.rows_copied, tally.rewritten);
 }

@@ -4,15 +4,17 @@ use std::hint::black_box;
 use std::time::{Duration, Instant};
 
 use cases::accepted::{self, Shape};
+use cases::file::{INTERVAL_HEAD, LINE, ROW, STATEMENT_HEAD};
 use cases::random::Random;
 
 const QUARTERS: u32 = 96;
+const ROWS: u32 = 256;
 
 fn day(shape: Shape, seed: u64) -> Vec<Vec<u8>> {
     let mut random = Random::from_seed(seed);
     let interval = |_| match shape {
         Shape::ManyRounds => accepted::interval(&mut random, shape).bytes(),
-        _ => accepted::interval_of(&mut random, shape, 256).bytes(),
+        _ => accepted::interval_of(&mut random, shape, ROWS).bytes(),
     };
     (0..QUARTERS).map(interval).collect()
 }
@@ -27,12 +29,12 @@ fn settle_all(intervals: &[Vec<u8>], statement: &mut [u8]) -> Duration {
 }
 
 fn main() {
-    let mut statement = vec![0; 35 + 34 * 256];
+    let mut statement = vec![0; STATEMENT_HEAD + LINE * ROWS as usize];
     for shape in
         [Shape::Full, Shape::Edges, Shape::TiedBids, Shape::TiedRemainders, Shape::AllCapped, Shape::ManyRounds]
     {
         let intervals = day(shape, 1);
-        let rows: usize = intervals.iter().map(|interval| (interval.len() - 15) / 21).sum();
+        let rows: usize = intervals.iter().map(|interval| (interval.len() - INTERVAL_HEAD) / ROW).sum();
         let best = (0..200).map(|_| settle_all(&intervals, &mut statement)).min().expect("many rounds");
         let quarter = best.as_nanos() as f64 / f64::from(QUARTERS) / 1_000.0;
         println!("{shape:?}: {quarter:.1} µs a quarter of {} rows on average", rows / QUARTERS as usize);

@@ -1,12 +1,13 @@
 -- `settle::market::compensate` meets its contract: the rows passed are paid.
 use Prim.Native.Nat.{_-_}
 use Rattle.settle.proofs.Paying.{Sofar, sofar-none, line-there, cell-there, total-fits, sofar-more, sofar-long, sofar-all}
+use Rattle.settle.specs.Work.{paying}
 use borrow.Author.Needs.{needs}
 use Rattle.settle.proofs.market.compensate.Statement.{statement}
 use Rattle.settle.proofs.market.compensate.Tie as tie
 
 abbrev Inv-loop : tie.InvT-loop
-Inv-loop n price1 price2 sheet₀ total₀ i₀ sheet total i = Sofar n (price1 .0) (price2 .0) sheet₀ sheet total i
+Inv-loop n price1 price2 sheet₀ total₀ i₀ sheet total i = Sofar paying n (price1 .0) (price2 .0) sheet₀ sheet total i
 
 abbrev μ-loop : tie.MeasureT-loop
 μ-loop n price1 price2 sheet₀ total₀ i₀ sheet total i = n - i
@@ -18,7 +19,9 @@ pay-at-requires : tie.Need-pay-at-requires Inv-loop μ-loop
 pay-at-requires c κs = (search line-there, search needs, search needs)
 
 put-cell-requires : tie.Need-put-cell-requires Inv-loop μ-loop
-put-cell-requires c κs = search cell-there
+put-cell-requires c κs =
+    let test = c .before .before .before in
+    cell-there _ _ _ _ _ (test .before .before .before .pre) _ _ _ (test .before .loop .inv) (test .loop-test .taken)
 
 add-total : tie.Need-add-total Inv-loop μ-loop
 add-total c = record { fits = search total-fits }

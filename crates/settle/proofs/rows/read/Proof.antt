@@ -1,15 +1,19 @@
 -- `settle::rows::read` meets its contract: the lines of the rows passed are put.
 use Prim.Native.Nat.{_-_}
 use Rattle.settle.proofs.Reading.{Sofar, sofar-none, source-inside, source-is, line-room, sofar-more, sofar-long, sofar-all}
+use Rattle.settle.proofs.Answered.{head-there}
 use borrow.Author.Needs.{needs}
 use Rattle.settle.proofs.rows.read.Statement.{statement}
 use Rattle.settle.proofs.rows.read.Tie as tie
 
 abbrev Inv-loop : tie.InvT-loop
-Inv-loop interval correction n tariff sheet₀ sources i₀ sheet i = Sofar n (tariff .0) interval correction sheet₀ sheet i
+Inv-loop interval correction n sheet₀ tariff sources i₀ sheet i = Sofar n (tariff .0) interval correction sheet₀ sheet i
 
 abbrev μ-loop : tie.MeasureT-loop
-μ-loop interval correction n tariff sheet₀ sources i₀ sheet i = n - i
+μ-loop interval correction n sheet₀ tariff sources i₀ sheet i = n - i
+
+head-at-requires : tie.Need-head-at-requires Inv-loop μ-loop
+head-at-requires c κs = search head-there
 
 sources-requires : tie.Need-sources-requires Inv-loop μ-loop
 sources-requires c κs = search needs
@@ -47,6 +51,7 @@ read-spec =
     (tie.spec
     Inv-loop
     μ-loop
+    head-at-requires
     sources-requires
     loop-holds
     mul-read-row

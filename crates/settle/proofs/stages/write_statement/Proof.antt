@@ -3,9 +3,18 @@
 use native.Mathlib.Omega.{arith}
 use borrow.Author.Needs.{needs}
 use Rattle.settle.proofs.Answered.{few-rows, head-there, stated-long}
-use Rattle.settle.proofs.Stated.{asked-trade, asked-pay, asked-levy, asked-cut, head-room, stated}
+use Rattle.settle.proofs.Stated.{asked-trade, asked-pay, asked-levy, asked-owe, asked-divide, head-room, stated}
 use Rattle.settle.proofs.stages.write_statement.Statement.{statement}
 use Rattle.settle.proofs.stages.write_statement.Tie as tie
+
+abbrev before-divide : tie.After-divide → tie.After-cover
+before-divide c = c .before .before
+
+abbrev before-cover : tie.After-cover → tie.After-penalise
+before-cover c = c .before .before .before
+
+abbrev before-penalise : tie.After-penalise → tie.After-shortfall
+before-penalise c = c .before .before
 
 abbrev before-shortfall : tie.After-shortfall → tie.After-collect
 before-shortfall c = c .before .before .before
@@ -16,14 +25,17 @@ before-collect c = c .before .before .before .before
 abbrev before-compensate : tie.After-compensate → tie.After-trade
 before-compensate c = c .before .before .before .before .before .before .before
 
-abbrev before-trade : tie.After-trade → tie.After-read
-before-trade c = c .before .before .before .before
-
-abbrev before-read : tie.After-read → tie.After-first-turn
-before-read c = c .before .before
+abbrev before-trade : tie.After-trade → tie.After-first-turn
+before-trade c = c .before .before
 
 abbrev before-first-turn : tie.After-first-turn → tie.After-head-at
-before-first-turn c = c .before .before .before
+before-first-turn c = c .before .before
+
+abbrev before-head-at : tie.After-head-at → tie.After-read
+before-head-at c = c .before .before .before
+
+read-requires : tie.Need-read-requires
+read-requires c κs = search needs
 
 head-at-requires : tie.Need-head-at-requires
 head-at-requires c κs = search head-there
@@ -31,108 +43,132 @@ head-at-requires c κs = search head-there
 first-turn-requires : tie.Need-first-turn-requires
 first-turn-requires c κs = search needs
 
-read-requires : tie.Need-read-requires
-read-requires c κs = search needs
-
 trade-requires : tie.Need-trade-requires
 trade-requires c κs =
-    let r = c .before .before .before in
-    let o = before-read r in
+    let o = c .before in
     let h = before-first-turn o in
-    let p = h .before .before .before .before .pre in
+    let r = before-head-at h in
+    let p = r .before .before .before .before .before .pre in
     asked-trade _ _ _ (p .0) _ (p .1) _ (h .head-at .ensures) _ (o .first-turn .ensures) _ (r .read .ensures)
 
 compensate-requires : tie.Need-compensate-requires
 compensate-requires c κs =
     let a = c .before .before .before .before .before .before in
-    let r = before-trade a in
-    let o = before-read r in
+    let o = before-trade a in
     let h = before-first-turn o in
-    let p = h .before .before .before .before .pre in
+    let r = before-head-at h in
+    let p = r .before .before .before .before .before .pre in
     asked-pay _ _ _ (p .0) _ (p .1) _ (h .head-at .ensures) _ (o .first-turn .ensures) _ (r .read .ensures) _ _ (a .trade .ensures)
 
 collect-requires : tie.Need-collect-requires
 collect-requires c κs =
     let e = c .before .before .before in
     let a = before-compensate e in
-    let r = before-trade a in
-    let o = before-read r in
+    let o = before-trade a in
     let h = before-first-turn o in
-    let p = h .before .before .before .before .pre in
+    let r = before-head-at h in
+    let p = r .before .before .before .before .before .pre in
     asked-levy _ _ _ (p .0) _ (p .1) _ (h .head-at .ensures) _ (o .first-turn .ensures) _ (r .read .ensures) _ _ (a .trade .ensures) _ _
     (e .compensate .ensures)
 
 shortfall-requires : tie.Need-shortfall-requires
 shortfall-requires c κs = search needs
 
-cut-requires : tie.Need-cut-requires
-cut-requires c κs =
+penalise-requires : tie.Need-penalise-requires
+penalise-requires c κs =
     let q = c .before in
     let g = before-shortfall q in
     let e = before-collect g in
     let a = before-compensate e in
-    let r = before-trade a in
-    let o = before-read r in
+    let o = before-trade a in
     let h = before-first-turn o in
-    let p = h .before .before .before .before .pre in
-    asked-cut _ _ _ (p .0) _ (p .1) _ (h .head-at .ensures) _ (o .first-turn .ensures) _ (r .read .ensures) _ _ (a .trade .ensures) _ _
+    let r = before-head-at h in
+    let p = r .before .before .before .before .before .pre in
+    asked-owe _ _ _ (p .0) _ (p .1) _ (h .head-at .ensures) _ (o .first-turn .ensures) _ (r .read .ensures) _ _ (a .trade .ensures) _ _
     (e .compensate .ensures) _ _ (g .collect .ensures) _ (q .shortfall .ensures)
 
-cast-t28 : tie.Need-cast-t28
-cast-t28 c =
-    let e = before-collect (before-shortfall (c .before .before .before .before)) in
-    let h = before-first-turn (before-read (before-trade (before-compensate e))) in
-    record { fits = omega (arith, few-rows _ _ _ (h .before .before .before .before .pre .0)) }
+cover-requires : tie.Need-cover-requires
+cover-requires c κs = search needs
 
-put-statement-head-requires : tie.Need-put-statement-head-requires
-put-statement-head-requires c κs =
-    let l = c .before .before .before in
-    let q = l .before .before in
+divide-requires : tie.Need-divide-requires
+divide-requires c κs =
+    let v = c .before in
+    let b = before-cover v in
+    let q = before-penalise b in
     let g = before-shortfall q in
     let e = before-collect g in
     let a = before-compensate e in
-    let r = before-trade a in
-    let o = before-read r in
+    let o = before-trade a in
     let h = before-first-turn o in
-    let p = h .before .before .before .before .pre in
+    let r = before-head-at h in
+    let p = r .before .before .before .before .before .pre in
+    asked-divide _ _ _ (p .0) _ (p .1) _ (h .head-at .ensures) _ (o .first-turn .ensures) _ (r .read .ensures) _ _ (a .trade .ensures) _ _
+    (e .compensate .ensures) _ _ (g .collect .ensures) _ (q .shortfall .ensures) _ _ (b .penalise .ensures) _ (v .cover .ensures)
+
+cast-rows : tie.Need-cast-rows
+cast-rows c =
+    let q = before-penalise (before-cover (before-divide (c .before .before))) in
+    let r = before-head-at (before-first-turn (before-trade (before-compensate (before-collect (before-shortfall q))))) in
+    record { fits = omega (arith, few-rows _ _ _ (r .before .before .before .before .before .pre .0)) }
+
+put-statement-head-requires : tie.Need-put-statement-head-requires
+put-statement-head-requires c κs =
+    let w = c .before .before .before in
+    let v = before-divide w in
+    let b = before-cover v in
+    let q = before-penalise b in
+    let g = before-shortfall q in
+    let e = before-collect g in
+    let a = before-compensate e in
+    let o = before-trade a in
+    let h = before-first-turn o in
+    let r = before-head-at h in
+    let p = r .before .before .before .before .before .pre in
     head-room _ _ _ (p .0) _ (p .1) _ (h .head-at .ensures) _ (o .first-turn .ensures) _ (r .read .ensures) _ _ (a .trade .ensures) _ _
-    (e .compensate .ensures) _ _ (g .collect .ensures) _ (q .shortfall .ensures) _ (l .cut .ensures)
+    (e .compensate .ensures) _ _ (g .collect .ensures) _ (q .shortfall .ensures) _ _ (b .penalise .ensures) _ (v .cover .ensures) _
+    (w .divide .ensures)
 
 returns : tie.Need-returns
 returns c =
     let t = c .before .before in
-    let l = t .before .before .before .before in
-    let q = l .before .before in
+    let w = t .before .before .before .before in
+    let v = before-divide w in
+    let b = before-cover v in
+    let q = before-penalise b in
     let g = before-shortfall q in
     let e = before-collect g in
     let a = before-compensate e in
-    let r = before-trade a in
-    let o = before-read r in
+    let o = before-trade a in
     let h = before-first-turn o in
-    let p = h .before .before .before .before .pre in
+    let r = before-head-at h in
+    let p = r .before .before .before .before .before .pre in
     stated _ _ _ (p .0) _ (p .1) _ (h .head-at .ensures) _ (o .first-turn .ensures) _ (r .read .ensures) _ _ (a .trade .ensures) _ _
-    (e .compensate .ensures) _ _ (g .collect .ensures) _ (q .shortfall .ensures) _ (l .cut .ensures) _ (t .put-statement-head .ensures)
+    (e .compensate .ensures) _ _ (g .collect .ensures) _ (q .shortfall .ensures) _ _ (b .penalise .ensures) _ (v .cover .ensures) _
+    (w .divide .ensures) _ (t .put-statement-head .ensures)
 
 same-length : tie.Need-same-length
 same-length c =
-    let e = before-collect (before-shortfall (c .before .before .before .before .before .before .before .before)) in
-    let h = before-first-turn (before-read (before-trade (before-compensate e))) in
-    let p = h .before .before .before .before .pre in
+    let w = c .before .before .before .before .before .before in
+    let q = before-penalise (before-cover (before-divide w)) in
+    let r = before-head-at (before-first-turn (before-trade (before-compensate (before-collect (before-shortfall q))))) in
+    let p = r .before .before .before .before .before .pre in
     stated-long _ _ _ (p .0) _ (p .1) _ (returns c)
 
 pub write-statement-spec : {M : Type 1} → statement M
 write-statement-spec =
     tie.close
     (tie.spec
+    read-requires
     head-at-requires
     first-turn-requires
-    read-requires
     trade-requires
     compensate-requires
     collect-requires
     shortfall-requires
-    cut-requires
-    cast-t28
+    penalise-requires
+    cover-requires
+    divide-requires
+    cast-rows
     put-statement-head-requires
     same-length
     returns)

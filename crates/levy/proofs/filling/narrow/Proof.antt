@@ -4,8 +4,8 @@ use mathlib.Core.Path.{refl}
 use borrow.Author.Needs.{needs}
 use Rattle.columns.specs.Table.{at}
 use Rattle.levy.proofs.Fill.{Fill, fill-none, fill-on, fill-is, small-at}
-use Rattle.levy.proofs.paying.narrow.Statement.{statement}
-use Rattle.levy.proofs.paying.narrow.Tie as tie
+use Rattle.levy.proofs.filling.narrow.Statement.{statement}
+use Rattle.levy.proofs.filling.narrow.Tie as tie
 
 abbrev Inv-loop : tie.InvT-loop
 Inv-loop from to₀ n i₀ to i = Fill (at from) to₀ to i

@@ -3,8 +3,8 @@ use Prim.Native.Nat.{_-_}
 use borrow.Author.Needs.{needs}
 use Rattle.columns.specs.Table.{at}
 use Rattle.levy.proofs.Fill.{Fill, fill-none, fill-on, fill-is, fill-small}
-use Rattle.levy.proofs.paying.widen.Statement.{statement}
-use Rattle.levy.proofs.paying.widen.Tie as tie
+use Rattle.levy.proofs.filling.widen.Statement.{statement}
+use Rattle.levy.proofs.filling.widen.Tie as tie
 
 abbrev Inv-loop : tie.InvT-loop
 Inv-loop from to₀ n i₀ to i = Fill (at from) to₀ to i

@@ -1,17 +1,17 @@
--- `levy::cut_over` meets its contract: a cut is a share, and a share of the shortfall fits.
+-- `levy::filling::apportion_over` meets its contract: a share is at most its sum, so it fits.
 use borrow.Author.Needs.{needs}
-use Rattle.levy.proofs.Making.{cut-split, cut-long, cut-small, cut-made}
-use Rattle.levy.proofs.paying.cut_over.Statement.{statement}
-use Rattle.levy.proofs.paying.cut_over.Tie as tie
+use Rattle.levy.proofs.Making.{part-split, part-long, part-small, part-made}
+use Rattle.levy.proofs.filling.apportion_over.Statement.{statement}
+use Rattle.levy.proofs.filling.apportion_over.Tie as tie
 
 widen-requires : tie.Need-widen-requires
 widen-requires c κs = search needs
 
 split-requires : tie.Need-split-requires
-split-requires c κs = search (cut-split, needs)
+split-requires c κs = search (part-split, needs)
 
 narrow-requires : tie.Need-narrow-requires
-narrow-requires c κs = search (cut-long, cut-small)
+narrow-requires c κs = search (part-long, part-small)
 
 same-length : tie.Need-same-length
 same-length c = search needs
@@ -23,10 +23,10 @@ same-length-3 : tie.Need-same-length-3
 same-length-3 c = search needs
 
 returns : tie.Need-returns
-returns c = search cut-made
+returns c = search part-made
 
-pub cut-over-spec : {M : Type 1} → statement M
-cut-over-spec =
+pub apportion-over-spec : {M : Type 1} → statement M
+apportion-over-spec =
     tie.close
     (tie.spec
     widen-requires

@@ -1,0 +1,40 @@
+// What counts as delivered of a row's calls, so that the rest is owed (02, request 4; Article 52).
+use crate::REDUCED;
+use crate::THERMAL;
+use crate::bands::width1;
+use crate::bands::width2;
+use crate::baseline;
+use crate::delivery::energy_in1;
+use crate::delivery::energy_in2;
+use files::Row;
+use files::Terms;
+use units::Kwh;
+ghost use mathlib.Core.Path.{_≡_};
+ghost use Rattle.duties.specs.Duty.{liable, credit1, credit2};
+
+// Only a thermal row reduced for reasons of its own owes for what it did not deliver.
+fn liable(row: Row) -> bool
+    ensures { λ b. ⌜ b ≡ liable row ⌝ }
+{
+    (row.kind == THERMAL) & (row.status == REDUCED)
+}
+
+// By the meter in tier 1; for a row that owes nothing, all that it offers there, since no call is above it.
+pub fn credit1(terms: Terms, row: Row) -> Kwh
+    ensures { λ r. ⌜ r .0 ≡ credit1 terms row ⌝ }
+{
+    if !liable(row) {
+        return width1(terms, row);
+    }
+    energy_in1(baseline(terms, row.capacity), row.capacity, row.metered)
+}
+
+// The same in tier 2.
+pub fn credit2(terms: Terms, row: Row) -> Kwh
+    ensures { λ r. ⌜ r .0 ≡ credit2 terms row ⌝ }
+{
+    if !liable(row) {
+        return width2(terms, row);
+    }
+    energy_in2(baseline(terms, row.capacity), row.capacity, row.metered)
+}
