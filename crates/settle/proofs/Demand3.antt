@@ -33,7 +33,6 @@ use borrow.Author.Tests.{lt-ltb, eq-eqb, ne-eqb}
 use Rattle.columns.specs.Sum.{sumTo, sumWhere, maxTo}
 use Rattle.columns.specs.Table.{at}
 use Rattle.columns.proofs.Sum.{sum-same, sum-add}
-use Rattle.columns.proofs.Table.{table-length}
 use Rattle.columns.specs.Sum.{whole}
 use Rattle.files.specs.Layout.{headAt, rowCount}
 use Rattle.files.specs.Terms.{termsOf}
@@ -50,10 +49,11 @@ use Rattle.levy.proofs.Cut.{cut-le, cut-capped, cut-uncovered, cuts-total, retu
 use Rattle.levy.proofs.Unique.{closers-left, closers-beside, final-capped, capped-unique}
 use Rattle.duties.specs.Duties.{Duties, Level}
 use Rattle.duties.proofs.Laws.{duties-level}
-use Rattle.settle.specs.Settlement.{compensationsOf, penaltiesOf, Figures, levied, figures}
+use Rattle.settle.specs.Settlement.{Figures, levied, figures}
 use Rattle.settle.specs.Within.{Turn}
 use Rattle.settle.specs.Answer.{dutiesIn, figuresOf, answerOf, bufferAfter, numberOf}
 use Rattle.settle.specs.Promise.{Bytes, figuresAt, capped, CappedPayer, OpenPayer, AllCapped, cappedCaps, leftOver, openEnergy, kept, Demand3}
+use Rattle.settle.proofs.Sizes.{Long, figures-long}
 use Rattle.settle.proofs.Demand1.{settled-accepted}
 use Rattle.settle.proofs.Demand2.{statement-figures}
 use Rattle.settle.proofs.Turns.{first-inside}
@@ -123,19 +123,14 @@ module _ (need first n : ℕ) (d : Duties) (level : Level n d) (turn : Turn n fi
   unfolding figures
   turn-weights some = omega (arith, turn (omega (arith, level .weights)), level .weights)
 
-  pay-long : length pay ≡ n
-  unfolding figures compensationsOf
-  pay-long = table-length (length (d .widths1)) _ ∙ level .widths1
+  long : Long n f
+  long = figures-long need first n d level
 
   turn-pay : Turn (length pay) first
-  turn-pay some = omega (arith, turn (omega (arith, pay-long)), pay-long)
+  turn-pay some = omega (arith, turn (omega (arith, long .compensations)), long .compensations)
 
   turn-owed : Turn (length owed) first
-  unfolding figures penaltiesOf
-  turn-owed some = omega (arith, turn (omega (arith, long)), long)
-    where
-      long : length owed ≡ n
-      long = table-length (length (d .widths1)) _ ∙ level .widths1
+  turn-owed some = omega (arith, turn (omega (arith, long .penalties)), long .penalties)
 
   pub total-is : f .total ≡ whole pay
   unfolding figures

@@ -2,13 +2,12 @@
 --   calls-in-turn, paid-in-turn, cuts-in-turn, returned-in-turn     of the figures of any columns of one length
 --   accepted-in-turn, statement-in-turn           of an accepted pair, and of the bytes of its statement
 use Prim.Native.Nat.{ℕ, _<_}
-use mathlib.Core.Path.{_≡_, _∙_}
+use mathlib.Core.Path.{_≡_}
 use mathlib.Core.List.{List}
 use native.Mathlib.Omega.{arith}
 use lib.ListN.{length}
 use Rattle.columns.specs.Sum.{whole}
 use Rattle.columns.specs.Table.{at, SameOrOneMore}
-use Rattle.columns.proofs.Table.{table-length}
 use Rattle.files.specs.Layout.{headAt, rowCount}
 use Rattle.files.specs.Terms.{termsOf}
 use Rattle.files.specs.Counting.{countingRow}
@@ -22,10 +21,11 @@ use Rattle.levy.specs.Rounds.{final}
 use Rattle.levy.proofs.Step.{final-sound}
 use Rattle.levy.proofs.Payment.{paid-alike}
 use Rattle.levy.proofs.Cut.{cut-alike, returned-alike}
-use Rattle.settle.specs.Settlement.{firstTurn, bandsOf, compensationsOf, penaltiesOf, Figures, levied, figures}
+use Rattle.settle.specs.Settlement.{firstTurn, bandsOf, Figures, levied, figures}
 use Rattle.settle.specs.Within.{Turn}
 use Rattle.settle.specs.Answer.{dutiesIn, figuresOf, answerOf, bufferAfter, numberOf}
 use Rattle.settle.specs.Promise.{Bytes, figuresAt, Alike, InTurn}
+use Rattle.settle.proofs.Sizes.{figures-long}
 use Rattle.settle.proofs.Demand2.{statement-figures}
 use Rattle.settle.proofs.Turns.{first-inside}
 
@@ -56,16 +56,14 @@ module _ (need first n : ℕ) (d : Duties) (level : Level n d) (goes : Turn n fi
   cuts-in-turn : Alike (f .compensations) i j → SameOrOneMore (at (f .cuts) i) (at (f .cuts) j)
   unfolding figures levied
   cuts-in-turn e =
-      let long : length (f .compensations) ≡ n =
-      unfold compensationsOf in table-length (length (d .widths1)) _ ∙ level .widths1 in
+      let long = figures-long need first n d level .compensations in
       cut-alike (whole (f .compensations)) (d .weights) (d .caps) (f .penalties) first (f .compensations) i j (omega (arith, long, inside)) (omega (arith, long)) e
       (rw long before)
 
   returned-in-turn : Alike (f .penalties) i j → SameOrOneMore (at (f .returned) i) (at (f .returned) j)
   unfolding figures levied
   returned-in-turn e =
-      let long : length (f .penalties) ≡ n =
-      unfold penaltiesOf in table-length (length (d .widths1)) _ ∙ level .widths1 in
+      let long = figures-long need first n d level .penalties in
       returned-alike (whole (f .compensations)) (d .weights) (d .caps) (f .penalties) first i j (omega (arith, long, inside)) (omega (arith, long)) e
       (rw long before)
 

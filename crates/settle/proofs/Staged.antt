@@ -11,9 +11,8 @@ use lib.ListN.{length, take, set}
 use Rattle.columns.specs.Sum.{whole}
 use Rattle.columns.specs.Table.{at, table}
 use Rattle.columns.proofs.Table.{table-at, table-list, table-same}
-use Rattle.records.specs.declared.Field.{Field}
 use Rattle.records.specs.Fields.{span}
-use Rattle.records.specs.Sheet.{Lined, cell, columnOf, withColumn, fieldOf}
+use Rattle.records.specs.Sheet.{Lined, cell, columnOf, withColumn}
 use Rattle.records.proofs.Sheet.{sheet-of, sheet-with, sheet-cell-of, sheet-length}
 use Rattle.duties.specs.Duties.{Duties}
 use Rattle.merit.specs.Band.{Apart}
@@ -38,27 +37,23 @@ use Rattle.settle.proofs.Sizes.{Sized, Long, figures-long, figures-size
 -- ---- n lines in a buffer with room for them
 
 module _ (n : ℕ) (out : List ℕ) (room : lineStart n ≤ length out) where
-  -- a field of the lines
-  abbrev fieldAt : ℕ → Field
-  fieldAt j = fieldOf headSize lineWidths j
-
   module _ (g : ℕ → List ℕ) (full : (i : ℕ) → length (g i) ≡ 11) where
     pub lines-long : length (lined out n g) ≡ length out
     lines-long = sheet-length headSize letterL lineWidths out n g full room
 
     module _ (j : ℕ) (known : j < 11) (xs : List ℕ) (long : length xs ≡ n) where
       -- a field is read as the column that stands in it
-      pub read : ((i : ℕ) → at (g i) j ≡ at xs i) → ((i : ℕ) → at xs i < 256 ^ at lineWidths j) → columnOf (fieldAt j) n (lined out n g) ≡ xs
+      pub read : ((i : ℕ) → at (g i) j ≡ at xs i) → ((i : ℕ) → at xs i < 256 ^ at lineWidths j) → columnOf (lineField j) n (lined out n g) ≡ xs
       read is fits =
           sheet-of headSize letterL lineWidths out n g j full known (omega arith) (λ i l. rw (is i) (fits i))
           ∙ table-same n (λ i. at (g i) j) (at xs) (λ i l. is i) ∙ ap (λ (m : ℕ). table m (at xs)) (sym long) ∙ sym (table-list 0 xs)
 
       -- a column put into a field is that field of every line
-      pub written : withColumn (fieldAt j) xs (lined out n g) ≡ lined out n (λ i. set (g i) j (at xs i))
+      pub written : withColumn (lineField j) xs (lined out n g) ≡ lined out n (λ i. set (g i) j (at xs i))
       written = sheet-with headSize letterL lineWidths out n g j xs full known (omega arith) long
 
     -- a field's cells lie inside the lines
-    pub ruled : (j : ℕ) → 2 + span (take j lineWidths) + at lineWidths j ≤ lineSize → at lineWidths j ≤ 4 → Ruled n (fieldAt j) (lined out n g)
+    pub ruled : (j : ℕ) → 2 + span (take j lineWidths) + at lineWidths j ≤ lineSize → at lineWidths j ≤ 4 → Ruled n (lineField j) (lined out n g)
     ruled j inside narrow =
         record { lined = record { inside = inside; room = omega (arith, lines-long, room) }; narrow = narrow }
 
