@@ -1,4 +1,8 @@
-/* Runs each function of the library in a thread on a painted stack and prints how deep the paint is gone (tools/measure-stack).
+/* Runs each function of the library in a thread on a painted stack and prints how deep the paint is gone (tools/measure-stack);
+ * fails above the bound.
+ *
+ *   stack BOUND INTERVAL
+ *
  * A thread that calls nothing of the library shows what the thread itself takes, and is taken off. */
 #define _GNU_SOURCE
 #include "wheatrudder.h"
@@ -42,11 +46,11 @@ static size_t depth(void *(*run)(void *))
     pthread_t thread;
     size_t low = 0;
     if (!stack)
-        exit(1);
+        exit(2);
     memset(stack, PAINT, STACK);
     pthread_attr_init(&how);
     if (pthread_attr_setstack(&how, stack, STACK) || pthread_create(&thread, &how, run, NULL) || pthread_join(thread, NULL))
-        exit(1);
+        exit(2);
     while (low < STACK && stack[low] == PAINT)
         low++;
     free(stack);
@@ -55,17 +59,29 @@ static size_t depth(void *(*run)(void *))
 
 int main(int count, char **words)
 {
-    FILE *file = count == 2 ? fopen(words[1], "rb") : NULL;
+    static const struct { const char *name; void *(*run)(void *); } functions[] = {
+        {"wheatrudder_settle", settle}, {"wheatrudder_row", row}, {"wheatrudder_rewrite", rewrite}};
+    FILE *file = count == 3 ? fopen(words[2], "rb") : NULL;
     if (!file)
         return 2;
+    size_t bound = (size_t)strtoul(words[1], NULL, 10);
     interval_length = fread(interval, 1, sizeof interval, file);
     fclose(file);
     /* Once outside a thread, so that the loader has done its part. */
     settle(NULL), row(NULL), rewrite(NULL);
+    settle(NULL);
     size_t own = depth(nothing);
-    printf("painted stack, %zu bytes of file: settle %zu", interval_length, depth(settle) - own);
-    printf(" (answer %u %u)", wheatrudder_number(answer), wheatrudder_value(answer));
-    printf(", row %zu", depth(row) - own);
-    printf(", rewrite %zu; the thread itself %zu\n", depth(rewrite) - own, own);
-    return 0;
+    if (wheatrudder_number(answer) != 0)
+        return 2;
+    printf("%u rows, %u rounds; the thread itself takes %zu bytes\n", wheatrudder_statement_rows(out),
+           wheatrudder_statement_rounds(out), own);
+    int above = 0;
+    for (size_t i = 0; i < sizeof functions / sizeof *functions; i++) {
+        size_t deep = depth(functions[i].run) - own;
+        above |= deep > bound;
+        printf("%s: %zu bytes painted over%s\n", functions[i].name, deep, deep > bound ? ", ABOVE THE BOUND" : "");
+        if (wheatrudder_number(answer) != 0)
+            return 2;
+    }
+    return above;
 }

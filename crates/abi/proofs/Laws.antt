@@ -13,10 +13,10 @@ use borrow.Author.Tests.{lt-ltb, le-ltb}
 use Rattle.records.specs.Buffer.{put}
 use Rattle.files.specs.Order as read
 use Rattle.files.specs.Counting.{countingBytes}
-use Rattle.contents.specs.Content.{readingOf}
-use Rattle.contents.proofs.RoundTrip.{file-rewritten, file-buffer}
+use Rattle.contents.specs.Content.{readingOf, rewrittenBuffer}
+use Rattle.contents.proofs.RoundTrip.{file-again-bytes, file-again-buffer}
 use Rattle.settle.specs.Answer.{answerOf, numberOf, valueOf}
-use Rattle.abi.specs.Packed.{packed, settled, copied, written, rewritten, rewrittenBuffer}
+use Rattle.abi.specs.Packed.{packed, settled, copied, rewritten}
 use Rattle.abi.proofs.Small.{answer-packs}
 
 pub number-back : (number value : ℕ) → value < 4294967296 → packed number value / 4294967296 ≡ number
@@ -46,9 +46,8 @@ module _ (s k : List ℕ) (id room : ℕ) where
 module _ (s : List ℕ) (accepted : read.numberOf (readingOf s .verdict) ≡ 0) (bytes : (i : ℕ) → getD s i 0 < 256)
     (out : List ℕ) (room : length s ≤ length out) where
   pub accepted-rewritten : rewritten s (length out) ≡ packed 0 (length s)
-  unfolding rewritten written
-  accepted-rewritten = rw (accepted, file-rewritten s accepted bytes out room)
+  unfolding rewritten
+  accepted-rewritten = rw (file-again-bytes s accepted bytes out room)
 
   pub accepted-buffer : rewrittenBuffer s out ≡ put out 0 s
-  unfolding rewrittenBuffer
-  accepted-buffer = rw accepted (file-buffer s accepted bytes out room)
+  accepted-buffer = file-again-buffer s accepted bytes out room

@@ -1,6 +1,6 @@
 -- Every answer fits its word: numbers of refusal end at 11, places at 256, and counts of bytes are small.
 --   interval-near, file-near, writer-near        places of refusals: of an interval file, of a pair of files, of contents and their buffer
---   answer-packs, reading-packs, written-packs   number and value of the engine's answer, of the reader's, of the writer's
+--   answer-packs, written-packs, rewritten-packs     number and value of the engine's answer, of the writer's, of the rewriter's
 --   part-short                                   the bytes that count for a row are at most 21
 use Prim.Native.Nat.{ℕ, zero, suc, _≤_, _<_, zero-le}
 use mathlib.Core.Path.{_≡_, refl}
@@ -21,19 +21,18 @@ use Rattle.files.specs.Layout.{headAt, correctionHeadAt, rowCount, correctionCo
 use Rattle.files.specs.Terms.{termsOf}
 use Rattle.files.specs.Range.{headOk, correctionHeadOk}
 use Rattle.files.specs.Walk.{inCorrection, inInterval}
-use Rattle.files.specs.Order.{headChecks, rowChecksOf, rowsOrder, intervalOrder, fileOrder, fileFault}
+use Rattle.files.specs.Order.{headChecks, rowChecksOf, rowsOrder, intervalOrder, intervalFault, fileOrder, fileFault}
 use Rattle.files.specs.Order.{correctionStarts, correctionOrder, sameTime, nameChecks, besideOrder, presentOrder}
-use Rattle.files.specs.Order as read
 use Rattle.files.specs.Counting.{part, named, countingBytes}
 use Rattle.files.specs.declared.Terms.{Terms}
-use Rattle.files.specs.declared.Verdict.the-variants as Verdict
 use Rattle.files.proofs.Answer.{interval-numbers, file-numbers}
 use Rattle.files.proofs.Passed.{head-passed}
 use Rattle.files.proofs.Ranges.{correction-few}
-use Rattle.contents.specs.Content.{readingOf, rowChecksIn, termsIn, writerOrder, writtenOf}
+use Rattle.contents.specs.Content.{readingOf, rowChecksIn, termsIn, writerOrder, writtenOf, rewrittenOf}
 use Rattle.contents.specs.Content as write
 use Rattle.contents.specs.declared.Contents.{Contents}
-use Rattle.contents.specs.declared.Written.the-variants as Written
+use Rattle.contents.specs.declared.Written.{Written}
+use Rattle.contents.specs.declared.Written.the-variants as written
 use Rattle.contents.proofs.Record.{rows-few}
 use Rattle.contents.proofs.Refusal.{writer-passed, writer-numbers}
 use Rattle.contents.proofs.Said.{few}
@@ -185,19 +184,25 @@ answer-packs s k room =
     by-list Answer.Refused (Answer.Settled (lineStart (rowCount s))) numberOf valueOf refl (λ a p. refl) (λ a p. refl)
     (settleOrder s k room) (settle-numbers s k room) (settle-near s k room) (λ e. omega (arith, settled-few s k room e))
 
-pub reading-packs : (s : List ℕ) → Packs (read.numberOf (readingOf s .verdict)) (read.valueOf (readingOf s .verdict))
-unfolding readingOf
-reading-packs s =
-    by-list Verdict.Refused (Verdict.Accepted (rowCount s)) read.numberOf read.valueOf refl (λ a p. refl) (λ a p. refl)
-    (intervalOrder s) (numbers-wider 1 7 11 (intervalOrder s) (lit≤ tt) (interval-numbers s)) (interval-near s)
-    (λ e. omega (arith, few s e))
-
 pub written-packs : (c : Contents) (room : ℕ) → Packs (write.numberOf (writtenOf c room)) (write.valueOf (writtenOf c room))
 unfolding writtenOf
 written-packs c room =
-    by-list Written.Refused (Written.Bytes (rowStart (c .head .rows))) write.numberOf write.valueOf refl (λ a p. refl) (λ a p. refl)
+    by-list written.Refused (written.Bytes (rowStart (c .head .rows))) write.numberOf write.valueOf refl (λ a p. refl) (λ a p. refl)
     (writerOrder c room) (writer-numbers c room) (writer-near c room)
     (λ e. omega (arith, rows-few (c .head) (writer-passed c room e .head)))
+
+pub rewritten-packs : (s : List ℕ) (room : ℕ) → Packs (write.numberOf (rewrittenOf s room)) (write.valueOf (rewrittenOf s room))
+unfolding rewrittenOf
+rewritten-packs s room = go (intervalFault s .applies) refl
+  where
+    answer : Bool → Written
+    answer b = cond b (written.Refused (intervalFault s .number) (intervalFault s .place)) (writtenOf (readingOf s .contents) room)
+
+    go : (b : Bool) → intervalFault s .applies ≡ b → Packs (write.numberOf (answer b)) (write.valueOf (answer b))
+    go true e =
+        let wider = numbers-wider 1 7 11 (intervalOrder s) (lit≤ tt) (interval-numbers s) in
+        record { number-fits = first-number 1 11 (intervalOrder s) wider e .1; value-fits = omega (arith, interval-near s) }
+    go false e = written-packs (readingOf s .contents) room
 
 -- ---- the row that counts
 

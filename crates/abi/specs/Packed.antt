@@ -2,14 +2,12 @@
 use Prim.Native.Nat.{ℕ, _+_, _*_, _≤_, _<_}
 use mathlib.Core.Bool.{cond}
 use mathlib.Core.List.{List}
-use lib.Dec.{ltb, eqb}
+use lib.Dec.{ltb}
 use lib.ListN.{length}
 use Rattle.records.specs.Buffer.{put}
 use Rattle.files.specs.Counting.{countingBytes}
-use Rattle.files.specs.Order as reading
-use Rattle.contents.specs.Content.{readingOf, writtenOf, writtenBuffer}
+use Rattle.contents.specs.Content.{rewrittenOf}
 use Rattle.contents.specs.Content as writing
-use Rattle.contents.specs.declared.Contents.{Contents}
 use Rattle.settle.specs.Answer.{answerOf, numberOf, valueOf}
 
 -- the number in the upper 32 bits, the value in the lower
@@ -38,20 +36,8 @@ copiedBuffer s k id out =
     let part = countingBytes s k id in
     cond (ltb (length out) (length part)) out (put out 0 part)
 
--- the writer's answer: 0 and the count of bytes, or the refusal's number and place
-unfoldable pub written : Contents → ℕ → ℕ
-written c room =
-    let w = writtenOf c room in
-    packed (writing.numberOf w) (writing.valueOf w)
-
--- contents read, then written: the reader's refusal if there is one, else the writer's answer
+-- a file read and written again: 0 and the count of bytes, or the refusal's number and place, the reader's or else the writer's
 unfoldable pub rewritten : List ℕ → ℕ → ℕ
 rewritten s room =
-    let r = readingOf s in
-    let v = r .verdict in
-    cond (eqb (reading.numberOf v) 0) (written (r .contents) room) (packed (reading.numberOf v) (reading.valueOf v))
-
-unfoldable pub rewrittenBuffer : List ℕ → List ℕ → List ℕ
-rewrittenBuffer s out =
-    let r = readingOf s in
-    cond (eqb (reading.numberOf (r .verdict)) 0) (writtenBuffer (r .contents) out) out
+    let w = rewrittenOf s room in
+    packed (writing.numberOf w) (writing.valueOf w)

@@ -1,16 +1,14 @@
 // The library for C and Rust: the engine's three public parts on numbers and byte slices. A slice is a pointer and a length.
 // Every answer is one word: number × 2^32 + value. Number 0 is success, and the value counts bytes; any other number is a
 // refusal, and the value is its place (01, Numbers of refusal).
-use contents::Contents;
 use contents::Written;
-use files::Verdict;
 use records::put_bytes;
 use settle::Answer;
 ghost use mathlib.Core.Path.{_≡_};
 ghost use lib.ListN.{length};
 ghost use Rattle.settle.specs.Answer.{bufferAfter};
-ghost use Rattle.contents.specs.Content.{writtenBuffer};
-ghost use Rattle.abi.specs.Packed.{packed, Packs, settled, copied, copiedBuffer, written, rewritten, rewrittenBuffer};
+ghost use Rattle.contents.specs.Content.{rewrittenBuffer};
+ghost use Rattle.abi.specs.Packed.{packed, Packs, settled, copied, copiedBuffer, rewritten};
 
 // Number and value in one word.
 fn pack(number: usize, value: usize) -> u64
@@ -56,28 +54,15 @@ pub extern "C" fn wheatrudder_row<'a>(
     pack(0, part.len())
 }
 
-// Contents written, answered in one word.
-fn write(contents: Contents, out: &mut [u8]) -> u64
-    ensures { λ r. ⌜ r ≡ written contents (length (now (out .entry))) ⌝ }
-    ensures { λ r. ⌜ now (out .exit) ≡ writtenBuffer contents (now (out .entry)) ⌝ }
-{
-    let written = contents::write(contents, out);
-    match written {
-        Written::Bytes(count) => pack(0, count),
-        Written::Refused(number, place) => pack(number, place),
-    }
-}
-
-// Reads an interval file's contents and writes them again into a lent buffer.
+// Reads an interval file and writes what it says again into a lent buffer, row by row.
 #[no_mangle]
 pub extern "C" fn wheatrudder_rewrite(interval: &[u8], out: &mut [u8]) -> u64
     ensures { λ r. ⌜ r ≡ rewritten (now (interval .entry)) (length (now (out .entry))) ⌝ }
     ensures { λ r. ⌜ now (out .exit) ≡ rewrittenBuffer (now (interval .entry)) (now (out .entry)) ⌝ }
 {
-    let reading = contents::read(interval);
-    let verdict = reading.verdict;
-    match verdict {
-        Verdict::Refused(number, place) => pack(number, place),
-        Verdict::Accepted(_) => write(reading.contents, out),
+    let written = contents::rewrite(interval, out);
+    match written {
+        Written::Bytes(count) => pack(0, count),
+        Written::Refused(number, place) => pack(number, place),
     }
 }

@@ -17,9 +17,8 @@ use lib.ListN.{length}
 use Rattle.columns.specs.Checks.{firstRefusal}
 use Rattle.columns.proofs.Checks.{Passes}
 use Rattle.records.specs.Buffer.{put}
-use Rattle.records.specs.Record.{recordBytes}
 use Rattle.records.proofs.Sheet.{sheet-head}
-use Rattle.files.specs.Layout.{letterH, letterR, headWidths, rowWidths, rowStart, headBytes, headFields, rowCount}
+use Rattle.files.specs.Layout.{letterR, rowWidths, rowStart, headBytes, rowCount}
 use Rattle.files.specs.Range.{headOk}
 use Rattle.files.specs.Order.{intervalOrder, intervalFault, verdict}
 use Rattle.files.specs.declared.Head.{Head}
@@ -88,14 +87,13 @@ module _ (c : Contents) (out : List ℕ) (w : Written) (p : w ≡ writtenOf c (l
     unfolding writtenBuffer
     done-buffer out′ e = rw (written-of c (length out) n (sym p ∙ q)) e
 
-pub rows-then-head : (c : Contents) (out l m xs : List ℕ) → rowStart (c .head .rows) ≤ length out → xs ≡ headFields (c .head)
-    → l ≡ withRows c out
-    → m ≡ put l 0 (recordBytes letterH headWidths xs) → m ≡ put out 0 (contentsBytes c)
-unfolding contentsBytes headBytes
-rows-then-head c out l m xs room e p q =
+pub rows-then-head : (c : Contents) (out l m : List ℕ) → rowStart (c .head .rows) ≤ length out → l ≡ withRows c out
+    → m ≡ put l 0 (headBytes (c .head)) → m ≡ put out 0 (contentsBytes c)
+unfolding contentsBytes
+rows-then-head c out l m room p q =
     let head = headBytes (c .head) in
     let made = sheet-head head letterR rowWidths out (c .head .rows) (fieldsIn (c .rows)) (omega (arith, head-length c)) in
-    q ∙ rw (p, e) (rw (head-length c) at made)
+    q ∙ rw p (rw (head-length c) at made)
 
 module _ (s : List ℕ) (v : Verdict) (p : v ≡ verdict (rowCount s) (intervalFault s)) where
   pub read-refused : (number place : ℕ) (z : Contents) → v ≡ Refused number place → z ≡ zeroContents

@@ -6,5 +6,6 @@ pub mod Said
 pub mod Made
 pub mod RoundTrip
 pub mod Answered
+pub mod Again
 pub mod Figures
 pub mod Unique

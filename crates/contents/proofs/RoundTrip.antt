@@ -2,6 +2,7 @@
 --   file-rewritten      an accepted file, read and written into a buffer with room: as many bytes as the file has,
 --   file-buffer         they are the file's, nothing past them changes,
 --   file-front          so the front of the buffer is the file
+--   file-again-bytes, file-again-buffer     the same of reading and writing in one go
 --   contents-written    contents in range, written into a buffer with room: as many bytes as their file has,
 --   contents-buffer     they are the file that the contents make, nothing past them changes,
 --   contents-reread     and reading the front of the buffer gives the contents again
@@ -20,7 +21,7 @@ use Rattle.files.specs.Order.{intervalOrder}
 use Rattle.files.specs.Order as file
 use Rattle.files.specs.declared.Verdict.the-variants.{Accepted}
 use Rattle.files.proofs.Answer.{interval-numbers}
-use Rattle.contents.specs.Content.{contentsOf, readingOf, contentsBytes, writerFault, writtenOf, writtenBuffer}
+use Rattle.contents.specs.Content.{contentsOf, readingOf, contentsBytes, writerFault, writtenOf, writtenBuffer, rewrittenOf, rewrittenBuffer}
 use Rattle.contents.specs.InRange.{InRange}
 use Rattle.contents.specs.declared.Contents.{Contents}
 use Rattle.contents.specs.declared.Reading.{Reading}
@@ -74,3 +75,11 @@ module _ (s : List ℕ) (accepted : file.numberOf (readingOf s .verdict) ≡ 0) 
 
     pub file-front : take (length s) (writtenBuffer (readingOf s .contents) out) ≡ s
     file-front = rw file-buffer (put-taken out 0 s (omega arith))
+
+    pub file-again-bytes : rewrittenOf s (length out) ≡ Bytes (length s)
+    unfolding rewrittenOf
+    file-again-bytes = rw passes file-rewritten
+
+    pub file-again-buffer : rewrittenBuffer s out ≡ put out 0 s
+    unfolding rewrittenBuffer
+    file-again-buffer = rw passes file-buffer

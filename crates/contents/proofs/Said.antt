@@ -4,7 +4,10 @@
 --   file-in-range     they are in range
 --   file-reading      they are what the reader answers
 --   file-terms        they are checked against the terms of the file
+--   kept              row by row they are the file's
+--   file-held         nothing refuses them by 6 or 7
 use mathlib.Core.Path.{_≡_, refl, sym, ap, _∙_}
+use mathlib.Core.Bool.{true}
 use mathlib.Core.Logic.{⊎-elim}
 use mathlib.Core.List.{List}
 use Prim.Native.Nat.{ℕ, _+_, _*_, _^_, _≤_, _<_}
@@ -16,22 +19,24 @@ use Rattle.columns.specs.Table.{table}
 use Rattle.columns.specs.Checks.{placed, previous}
 use Rattle.columns.proofs.Sum.{lt-or-le}
 use Rattle.columns.proofs.Table.{table-length, table-at, table-past, table-same}
-use Rattle.columns.proofs.Checks.{Passes, previous-next, append-passes, passes-placed}
+use Rattle.columns.proofs.Checks.{Passes, previous-same, previous-next, append-passes, passes-placed}
 use Rattle.records.specs.Record.{recordAt}
 use Rattle.records.proofs.Record.{record-write, record-fits}
 use Rattle.files.specs.Layout.{letterH, letterR, headWidths, rowWidths, headSize, rowSize, rowStart}
 use Rattle.files.specs.Layout.{headAt, headBytes, rowAt, rowFields, rowCount}
 use Rattle.files.specs.Terms.{termsOf}
 use Rattle.files.specs.Walk.{idOf}
+use Rattle.files.specs.Range.{rowOk}
 use Rattle.files.specs.Order.{headChecks, rowsOrder, intervalOrder}
 use Rattle.files.specs.declared.Row.{Row}
 use Rattle.files.specs.declared.Verdict.the-variants.{Accepted}
 use Rattle.files.proofs.Passed.{HeadPassed, head-passed, Passed, rows-passed}
-use Rattle.contents.specs.Content.{zeroRow, contentsOf, readingOf, fieldsIn, contentsBytes, termsIn, idIn}
+use Rattle.contents.specs.Content.{zeroRow, contentsOf, readingOf, fieldsIn, contentsBytes, termsIn, idIn, heldOrder}
 use Rattle.contents.specs.InRange.{InRange}
 use Rattle.contents.proofs.Walk.{fileRow}
 use Rattle.contents.proofs.Record.{head-said, row-said, rows-few}
 use Rattle.contents.proofs.Rows.{records-write}
+use Rattle.contents.proofs.Refusal.{list-passes}
 
 pub file-terms : (s : List ℕ) → termsIn (headAt s) ≡ termsOf s
 unfolding termsIn termsOf
@@ -55,7 +60,7 @@ module _ (s : List ℕ) (accepted : Passes (intervalOrder s)) where
   abbrev rows : List Row
   rows = table 256 (fileRow s)
 
-  kept : (j : ℕ) → j < rowCount s → getD rows j zeroRow ≡ rowAt s (rowStart j)
+  pub kept : (j : ℕ) → j < rowCount s → getD rows j zeroRow ≡ rowAt s (rowStart j)
   kept j l = table-at zeroRow 256 (fileRow s) j (omega (arith, few)) ∙ rw (lt-ltb j (rowCount s) l)
 
   zero-past : (j : ℕ) → rowCount s ≤ j → getD rows j zeroRow ≡ zeroRow
@@ -67,6 +72,18 @@ module _ (s : List ℕ) (accepted : Passes (intervalOrder s)) where
   taken =
       table-same (rowCount s) (fieldsIn rows) (λ i. recordAt rowWidths s (rowStart i))
       (λ j l. ap rowFields (kept j l) ∙ row-said s (rowStart j))
+
+  kept-id : (j : ℕ) → j < rowCount s → idIn rows j ≡ idOf s headSize j
+  kept-id j l = ap (λ (r : Row). r .id) (kept j l)
+
+  kept-ok : (j : ℕ) → j < rowCount s → rowOk (termsIn (headAt s)) (getD rows j zeroRow) ≡ true
+  kept-ok j l = rw (kept j l, file-terms s) (passed j l .ok)
+
+  pub file-held : Passes (heldOrder (contentsOf s))
+  unfolding contentsOf
+  file-held =
+      list-passes (termsIn (headAt s)) rows (rowCount s) kept-ok
+      (λ j l. rw (kept-id j l, previous-same (idIn rows) (idOf s headSize) j (λ i q. kept-id i (omega arith))) (passed j l .above))
 
   pub file-reading : readingOf s ≡ record { verdict = Accepted (rowCount s); contents = contentsOf s }
   unfolding readingOf
@@ -93,16 +110,13 @@ module _ (s : List ℕ) (accepted : Passes (intervalOrder s)) where
     file-in-range =
         record {
           head = head-of .ok;
-          rows = λ j l. rw (kept j l, file-terms s) (passed j l .ok);
-          rising = λ j l. omega (arith, said j (omega arith), said (j + 1) l, previous-next (idOf s headSize) j, passed (j + 1) l .above);
+          rows = kept-ok;
+          rising = λ j l. omega (arith, kept-id j (omega arith), kept-id (j + 1) l, previous-next (idOf s headSize) j, passed (j + 1) l .above);
           held = table-length 256 (fileRow s);
-          ids = λ j. ⊎-elim (λ (l : j < rowCount s). omega (arith, said j l, id-fits (rowStart j)))
+          ids = λ j. ⊎-elim (λ (l : j < rowCount s). omega (arith, kept-id j l, id-fits (rowStart j)))
               (λ (m : rowCount s ≤ j). omega (arith, none j m)) (lt-or-le j (rowCount s));
           past = zero-past;
         }
       where
-        said : (j : ℕ) → j < rowCount s → idIn rows j ≡ idOf s headSize j
-        said j l = ap (λ (r : Row). r .id) (kept j l)
-
         none : (j : ℕ) → rowCount s ≤ j → idIn rows j ≡ 0
         none j m = ap (λ (r : Row). r .id) (zero-past j m)

@@ -1,4 +1,4 @@
--- How far the loops of the writer and of the reader have come, and what they end with.
+-- How far the loops of the writer, of the reader and of the rewriter have come, and what they end with.
 --   Checked   the rows so far have no fault by 6 and 7; check-start, -next, -stops, -ends: its steps
 --   Placed    the bytes of the rows so far stand in the buffer; place-start, -next, -ends: its steps
 --   Filled    the rows so far are the file's, and zero rows past them; fill-start, -next, -ends: its steps
@@ -29,7 +29,7 @@ use Rattle.files.specs.declared.Head.{Head}
 use Rattle.files.specs.declared.Row.{Row}
 use Rattle.files.specs.declared.Terms.{Terms}
 use Rattle.files.specs.declared.Verdict.the-variants.{Accepted, Refused}
-use Rattle.contents.specs.Content.{zeroRow, contentsOf, fieldsIn, idIn, termsIn, rowChecksIn, heldOrder}
+use Rattle.contents.specs.Content.{zeroRow, contentsOf, idIn, termsIn, rowChecksIn, heldOrder}
 use Rattle.contents.specs.declared.Contents.{Contents}
 
 pub record Checked (c : Contents) (last i : ℕ) : Type 0 where
@@ -67,30 +67,33 @@ check-ends c last i w l =
     let e : i ≡ c .head .rows = omega (arith, w .short) in
     rw (rw e at (w .passes))
 
-pub record Placed (l₀ : List ℕ) (rs : List Row) (count : ℕ) (l : List ℕ) (i : ℕ) : Type 0 where
+-- f has the fields of the rows: those that contents hold, or those of a file
+pub record Placed (l₀ : List ℕ) (f : ℕ → List ℕ) (count : ℕ) (l : List ℕ) (i : ℕ) : Type 0 where
+  pub full : (k : ℕ) → length (f k) ≡ length rowWidths
   pub short : i ≤ count
   pub long : length l ≡ length l₀
-  pub is : l ≡ sheet headSize letterR rowWidths l₀ i (fieldsIn rs)
+  pub is : l ≡ sheet headSize letterR rowWidths l₀ i f
 
-pub place-start : (l₀ : List ℕ) (rs : List Row) (count : ℕ) → Placed l₀ rs count l₀ 0
-place-start l₀ rs count =
-    record { short = omega arith; long = refl; is = sym (sheet-none headSize letterR rowWidths l₀ (fieldsIn rs)) }
+pub place-start : (l₀ : List ℕ) (f : ℕ → List ℕ) (count : ℕ) → ((k : ℕ) → length (f k) ≡ length rowWidths) → Placed l₀ f count l₀ 0
+place-start l₀ f count full =
+    record { full = full; short = omega arith; long = refl; is = sym (sheet-none headSize letterR rowWidths l₀ f) }
 
-pub place-next : (l₀ : List ℕ) (rs : List Row) (count : ℕ) (l : List ℕ) (i : ℕ) (l′ xs : List ℕ)
-    → Placed l₀ rs count l i → i < count → rowStart count ≤ length l₀ → xs ≡ fieldsIn rs i
-    → l′ ≡ put l (rowStart i) (recordBytes letterR rowWidths xs) → Placed l₀ rs count l′ (i + 1)
-place-next l₀ rs count l i l′ xs w h room e p =
-    let is : l′ ≡ sheet headSize letterR rowWidths l₀ (i + 1) (fieldsIn rs) =
-    p ∙ rw (e, w .is) (sheet-next headSize letterR rowWidths l₀ i (fieldsIn rs) (λ k. refl) (omega arith)) in
+pub place-next : (l₀ : List ℕ) (f : ℕ → List ℕ) (count : ℕ) (l : List ℕ) (i : ℕ) (l′ : List ℕ)
+    → Placed l₀ f count l i → i < count → rowStart count ≤ length l₀
+    → l′ ≡ put l (rowStart i) (recordBytes letterR rowWidths (f i)) → Placed l₀ f count l′ (i + 1)
+place-next l₀ f count l i l′ w h room p =
+    let is : l′ ≡ sheet headSize letterR rowWidths l₀ (i + 1) f =
+    p ∙ rw (w .is) (sheet-next headSize letterR rowWidths l₀ i f (w .full) (omega arith)) in
     record {
+      full = w .full;
       short = omega arith;
-      long = rw is (sheet-length headSize letterR rowWidths l₀ (i + 1) (fieldsIn rs) (λ k. refl) (omega arith));
+      long = rw is (sheet-length headSize letterR rowWidths l₀ (i + 1) f (w .full) (omega arith));
       is = is;
     }
 
-pub place-ends : (l₀ : List ℕ) (rs : List Row) (count : ℕ) (l : List ℕ) (i : ℕ) → Placed l₀ rs count l i → count ≤ i
-    → l ≡ sheet headSize letterR rowWidths l₀ count (fieldsIn rs)
-place-ends l₀ rs count l i w h =
+pub place-ends : (l₀ : List ℕ) (f : ℕ → List ℕ) (count : ℕ) (l : List ℕ) (i : ℕ) → Placed l₀ f count l i → count ≤ i
+    → l ≡ sheet headSize letterR rowWidths l₀ count f
+place-ends l₀ f count l i w h =
     let e : i ≡ count = omega (arith, w .short) in
     rw (← e) (w .is)
 

@@ -69,6 +69,13 @@ contentsBytes c = headBytes (c .head) ++ recordsBytes letterR rowWidths (table (
 abbrev pub withRows : Contents → List ℕ → List ℕ
 withRows c out = sheet headSize letterR rowWidths out (c .head .rows) (fieldsIn (c .rows))
 
+-- the fields of row i of a file, and a buffer with n rows of it at their places
+abbrev pub fieldsFrom : List ℕ → ℕ → List ℕ
+fieldsFrom s i = rowFields (rowAt s (rowStart i))
+
+abbrev pub rowsAgain : List ℕ → ℕ → List ℕ → List ℕ
+rowsAgain s n out = sheet headSize letterR rowWidths out n (fieldsFrom s)
+
 -- the terms that contents with this head are checked against
 unfoldable pub termsIn : Head → Terms
 termsIn h = terms01
@@ -112,3 +119,12 @@ unfoldable pub writtenBuffer : Contents → List ℕ → List ℕ
 writtenBuffer c out =
     let made = put out 0 (contentsBytes c) in
     cond (writerFault c (length out) .applies) out made
+
+-- a file read, and what it says written: the reader's refusal if there is one, else the writer's answer; the buffer likewise
+unfoldable pub rewrittenOf : List ℕ → ℕ → Written
+rewrittenOf s room = answerBy Refused (writtenOf (readingOf s .contents) room) (intervalFault s)
+
+unfoldable pub rewrittenBuffer : List ℕ → List ℕ → List ℕ
+rewrittenBuffer s out =
+    let made = writtenBuffer (readingOf s .contents) out in
+    cond (intervalFault s .applies) out made

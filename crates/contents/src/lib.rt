@@ -1,12 +1,15 @@
-// Interval contents (01, The files): read from a file's bytes, and written to bytes in a lent buffer.
+// Interval contents (01, The files): read from a file's bytes, and written to bytes in a lent buffer; or read and written again in one go,
+// with no contents held.
 use files::Head;
 use files::Row;
 use files::Verdict;
 
 mod reader;
+mod rewriter;
 mod writer;
 
 pub use reader::read;
+pub use rewriter::rewrite;
 pub use writer::write;
 
 // What an interval file says: its head and its rows. Past the head's count of rows there are zero rows.

@@ -14,11 +14,12 @@ use files::head_ok;
 use files::row_checks;
 use records::put_record;
 ghost use mathlib.Core.Path.{_≡_};
-ghost use Prim.Native.Nat.{_≤_};
+ghost use Prim.Native.Nat.{_+_, _<_, _≤_};
 ghost use lib.ListN.{length};
 ghost use Rattle.columns.specs.Checks.{firstRefusal};
 ghost use Rattle.records.specs.Buffer.{put};
-ghost use Rattle.files.specs.Layout.{rowStart, headFields, rowFields};
+ghost use Rattle.records.specs.Record.{recordBytes};
+ghost use Rattle.files.specs.Layout.{headSize, rowStart, headBytes, headFields, letterR, rowWidths, rowFields};
 ghost use Rattle.files.specs.Order.{verdict};
 ghost use Rattle.contents.specs.Content.{contentsBytes, withRows, termsIn, heldOrder, writtenOf, writtenBuffer};
 
@@ -100,6 +101,24 @@ fn answer_for(contents: Contents, room: usize) -> Written
     }
 }
 
+// A row at the place of row i.
+pub fn put_row(out: &mut [u8], i: usize, r: Row)
+    requires { ⌜ (i < 256) × (rowStart (i + 1) ≤ length (now out)) ⌝ }
+    ensures { λ _. ⌜ now (out .exit) ≡ put (now (out .entry)) (rowStart i) (recordBytes letterR rowWidths (rowFields r)) ⌝ }
+{
+    let fields = row_fields(r);
+    put_record(out, HEAD + i * ROW, b'R', &ROW_WIDTHS, &fields);
+}
+
+// A head at its place, in front.
+pub fn put_head(out: &mut [u8], h: Head)
+    requires { ⌜ headSize ≤ length (now out) ⌝ }
+    ensures { λ _. ⌜ now (out .exit) ≡ put (now (out .entry)) 0 (headBytes h) ⌝ }
+{
+    let fields = head_fields(h);
+    put_record(out, 0, b'H', &HEAD_WIDTHS, &fields);
+}
+
 // The rows of contents, each at its place.
 fn put_rows(contents: Contents, out: &mut [u8])
     requires { ⌜ (contents .head .rows ≤ 256) × (rowStart (contents .head .rows) ≤ length (now out)) ⌝ }
@@ -108,9 +127,7 @@ fn put_rows(contents: Contents, out: &mut [u8])
     let count = contents.head.rows as usize;
     let mut i = 0;
     while i < count {
-        let r = contents.rows[i];
-        let fields = row_fields(r);
-        put_record(out, HEAD + i * ROW, b'R', &ROW_WIDTHS, &fields);
+        put_row(out, i, contents.rows[i]);
         i += 1;
     }
 }
@@ -122,8 +139,7 @@ fn put_contents(contents: Contents, out: &mut [u8])
 {
     let h = contents.head;
     put_rows(contents, out);
-    let fields = head_fields(h);
-    put_record(out, 0, b'H', &HEAD_WIDTHS, &fields);
+    put_head(out, h);
 }
 
 // Writes contents as an interval file to the front of a lent buffer, which a refusal leaves as it is.

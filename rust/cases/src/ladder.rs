@@ -69,6 +69,15 @@ pub fn ladder(random: &mut Random, rounds: usize) -> Ladder {
     Ladder { interval: Interval::new(TARIFF, 64_000_000, rows), closing }
 }
 
+/// The interval with rows that take no part behind its own, up to so many.
+pub fn filled(mut interval: Interval, rows: usize) -> Interval {
+    while interval.rows.len() < rows {
+        let id = interval.rows.last().map_or(1, |row| row.id + 1);
+        interval.rows.push(Row::thermal(id, 100, 0));
+    }
+    interval
+}
+
 /// What a statement says: the rounds, and each line's closing round.
 pub fn told(statement: &[u8]) -> (u16, Vec<u16>) {
     let number = |bytes: &[u8], at: usize| u16::from_le_bytes([bytes[at], bytes[at + 1]]);

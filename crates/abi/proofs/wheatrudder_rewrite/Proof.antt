@@ -1,44 +1,48 @@
--- `abi::wheatrudder_rewrite` meets its contract, for a file that is refused and for one that is read.
-use Rattle.abi.proofs.Told.{unread-packs, unread-number, unread-told, unread-buffer, read-told, read-buffer}
+-- `abi::wheatrudder_rewrite` meets its contract, for bytes written and for a refusal.
+use Rattle.abi.proofs.Told.{bytes-packs, unwritten-packs, bytes-told, unwritten-told}
 use borrow.Author.Needs.{needs}
 use Rattle.abi.proofs.wheatrudder_rewrite.Statement.{statement}
 use Rattle.abi.proofs.wheatrudder_rewrite.Tie as tie
 
-ruleset fitting = (unread-packs, unread-number, needs)
+ruleset fitting = (bytes-packs, unwritten-packs, needs)
 
-read-requires : tie.Need-read-requires
-read-requires c κs = search needs
+rewrite-requires : tie.Need-rewrite-requires
+rewrite-requires c κs = search needs
 
-enum-known-verdict : tie.Need-enum-known-verdict
-enum-known-verdict c = search needs
+enum-known-written : tie.Need-enum-known-written
+enum-known-written c = search needs
 
 pack-requires : tie.Need-pack-requires
 pack-requires c κs = search fitting
 
-enum-told : tie.Need-enum-told
-enum-told c = search needs
+enum-known-written-2 : tie.Need-enum-known-written-2
+enum-known-written-2 c = search needs
 
-write-requires : tie.Need-write-requires
-write-requires c κs = search needs
-
-returns : tie.Need-returns
-returns c = (search unread-told, search unread-buffer)
+pack-requires-2 : tie.Need-pack-requires-2
+pack-requires-2 c κs = search fitting
 
 same-length : tie.Need-same-length
 same-length c = search needs
 
+returns : tie.Need-returns
+returns c = (search bytes-told, search needs)
+
+same-length-2 : tie.Need-same-length-2
+same-length-2 c = search needs
+
 returns-2 : tie.Need-returns-2
-returns-2 c = (search read-told, search read-buffer)
+returns-2 c = (search unwritten-told, search needs)
 
 pub wheatrudder-rewrite-spec : {M : Type 1} → statement M
 wheatrudder-rewrite-spec =
     tie.close
     (tie.spec
-    read-requires
-    enum-known-verdict
+    rewrite-requires
+    enum-known-written
     pack-requires
-    enum-told
-    write-requires
-    returns
+    enum-known-written-2
+    pack-requires-2
     same-length
+    returns
+    same-length-2
     returns-2)

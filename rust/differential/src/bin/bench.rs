@@ -7,8 +7,8 @@ use std::hint::black_box;
 use std::time::Instant;
 
 use cases::accepted::{self, Shape};
-use cases::file::{Interval, LINE, Row, STATEMENT_HEAD};
-use cases::ladder::{MOST, ladder};
+use cases::file::{Interval, LINE, STATEMENT_HEAD};
+use cases::ladder::{MOST, filled, ladder};
 use cases::random::Random;
 
 const QUARTERS: usize = 96;
@@ -69,15 +69,6 @@ fn day(mut quarter: impl FnMut() -> Interval) -> Vec<Vec<u8>> {
     (0..QUARTERS).map(|_| quarter().bytes()).collect()
 }
 
-/// Rows that take no part, up to a full file.
-fn filled(mut interval: Interval) -> Interval {
-    while interval.rows.len() < ROWS {
-        let id = interval.rows.last().map_or(1, |row| row.id + 1);
-        interval.rows.push(Row::thermal(id, 100, 0));
-    }
-    interval
-}
-
 fn main() {
     let mut random = Random::from_seed(1);
     let head =
@@ -92,6 +83,6 @@ fn main() {
     }
     head("rounds, 256 rows");
     for rounds in [2, 4, 8, 12, 16, 20, 25, MOST] {
-        measure(&rounds.to_string(), &day(|| filled(ladder(&mut random, rounds).interval)));
+        measure(&rounds.to_string(), &day(|| filled(ladder(&mut random, rounds).interval, ROWS)));
     }
 }
