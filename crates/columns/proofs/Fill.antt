@@ -4,14 +4,15 @@
 --     reached-next     one store more
 --     reached-now      at i still stands what stood there at the start
 --     reached-all      at the end the list is the table of f
+--     reached-front    and where only the first n positions are gone over, that table with the rest behind it
 -- d stands past a list's end; 0 for a column.
 use Prim.Native.Nat.{ℕ, _+_, _≤_, _<_}
-use mathlib.Core.Path.{_≡_, refl, _∙_}
-use mathlib.Core.List.{List}
+use mathlib.Core.Path.{_≡_, refl, sym, _∙_}
+use mathlib.Core.List.{List, _++_}
 use native.Mathlib.Nat.{le-refl}
 use native.Mathlib.Omega.{arith}
-use lib.ListN.{length, getD, set, length-set}
-use lib.Seq.{getD-set-other}
+use lib.ListN.{length, getD, set, take, drop, length-set, length-drop, take-append-drop}
+use lib.Seq.{getD-set-other, getD-take, getD-drop, length-take-le, ext-getD}
 use Rattle.columns.specs.Table.{table, Below}
 use Rattle.columns.proofs.Table.{table-is, fill-next}
 
@@ -41,3 +42,12 @@ module _ {A : Type 0} where
   pub reached-all : (d : A) (f : ℕ → A) (start now : List A) (i : ℕ) → Reached d f start now i → length now ≤ i
       → now ≡ table (length start) f
   reached-all d f start now i r l = table-is d now (length start) f (r .room) (λ k m. r .done k (omega (arith, r .room)))
+
+  pub reached-front : (d : A) (f : ℕ → A) (start now : List A) (n : ℕ) → Reached d f start now n → now ≡ table n f ++ drop n start
+  reached-front d f start now n r =
+      let front : take n now ≡ table n f =
+      table-is d (take n now) n f (length-take-le n now (omega (arith, r .within, r .room))) (λ k l. getD-take n now k d l ∙ r .done k l) in
+      let back : drop n now ≡ drop n start =
+      ext-getD d (drop n now) (drop n start) (omega (arith, length-drop n now, length-drop n start, r .room))
+      (λ k l. getD-drop n now k d ∙ r .kept (n + k) (omega arith) ∙ sym (getD-drop n start k d)) in
+      sym (take-append-drop n now) ∙ (λ j. front j ++ back j)

@@ -27,7 +27,7 @@ rounds-unique κs a x y e f p q =
 pub shortfall-unique : One-result shortfall-reads.Learnt
 shortfall-unique κs a x y e f p q = ap (λ (m : ℕ). record { 0 = m }) (p 0 [] ∙ sym (q 0 []))
 
-pub payments-unique : Leaves-one payments-reads.Learnt (λ κs x y e f. e .1 .1 .1 .1 .1 .1 .0 .now ≡ f .1 .1 .1 .1 .1 .1 .0 .now)
+pub payments-unique : Leaves-one payments-reads.Learnt (λ κs x y e f. e .1 .1 .1 .1 .1 .0 .now ≡ f .1 .1 .1 .1 .1 .0 .now)
 payments-unique κs a x y e f p q = p ∙ sym q
 
 pub cover-unique : One-result cover-reads.Learnt

@@ -5,16 +5,17 @@
 --     fill-is                       a filled copy is what was copied
 --     small-at                      a number of such a column
 --     open-on, open-end             the column of open weights
---     part-fits, paid-part, paid-cap, made-at, paid-at     one payment
+--     part-fits, paid-part, paid-cap    one payment
+--     made-at, paid-on, paid-end    the column of caps that becomes that of payments
 --     whole-small                   the sum of such a column fits 64 bits
 use Prim.Native.Nat.{ℕ, _+_, _^_, _≤_, _<_}
 use mathlib.Core.Path.{_≡_, sym, _∙_}
 use mathlib.Core.Logic.{⊎-elim}
 use mathlib.Core.Bool.{cond}
-use mathlib.Core.List.{List}
+use mathlib.Core.List.{List, _++_}
 use native.Mathlib.Omega.{arith}
 use lib.Dec.{eqb}
-use lib.ListN.{length, take, set, List·getD-eq-default}
+use lib.ListN.{length, take, drop, set, List·getD-eq-default}
 use lib.Seq.{getD-take, length-take-le, getD-set-other, getD-set-same, ext-getD}
 use borrow.Author.Count.{below-more}
 use borrow.Author.Tests.{eq-eqb, ne-eqb}
@@ -22,7 +23,7 @@ use Rattle.columns.specs.Sum.{whole}
 use Rattle.columns.specs.Table.{at, table, Below}
 use Rattle.columns.proofs.Sum.{lt-or-le, sum-bound}
 use Rattle.columns.proofs.Table.{table-is}
-use Rattle.columns.proofs.Fill.{Reached, reached-none, reached-next, reached-all}
+use Rattle.columns.proofs.Fill.{Reached, reached-none, reached-next, reached-now, reached-all, reached-front}
 use Rattle.levy.specs.Rounds.{openWeights}
 use Rattle.levy.specs.Asked.{Small, Still, paidFrom, Made}
 
@@ -102,14 +103,23 @@ paid-part m a b e = rw (eq-eqb m 0 e)
 pub paid-cap : (m a b : ℕ) → (m ≡ 0 → ⊥) → b ≡ cond (eqb m 0) a b
 paid-cap m a b e = rw (ne-eqb m 0 e)
 
-pub made-at : (caps marks parts out : List ℕ) → Made caps marks parts out → (i : ℕ) → i < length out
-    → cond (eqb (at marks i) 0) (at parts i) (at caps i) < 2 ^ 32
-unfolding paidFrom
-made-at caps marks parts out made i l = made .fits i l
+-- caps become payments, position by position: what stands at the next one is still its cap
+module _ (caps₀ marks parts caps : List ℕ) (i : ℕ) (made : Made caps₀ marks parts) (fill : Fill (paidFrom caps₀ marks parts) caps₀ caps i)
+    (l : i < length parts) where
+  pub made-at : cond (eqb (at marks i) 0) (at parts i) (at caps i) < 2 ^ 32
+  unfolding paidFrom
+  made-at = rw (reached-now 0 (paidFrom caps₀ marks parts) caps₀ caps i (fill .reached)) (made .fits i l)
 
-pub paid-at : (caps marks parts : List ℕ) (i v : ℕ) → v ≡ cond (eqb (at marks i) 0) (at parts i) (at caps i) → v ≡ paidFrom caps marks parts i
-unfolding paidFrom
-paid-at caps marks parts i v e = e
+  pub paid-on : (v : ℕ) → v ≡ cond (eqb (at marks i) 0) (at parts i) (at caps i) → Fill (paidFrom caps₀ marks parts) caps₀ (set caps i v) (i + 1)
+  paid-on v e =
+      fill-on (paidFrom caps₀ marks parts) caps₀ caps i fill 256 (made .caps-long) (omega (arith, made .few)) v
+      (unfold paidFrom in rw (← reached-now 0 (paidFrom caps₀ marks parts) caps₀ caps i (fill .reached)) e) (rw e made-at)
+
+pub paid-end : (caps₀ marks parts caps : List ℕ) (i : ℕ) → Fill (paidFrom caps₀ marks parts) caps₀ caps i → i ≤ length parts → length parts ≤ i
+    → caps ≡ table (length parts) (paidFrom caps₀ marks parts) ++ drop (length parts) caps₀
+paid-end caps₀ marks parts caps i fill l m =
+    let e : i ≡ length parts = omega arith in
+    rw (← e) (reached-front 0 (paidFrom caps₀ marks parts) caps₀ caps i (fill .reached))
 
 pub whole-small : (xs : List ℕ) → length xs ≤ 256 → Small xs → whole xs < 2 ^ 64
 unfolding whole

@@ -7,9 +7,9 @@
 --     payable                                   what the makers of payments ask, from the answer of the rounds
 use Prim.Native.Nat.{ℕ, _≤_, _<_}
 use mathlib.Core.Path.{_≡_, ap, sym, _∙_}
-use mathlib.Core.List.{List}
+use mathlib.Core.List.{List, _++_}
 use native.Mathlib.Omega.{arith}
-use lib.ListN.{length, take}
+use lib.ListN.{length, take, drop}
 use lib.Seq.{getD-take, length-take-le}
 use Rattle.columns.specs.Table.{table}
 use Rattle.columns.proofs.Table.{table-same, front-long}
@@ -22,26 +22,28 @@ use Rattle.levy.specs.declared.Rest.{Rest}
 use Rattle.levy.proofs.Payment.{paid-le-cap}
 use Rattle.levy.proofs.Fill.{whole-small}
 
-module _ (money : ℕ) (still caps marks : List ℕ) (first : ℕ) (parts₀ out : List ℕ)
-    (asked : Spread money still caps marks first parts₀ out) where
+module _ (money : ℕ) (still caps marks : List ℕ) (first : ℕ) (parts₀ : List ℕ) (asked : Spread money still caps marks first parts₀) where
   pub spread-split : Splittable still parts₀ first
   spread-split =
       record { short = asked .few; room = asked .parts-long; fits = whole-small still (asked .few) (asked .small); inside = asked .turn }
 
   module _ (parts : List ℕ) (parts-are : parts ≡ shares money still first) where
-    pub spread-made : Made caps marks parts out
+    long : length parts ≡ length still
+    long = ap length parts-are ∙ shares-length money still first
+
+    pub spread-made : Made caps marks parts
     spread-made =
         record {
-          few = omega (arith, asked .out-long, asked .few);
-          parts-long = ap length parts-are ∙ shares-length money still first ∙ sym (asked .out-long);
-          fits = rw parts-are (asked .fits);
+          few = omega (arith, long, asked .few);
+          caps-long = asked .caps-long;
+          fits = λ i l. rw parts-are (asked .fits i (omega (arith, long)));
         }
 
-    pub spread-out : (made : List ℕ) → made ≡ table (length out) (paidFrom caps marks parts)
-        → made ≡ table (length out) (paidFrom caps marks (shares money still first))
-    spread-out made is = is ∙ ap (λ (xs : List ℕ). table (length out) (paidFrom caps marks xs)) parts-are
+    pub spread-out : (made : List ℕ) → made ≡ table (length parts) (paidFrom caps marks parts) ++ drop (length parts) caps
+        → made ≡ table (length still) (paidFrom caps marks (shares money still first)) ++ drop (length still) caps
+    spread-out made is = is ∙ (λ j. table (long j) (paidFrom caps marks (parts-are j)) ++ drop (long j) caps)
 
-module _ (n : ℕ) (weights caps marks : List ℕ) (rest : Rest) (first : ℕ) (out : List ℕ) (asked : Payable n weights caps marks rest first out)
+module _ (n : ℕ) (weights caps marks : List ℕ) (rest : Rest) (first : ℕ) (asked : Payable n weights caps marks rest first)
     (still : List ℕ) (open-are : Still n weights marks still) where
   wide : length (take n weights) ≡ n
   wide = length-take-le n weights (omega (arith, asked .few, asked .weights-long))
@@ -55,26 +57,32 @@ module _ (n : ℕ) (weights caps marks : List ℕ) (rest : Rest) (first : ℕ) (
   paid-same i l =
       rw (getD-take n marks i 0 l, getD-take n caps i 0 l, shares-at (rest .money .0) (take n still) first i, open-are .is)
 
-  pub pay-spread : (parts : List ℕ) → length parts ≡ 256 → Spread (rest .money .0) (take n still) caps marks first (take n parts) out
+  pub pay-spread : (parts : List ℕ) → length parts ≡ 256 → Spread (rest .money .0) (take n still) caps marks first (take n parts)
   pay-spread parts room =
       record {
         few = omega (arith, front, asked .few);
         small = open-are .small;
         parts-long = omega (arith, front, length-take-le n parts (omega (arith, asked .few)));
-        out-long = omega (arith, front, asked .out-long);
+        caps-long = asked .caps-long;
         turn = rw front (asked .turn);
-        fits = λ i l. rw (paid-same i (omega (arith, asked .out-long))) (asked .fits i);
+        fits = λ i l. rw (paid-same i (omega (arith, front))) (asked .fits i);
       }
 
-  pub payments-made : (made : List ℕ) → made ≡ table (length out) (paidFrom caps marks (shares (rest .money .0) (take n still) first))
-      → made ≡ payments (take n weights) (take n caps) (standingOf n marks rest) first
+  pays : table n (paidFrom caps marks (shares (rest .money .0) (take n still) first))
+      ≡ payments (take n weights) (take n caps) (standingOf n marks rest) first
   unfolding payments
+  pays =
+      table-same n (paidFrom caps marks (shares (rest .money .0) (take n still) first)) (paid (take n weights) (take n caps) (standingOf n marks rest) first)
+      paid-same
+      ∙ ap (λ (m : ℕ). table m (paid (take n weights) (take n caps) (standingOf n marks rest) first)) (sym wide)
+
+  pub payments-made : (made : List ℕ)
+      → made ≡ table (length (take n still)) (paidFrom caps marks (shares (rest .money .0) (take n still) first)) ++ drop (length (take n still)) caps
+      → made ≡ payments (take n weights) (take n caps) (standingOf n marks rest) first ++ drop n caps
   payments-made made is =
       is
-      ∙ ap (λ (m : ℕ). table m (paidFrom caps marks (shares (rest .money .0) (take n still) first))) (omega (arith, wide, asked .out-long))
-      ∙ table-same (length (take n weights)) (paidFrom caps marks (shares (rest .money .0) (take n still) first))
-      (paid (take n weights) (take n caps) (standingOf n marks rest) first)
-      (λ k l. paid-same k (omega (arith, wide)))
+      ∙ ap (λ (m : ℕ). table m (paidFrom caps marks (shares (rest .money .0) (take n still) first)) ++ drop m caps) front
+      ∙ ap (λ (xs : List ℕ). xs ++ drop n caps) pays
 
 module _ (amount : ℕ) (sums : List ℕ) (first : ℕ) (out : List ℕ) (asked : Apportionable amount sums first out)
     (weights : List ℕ) (same : weights ≡ sums) where
@@ -108,15 +116,13 @@ front-room n xs ys few long more = record { one-long = sym (front-long xs n 256 
 
 -- once the rounds have ended nobody pays above its cap, so each payment fits
 pub payable : (total n : ℕ) (weights caps marks₀ marks : List ℕ) (rest : Rest) → Levyable n weights caps marks₀ total
-    → Finished total n weights caps marks rest → (first : ℕ) → (0 < n → first < n) → (out : List ℕ) → length out ≡ n
-    → Payable n weights caps marks rest first out
-payable total n weights caps marks₀ marks rest asked ended first turn out long =
+    → Finished total n weights caps marks rest → (first : ℕ) → (0 < n → first < n) → Payable n weights caps marks rest first
+payable total n weights caps marks₀ marks rest asked ended first turn =
     record {
       few = asked .held .few;
       weights-long = asked .held .weights-long;
       caps-long = asked .held .caps-long;
       marks-long = ended .long;
-      out-long = long;
       turn = turn;
       fits = λ i. rw (ended .is) (omega (arith, paid-le-cap total (take n weights) (take n caps) first i, asked .held .low i));
     }

@@ -95,12 +95,11 @@ pub record Still (n : ℕ) (weights marks still : List ℕ) : Type 0 where
   pub long : length still ≡ 256
 
 -- asked by the payments: each fits its field
-pub record Payable (n : ℕ) (weights caps marks : List ℕ) (r : Rest) (first : ℕ) (out : List ℕ) : Type 0 where
+pub record Payable (n : ℕ) (weights caps marks : List ℕ) (r : Rest) (first : ℕ) : Type 0 where
   pub few : n ≤ 256
   pub weights-long : length weights ≡ 256
   pub caps-long : length caps ≡ 256
   pub marks-long : length marks ≡ 256
-  pub out-long : length out ≡ n
   pub turn : 0 < n → first < n
   pub fits : (i : ℕ) → paid (take n weights) (take n caps) (standingOf n marks r) first i < 2 ^ 32
 
@@ -109,19 +108,19 @@ unfoldable pub paidFrom : List ℕ → List ℕ → List ℕ → ℕ → ℕ
 paidFrom caps marks parts i = cond (eqb (at marks i) 0) (at parts i) (at caps i)
 
 -- asked where shares and caps become payments
-pub record Made (caps marks parts out : List ℕ) : Type 0 where
-  pub few : length out ≤ 256
-  pub parts-long : length parts ≡ length out
-  pub fits : (i : ℕ) → i < length out → paidFrom caps marks parts i < 2 ^ 32
+pub record Made (caps marks parts : List ℕ) : Type 0 where
+  pub few : length parts ≤ 256
+  pub caps-long : length caps ≡ 256
+  pub fits : (i : ℕ) → i < length parts → paidFrom caps marks parts i < 2 ^ 32
 
 -- asked where the money left is shared over the open weights: the payments that come of it fit
-pub record Spread (money : ℕ) (still caps marks : List ℕ) (first : ℕ) (parts out : List ℕ) : Type 0 where
+pub record Spread (money : ℕ) (still caps marks : List ℕ) (first : ℕ) (parts : List ℕ) : Type 0 where
   pub few : length still ≤ 256
   pub small : Small still
   pub parts-long : length parts ≡ length still
-  pub out-long : length out ≡ length still
+  pub caps-long : length caps ≡ 256
   pub turn : 0 < length still → first < length still
-  pub fits : (i : ℕ) → i < length out → paidFrom caps marks (shares money still first) i < 2 ^ 32
+  pub fits : (i : ℕ) → i < length still → paidFrom caps marks (shares money still first) i < 2 ^ 32
 
 -- room for two columns of n
 pub record Room (n : ℕ) (one two : List ℕ) : Type 0 where

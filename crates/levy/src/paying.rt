@@ -6,7 +6,8 @@ ghost use mathlib.Core.Path.{_≡_};
 ghost use mathlib.Core.Bool.{cond};
 ghost use Prim.Native.Nat.{_^_, _≤_, _<_};
 ghost use lib.Dec.{eqb};
-ghost use lib.ListN.{length, take};
+ghost use mathlib.Core.List.{_++_};
+ghost use lib.ListN.{length, take, drop};
 ghost use Rattle.columns.specs.Table.{table};
 ghost use Rattle.share.specs.Share.{shares};
 ghost use Rattle.levy.specs.Rounds.{payments};
@@ -35,16 +36,16 @@ fn paid_by(mark: u32, part: u64, cap: u32) -> u32
     cap
 }
 
-// The column of payments, from the shares of the money that was left.
-fn pay_out(parts: &[u64], caps: &[u32; 256], marks: &[u32; 256], out: &mut [u32])
-    requires { ⌜ Made (now caps) (now marks) (now parts) (now out) ⌝ }
-    ensures { λ _. ⌜ now (out .exit) ≡ table (length (now (out .entry)))
-        (paidFrom (now (caps .entry)) (now (marks .entry)) (now (parts .entry))) ⌝ }
+// The caps of a column become payments: in the place of an open payer's cap comes its share of the money that was left.
+fn pay_out(parts: &[u64], marks: &[u32; 256], caps: &mut [u32; 256])
+    requires { ⌜ Made (now caps) (now marks) (now parts) ⌝ }
+    ensures { λ _. ⌜ now (caps .exit) ≡ table (length (now (parts .entry))) (paidFrom (now (caps .entry)) (now (marks .entry)) (now (parts .entry)))
+        ++ drop (length (now (parts .entry))) (now (caps .entry)) ⌝ }
 {
-    let n = out.len();
+    let n = parts.len();
     let mut i = 0;
     while i < n {
-        out[i] = paid_by(marks[i], parts[i], caps[i]);
+        caps[i] = paid_by(marks[i], parts[i], caps[i]);
         i += 1;
     }
 }
@@ -53,44 +54,35 @@ fn pay_out(parts: &[u64], caps: &[u32; 256], marks: &[u32; 256], out: &mut [u32]
 fn pay_open(
     money: Fen,
     still: &[u64],
-    caps: &[u32; 256],
     marks: &[u32; 256],
     first: usize,
     parts: &mut [u64],
-    out: &mut [u32],
+    caps: &mut [u32; 256],
 )
-    requires { ⌜ Spread (money .0) (now still) (now caps) (now marks) first (now parts) (now out) ⌝ }
-    ensures { λ _. ⌜ now (out .exit) ≡ table (length (now (out .entry)))
-        (paidFrom (now (caps .entry)) (now (marks .entry)) (shares (money .0) (now (still .entry)) first)) ⌝ }
+    requires { ⌜ Spread (money .0) (now still) (now caps) (now marks) first (now parts) ⌝ }
+    ensures { λ _. ⌜ now (caps .exit) ≡ table (length (now (still .entry)))
+        (paidFrom (now (caps .entry)) (now (marks .entry)) (shares (money .0) (now (still .entry)) first))
+        ++ drop (length (now (still .entry))) (now (caps .entry)) ⌝ }
 {
     share::split(money.0, still, first, parts);
-    pay_out(parts, caps, marks, out);
+    pay_out(parts, marks, caps);
 }
 
-// What each position pays once the rounds have ended. Fen are made here, once.
+// What each of n positions pays once the rounds have ended, in the place of its cap. Fen are made here, once.
 pub fn payments(
     n: usize,
     rest: Rest,
     weights: &[u32; 256],
-    caps: &[u32; 256],
     marks: &[u32; 256],
     first: usize,
-    out: &mut [u32],
+    caps: &mut [u32; 256],
 )
-    requires { ⌜ Payable n (now weights) (now caps) (now marks) rest first (now out) ⌝ }
-    ensures { λ _. ⌜ now (out .exit) ≡ payments (take n (now (weights .entry))) (take n (now (caps .entry)))
-        (standingOf n (now (marks .entry)) rest) first ⌝ }
+    requires { ⌜ Payable n (now weights) (now caps) (now marks) rest first ⌝ }
+    ensures { λ _. ⌜ now (caps .exit) ≡ payments (take n (now (weights .entry))) (take n (now (caps .entry)))
+        (standingOf n (now (marks .entry)) rest) first ++ drop n (now (caps .entry)) ⌝ }
 {
     let mut still = [0u64; 256];
     let mut parts = [0u64; 256];
     open_weights(n, weights, marks, &mut still);
-    pay_open(
-        rest.money,
-        &still[..n],
-        caps,
-        marks,
-        first,
-        &mut parts[..n],
-        out,
-    );
+    pay_open(rest.money, &still[..n], marks, first, &mut parts[..n], caps);
 }

@@ -5,14 +5,15 @@
 --     fit               what its rounds ask
 --     pay-asked         what its payments ask
 --     told, made        what the code answers is the outcome, and the payments, of the case
+--     paid-at           one of these payments
 --     p1-to-p5          interval X at five tariffs
 --     four, four-paid   the case of four rounds, and what is paid in it
 use Prim.Native.Nat.{ℕ, zero, suc, _≤_, zero-le}
 use mathlib.Core.Path.{_≡_, refl, ap, _∙_}
 use mathlib.Core.Bool.{Bool, true, _&&_}
-use mathlib.Core.List.{List, [], _∷_}
+use mathlib.Core.List.{List, [], _∷_, _++_}
 use lib.Dec.{T, eqb, leb, ltb, leb→le, ltb→lt}
-use lib.ListN.{length, take, replicate, length-replicate}
+use lib.ListN.{length, take, drop, replicate, length-replicate}
 use borrow.Author.Tests.{eq-eqb}
 use Rattle.columns.specs.Sum.{sumTo, whole, countTo}
 use Rattle.columns.specs.Table.{at, table}
@@ -44,10 +45,10 @@ caps-low cap2 cap3 low2 low3 (suc zero) = low2
 caps-low cap2 cap3 low2 low3 (suc (suc zero)) = low3
 caps-low cap2 cap3 low2 low3 (suc (suc (suc i))) = zero-le
 
-pub ready : (total n : ℕ) (weights caps out : List ℕ) → T (leb n 256) → length weights ≡ 256 → length caps ≡ 256
+pub ready : (total n : ℕ) (weights caps : List ℕ) → T (leb n 256) → length weights ≡ 256 → length caps ≡ 256
     → T (lows 550000000 (take n weights)) → ((i : ℕ) → at (take n caps) i ≤ 44000000) → T (leb total 6400000000) → T (ltb 0 n)
-    → length out ≡ n → Case total n weights caps out
-ready total n weights caps out few long wide light low rich some room =
+    → Case total n weights caps
+ready total n weights caps few long wide light low rich some =
     record {
       fit =
           record {
@@ -64,23 +65,21 @@ ready total n weights caps out few long wide light low rich some room =
             blank = zeros-at 256;
           };
       some = ltb→lt 0 n some;
-      long = room;
     }
 
 -- interval X's columns, in arrays of 256
 pub fit-x : (cap2 cap3 rounds shortfall paid2 paid3 : ℕ) → Worked cap2 cap3 rounds shortfall paid2 paid3
-    → Case 90000 3 (0 ∷ 15000 ∷ 5000 ∷ replicate 253 0) (0 ∷ cap2 ∷ cap3 ∷ replicate 253 0) (0 ∷ 0 ∷ 0 ∷ [])
+    → Case 90000 3 (0 ∷ 15000 ∷ 5000 ∷ replicate 253 0) (0 ∷ cap2 ∷ cap3 ∷ replicate 253 0)
 fit-x cap2 cap3 rounds shortfall paid2 paid3 w =
-    ready 90000 3 (0 ∷ 15000 ∷ 5000 ∷ replicate 253 0) (0 ∷ cap2 ∷ cap3 ∷ replicate 253 0) (0 ∷ 0 ∷ 0 ∷ []) tt refl refl tt
-    (caps-low cap2 cap3 (w .low2) (w .low3)) tt tt refl
+    ready 90000 3 (0 ∷ 15000 ∷ 5000 ∷ replicate 253 0) (0 ∷ cap2 ∷ cap3 ∷ replicate 253 0) tt refl refl tt
+    (caps-low cap2 cap3 (w .low2) (w .low3)) tt tt
 
-module _ (total n : ℕ) (weights caps out : List ℕ) (asked : Case total n weights caps out) where
+module _ (total n : ℕ) (weights caps : List ℕ) (asked : Case total n weights caps) where
   pub fit : (marks : List ℕ) → marks ≡ replicate 256 0 → Levyable n weights caps marks total
   fit marks blank = rw blank (asked .fit)
 
-  pub pay-asked : (marks : List ℕ) (r : Rest) → Finished total n weights caps marks r → Payable n weights caps marks r 0 out
-  pay-asked marks r ended =
-      payable total n weights caps (replicate 256 0) marks r (asked .fit) ended 0 (λ l. l) out (asked .long)
+  pub pay-asked : (marks : List ℕ) (r : Rest) → Finished total n weights caps marks r → Payable n weights caps marks r 0
+  pay-asked marks r ended = payable total n weights caps (replicate 256 0) marks r (asked .fit) ended 0 (λ l. l)
 
 pub told : (total n : ℕ) (weights caps marks : List ℕ) (r : Rest) → Finished total n weights caps marks r → (x : ℕ) → Short r x
     → r .rounds ∷ x ∷ [] ≡ outcome total (take n weights) (take n caps)
@@ -88,10 +87,16 @@ unfolding outcome
 told total n weights caps marks r ended x short =
     rw (short n marks) (ap (λ (st : Standing). st .rounds ∷ shortfall st ∷ []) (ended .is))
 
-pub made : (total n : ℕ) (weights caps marks : List ℕ) (r : Rest) → Finished total n weights caps marks r → (out : List ℕ)
-    → out ≡ payments (take n weights) (take n caps) (standingOf n marks r) 0 → out ≡ paidIn total (take n weights) (take n caps)
+pub made : (total n : ℕ) (weights caps marks : List ℕ) (r : Rest) → Finished total n weights caps marks r → (paid : List ℕ)
+    → paid ≡ payments (take n weights) (take n caps) (standingOf n marks r) 0 ++ drop n caps
+    → paid ≡ paidIn total (take n weights) (take n caps) ++ drop n caps
 unfolding paidIn
-made total n weights caps marks r ended out is = is ∙ ap (λ (st : Standing). payments (take n weights) (take n caps) st 0) (ended .is)
+made total n weights caps marks r ended paid is =
+    is ∙ ap (λ (st : Standing). payments (take n weights) (take n caps) st 0 ++ drop n caps) (ended .is)
+
+-- a payment, of an array in which payments stand in front
+pub paid-at : (i : ℕ) (xs paid ys past : List ℕ) → xs ≡ paid ++ past → paid ≡ ys → eqb (at xs i) (at (ys ++ past) i) ≡ true
+paid-at i xs paid ys past e f = got-at i xs (paid ++ past) (ys ++ past) e (ap (λ (zs : List ℕ). zs ++ past) f)
 
 -- caps that are small by a computed test, and figures that the definitions come to
 worked : (cap2 cap3 rounds shortfall paid2 paid3 : ℕ) → T (leb cap2 44000000) → T (leb cap3 44000000)

@@ -2,15 +2,14 @@
 use Prim.Native.Nat.{ℕ, _≤_, _<_}
 use mathlib.Core.Path.{_≡_}
 use mathlib.Core.List.{List, [], _∷_}
-use lib.ListN.{length, replicate}
+use lib.ListN.{replicate}
 use Rattle.levy.specs.Rounds.{final, payments, shortfall}
 use Rattle.levy.specs.Asked.{Levyable}
 
 -- columns that the rounds take, from marks that are all 0
-pub record Case (total n : ℕ) (weights caps out : List ℕ) : Type 0 where
+pub record Case (total n : ℕ) (weights caps : List ℕ) : Type 0 where
   pub fit : Levyable n weights caps (replicate 256 0) total
   pub some : 0 < n
-  pub long : length out ≡ n
 
 -- how many rounds, and what nobody is left to pay
 unfoldable pub outcome : ℕ → List ℕ → List ℕ → List ℕ

@@ -2,7 +2,9 @@
 // written as numbers; rounds, shortfall and payments are proved and printed. P6 to P11 are no matter of rounds and stand elsewhere.
 use units::Fen;
 ghost use mathlib.Core.Path.{_≡_};
-ghost use lib.ListN.{take, replicate};
+ghost use mathlib.Core.List.{_++_};
+ghost use Prim.Native.Nat.{_≤_};
+ghost use lib.ListN.{take, drop, replicate};
 ghost use Rattle.levy_try.specs.Shown.{Case, Worked, outcome, paidIn};
 
 fn show(x: u64) {
@@ -18,10 +20,12 @@ fn end_line() {
     io::write_all(1, b"\n");
 }
 
-// A column on a line of its own.
-fn show_line(column: &[u32]) {
+// The first n figures of a column on a line of their own.
+fn show_line(n: usize, column: &[u32; 256])
+    requires { ⌜ n ≤ 256 ⌝ }
+{
     let mut i = 0;
-    while i < column.len() {
+    while i < n {
         show_figure(column[i]);
         i += 1;
     }
@@ -35,20 +39,20 @@ fn blank() -> [u32; 256]
     [0; 256]
 }
 
-// All the rounds of a case, then what everybody pays.
-fn shown(total: Fen, n: usize, weights: &[u32; 256], caps: &[u32; 256], out: &mut [u32]) -> [u64; 2]
-    requires { ⌜ Case (total .0) n (now weights) (now caps) (now out) ⌝ }
+// All the rounds of a case, then what everybody pays, in the place of the caps.
+fn shown(total: Fen, n: usize, weights: &[u32; 256], caps: &mut [u32; 256]) -> [u64; 2]
+    requires { ⌜ Case (total .0) n (now weights) (now caps) ⌝ }
     ensures { λ r. ⌜ (r ≡ outcome (total .0) (take n (now (weights .entry))) (take n (now (caps .entry))))
-        × (now (out .exit) ≡ paidIn (total .0) (take n (now (weights .entry))) (take n (now (caps .entry)))) ⌝ }
+        × (now (caps .exit) ≡ paidIn (total .0) (take n (now (weights .entry))) (take n (now (caps .entry))) ++ drop n (now (caps .entry))) ⌝ }
 {
     let mut marks = blank();
     let rest = levy::rounds(total, n, weights, caps, &mut marks);
     let short = levy::shortfall(rest);
-    levy::payments(n, rest, weights, caps, &marks, 0, out);
+    levy::payments(n, rest, weights, &marks, 0, caps);
     show(rest.rounds as u64);
     show(short.0);
     end_line();
-    show_line(out);
+    show_line(n, caps);
     [rest.rounds as u64, short.0]
 }
 
@@ -62,12 +66,11 @@ fn interval(cap2: u32, cap3: u32, rounds: u64, shortfall: u64, paid2: u32, paid3
     let mut caps = [0u32; 256];
     caps[1] = cap2;
     caps[2] = cap3;
-    let mut out = [0u32; 3];
-    let told = shown(Fen(90000), 3, &weights, &caps, &mut out);
+    let told = shown(Fen(90000), 3, &weights, &mut caps);
     check::expect(told[0] == rounds);
     check::expect(told[1] == shortfall);
-    check::expect(out[1] == paid2);
-    check::expect(out[2] == paid3);
+    check::expect(caps[1] == paid2);
+    check::expect(caps[2] == paid3);
 }
 
 // Five payers of one weight: one closes in each of four rounds, and the fifth pays what is left.
@@ -84,10 +87,9 @@ fn many() {
     caps[2] = 3000;
     caps[3] = 2290;
     caps[4] = 2100;
-    let mut out = [0u32; 5];
-    let told = shown(Fen(10000), 5, &weights, &caps, &mut out);
+    let told = shown(Fen(10000), 5, &weights, &mut caps);
     check::expect(told[0] == 4);
-    check::expect(out[2] == 2308);
+    check::expect(caps[2] == 2308);
 }
 
 // P1 to P5, at tariffs 3545, 1350, 1300, 1200 and 1000, then the four rounds.

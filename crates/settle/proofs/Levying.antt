@@ -2,9 +2,8 @@
 --   payments-asked, levied-on     the rounds over arrays, and the payments after them
 --   front-leviable                a front of n numbers
 --   weights-asked, caps-asked     weights and caps may be read into fronts of fresh arrays
---   payments-room, levied-in      the payments may be put, and what is left
 --   rounds-asked                  the arrays are such as the rounds ask for
---   marks-count, marks-asked, levied    the closing rounds may be put, and what the stage leaves
+--   paid-count, marks-count, paid-asked, marks-asked, levied    payments and closing rounds may be put, and what the stage leaves
 --   shares-asked, shares-lined, shares-left     an amount over the sums of a field, in lent columns
 --   front-shareable, share-front, share-there    and in fronts of fresh arrays
 --   divided-none, divided-asked, divided-more, divided-all    one sharing after the other
@@ -31,7 +30,7 @@ use Rattle.levy.proofs.Making.{payable}
 use Rattle.levy.proofs.Payment.{payments-length}
 use Rattle.statement.specs.Line as line
 use Rattle.settle.specs.Within.{Turn}
-use Rattle.settle.specs.Work.{Ruled, Leviable, standingIn, LeviedOn, LeviedIn, Levied, sharingOf, Shareable, sharedOut, dividedTo, Divisible}
+use Rattle.settle.specs.Work.{Ruled, Leviable, standingIn, LeviedOn, Levied, sharingOf, Shareable, sharedOut, dividedTo, Divisible}
 use Rattle.settle.specs.declared.payers.Sharing.{Sharing}
 use Rattle.settle.proofs.Lending.{fresh, front-count}
 
@@ -43,38 +42,37 @@ column-long n s f = table-length n (cell f s)
 
 module _ (total n first : ℕ) (weights caps marks₀ marks : List ℕ) (rest : Rest) (asked : Levyable n weights caps marks₀ total) (turn : Turn n first)
     (ended : Finished total n weights caps marks rest) where
-  pub payments-asked : (paid : List ℕ) → length paid ≡ n → Payable n weights caps marks rest first paid
-  payments-asked paid long = payable total n weights caps marks₀ marks rest asked ended first turn paid long
+  pub payments-asked : Payable n weights caps marks rest first
+  payments-asked = payable total n weights caps marks₀ marks rest asked ended first turn
 
-  pub levied-on : (paid : List ℕ) → paid ≡ payments (take n weights) (take n caps) (standingOf n marks rest) first
-      → LeviedOn n first total (take n weights) (take n caps) marks paid rest
+  -- what everybody pays by the standing that the rounds left
+  abbrev paying : List ℕ
+  paying = payments (take n weights) (take n caps) (standingOf n marks rest) first
+
+  paying-long : length paying ≡ n
+  paying-long =
+      payments-length (take n weights) (take n caps) (standingOf n marks rest) first
+      ∙ length-take-le n weights (omega (arith, asked .held .few, asked .held .weights-long))
+
+  pub levied-on : (paid : List ℕ) → paid ≡ paying ++ drop n caps → LeviedOn n first total (take n weights) (take n caps) marks paid rest
   levied-on paid made =
       record {
         stands = ended .is;
-        long = ended .long;
-        payments = made ∙ ap (λ (st : Standing). payments (take n weights) (take n caps) st first) (ended .is);
+        marks-long = ended .long;
+        paid-long =
+            omega (
+              arith,
+              ap length made,
+              length-append paying (drop n caps),
+              paying-long,
+              length-drop n caps,
+              asked .held .few,
+              asked .held .caps-long,
+            );
+        payments =
+            ap (take n) made ∙ take-at paying (drop n caps) n paying-long
+            ∙ ap (λ (st : Standing). payments (take n weights) (take n caps) st first) (ended .is);
       }
-
--- ---- payments put into the sheet
-
-module _ (n first total : ℕ) (ws cs marks paid s : List ℕ) (r : Rest) (now : LeviedOn n first total ws cs marks paid r) where
-  pub payments-lined : length ws ≡ n → Ruled n line.paid s → Lined line.paid (length paid) s
-  payments-lined long ruled =
-      let e : length paid ≡ n = ap length (now .payments) ∙ payments-length ws cs (final total ws cs) first ∙ long in rw e (ruled .lined)
-
-  pub levied-in : (t : List ℕ) → t ≡ withColumn line.paid paid s → LeviedIn n first total ws cs s marks t r
-  levied-in t put =
-      record {
-        stands = now .stands;
-        long = now .long;
-        bytes = put ∙ ap (λ (xs : List ℕ). withColumn line.paid xs s) (now .payments);
-      }
-
-pub payments-room : (n first total : ℕ) (weights caps marks₀ marks paid s : List ℕ) (r : Rest) → Levyable n weights caps marks₀ total
-    → Ruled n line.paid s → LeviedOn n first total (take n weights) (take n caps) marks paid r → Lined line.paid (length paid) s
-payments-room n first total weights caps marks₀ marks paid s r asked ruled now =
-    payments-lined n first total (take n weights) (take n caps) marks paid s r now
-    (length-take-le n weights (omega (arith, asked .held .few, asked .held .weights-long))) ruled
 
 -- ---- over the sheet
 
@@ -119,40 +117,35 @@ module _ (n first total : ℕ) (s : List ℕ) (asked : Leviable n first total s)
           blank = zeros-at 256;
         }
 
-    module _ (marks t : List ℕ) (r : Rest)
-        (now : LeviedIn n first total (take n (ws ++ drop n fresh)) (take n (cs ++ drop n fresh)) s marks t r) where
+    module _ (marks paid : List ℕ) (r : Rest)
+        (now : LeviedOn n first total (take n (ws ++ drop n fresh)) (take n (cs ++ drop n fresh)) marks paid r) where
       ends : final total (take n (ws ++ drop n fresh)) (take n (cs ++ drop n fresh)) ≡ standingIn total n s
       ends = λ j. final total (array-front line.weight ws weights-read j) (array-front line.cap cs caps-read j)
 
-      payings : t ≡ withColumn line.paid (payments (columnOf line.weight n s) (columnOf line.cap n s) (standingIn total n s) first) s
+      payings : take n paid ≡ payments (columnOf line.weight n s) (columnOf line.cap n s) (standingIn total n s) first
       payings =
-          now .bytes
-          ∙ (λ j. withColumn line.paid
-          (payments (array-front line.weight ws weights-read j) (array-front line.cap cs caps-read j) (ends j) first) s)
+          now .payments
+          ∙ (λ j. payments (array-front line.weight ws weights-read j) (array-front line.cap cs caps-read j) (ends j) first)
+
+      pub paid-count : n ≡ length (take n paid)
+      paid-count = sym (length-take-le n paid (omega (arith, now .paid-long, asked .few)))
 
       pub marks-count : n ≡ length (take n marks)
-      marks-count = sym (length-take-le n marks (omega (arith, now .long, asked .few)))
+      marks-count = sym (length-take-le n marks (omega (arith, now .marks-long, asked .few)))
 
-      pays-long : length (payments (columnOf line.weight n s) (columnOf line.cap n s) (standingIn total n s) first) ≡ n
-      pays-long =
-          payments-length (columnOf line.weight n s) (columnOf line.cap n s) (standingIn total n s) first ∙ column-long n s line.weight
+      pub paid-asked : Lined line.paid (length (take n paid)) s
+      paid-asked = rw (← paid-count) (asked .paid .lined)
 
-      t-long : length t ≡ length s
-      t-long =
-          ap length payings
-          ∙ column-length line.paid (payments (columnOf line.weight n s) (columnOf line.cap n s) (standingIn total n s) first) s
-          (rw pays-long (asked .paid .lined))
-
-      pub marks-asked : Lined line.closing (length (take n marks)) t
-      marks-asked = rw (← marks-count) (record { inside = asked .closing .lined .inside; room = omega (arith, t-long, asked .closing .lined .room) })
+      pub marks-asked : Lined line.closing (length (take n marks)) s
+      marks-asked = rw (← marks-count) (asked .closing .lined)
 
       stands : standingOf n marks r ≡ standingIn total n s
       stands = now .stands ∙ ends
 
-      pub levied : (u : List ℕ) → u ≡ withColumn line.closing (take n marks) t → Levied n first total s u r
-      levied u put =
+      pub levied : (t : List ℕ) → t ≡ withColumn line.closing (take n marks) (withColumn line.paid (take n paid) s) → Levied n first total s t r
+      levied t put =
           record {
-            bytes = put ∙ (λ j. withColumn line.closing (stands j .marks) (payings j));
+            bytes = put ∙ (λ j. withColumn line.closing (stands j .marks) (withColumn line.paid (payings j) s));
             money = ap (λ (st : Standing). st .money) stands;
             weight = ap (λ (st : Standing). st .weight) stands;
             rounds = ap (λ (st : Standing). st .rounds) stands;

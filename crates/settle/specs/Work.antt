@@ -5,7 +5,7 @@ use mathlib.Core.Path.{_≡_}
 use mathlib.Core.Bool.{cond}
 use mathlib.Core.List.{List, [], _∷_}
 use lib.Dec.{eqb}
-use lib.ListN.{length}
+use lib.ListN.{length, take}
 use Rattle.columns.specs.Sum.{whole}
 use Rattle.columns.specs.Table.{at, table}
 use Rattle.records.specs.Sheet.{Lined, cell, columnOf, withColumn, fieldOf, sheet}
@@ -167,17 +167,12 @@ pub record Leviable (n first total : ℕ) (s : List ℕ) : Type 0 where
 abbrev pub standingIn : ℕ → ℕ → List ℕ → Standing
 standingIn total n s = final total (columnOf line.weight n s) (columnOf line.cap n s)
 
--- the rounds are over: how things stand, closing rounds and payments
+-- the rounds are over: how things stand, and the payments in front of an array
 pub record LeviedOn (n first total : ℕ) (ws cs marks paid : List ℕ) (r : Rest) : Type 0 where
   pub stands : standingOf n marks r ≡ final total ws cs
-  pub long : length marks ≡ 256
-  pub payments : paid ≡ payments ws cs (final total ws cs) first
-
--- the same with the payments in their field of the sheet
-pub record LeviedIn (n first total : ℕ) (ws cs s marks t : List ℕ) (r : Rest) : Type 0 where
-  pub stands : standingOf n marks r ≡ final total ws cs
-  pub long : length marks ≡ 256
-  pub bytes : t ≡ withColumn line.paid (payments ws cs (final total ws cs) first) s
+  pub marks-long : length marks ≡ 256
+  pub paid-long : length paid ≡ 256
+  pub payments : take n paid ≡ payments ws cs (final total ws cs) first
 
 -- everybody has paid: payments and closing rounds stand in their fields, and what is left is known
 pub record Levied (n first total : ℕ) (s t : List ℕ) (r : Rest) : Type 0 where

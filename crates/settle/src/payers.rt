@@ -1,5 +1,6 @@
 // The payers' stages: the rounds and what each payer pays, then what is cut from the receivers, and what is returned to those who owe.
 use crate::pairs::get_pair;
+use crate::pairs::put_pair;
 use levy::Left;
 use levy::Rest;
 use records::Field;
@@ -17,44 +18,23 @@ use units::Fen;
 ghost use mathlib.Core.Path.{_≡_};
 ghost use lib.ListN.{length, take};
 ghost use Rattle.levy.specs.Asked.{Levyable};
-ghost use Rattle.statement.specs.Line as line;
 ghost use Rattle.settle.specs.Within.{Turn};
-ghost use Rattle.settle.specs.Work.{Ruled, Leviable, LeviedOn, LeviedIn, Levied, sharingOf, Shareable, sharedOut, dividedTo, Divisible};
+ghost use Rattle.settle.specs.Work.{Leviable, LeviedOn, Levied, sharingOf, Shareable, sharedOut, dividedTo, Divisible};
 
-// The rounds over columns, and what each position pays after the last.
+// The rounds over columns, and what each position pays after the last, in the place of its cap.
 fn levy_on(
     total: Fen,
     first: usize,
     n: usize,
     weights: &[u32; 256],
-    caps: &[u32; 256],
+    caps: &mut [u32; 256],
     marks: &mut [u32; 256],
-    paid: &mut [u32],
 ) -> Rest
-    requires { ⌜ Levyable n (now weights) (now caps) (now marks) (total .0) × (length (now paid) ≡ n) × Turn n first ⌝ }
-    ensures { λ r. ⌜ LeviedOn n first (total .0) (take n (now (weights .entry))) (take n (now (caps .entry))) (now (marks .exit)) (now (paid .exit)) r ⌝ }
+    requires { ⌜ Levyable n (now weights) (now caps) (now marks) (total .0) × Turn n first ⌝ }
+    ensures { λ r. ⌜ LeviedOn n first (total .0) (take n (now (weights .entry))) (take n (now (caps .entry))) (now (marks .exit)) (now (caps .exit)) r ⌝ }
 {
     let rest = levy::rounds(total, n, weights, caps, marks);
-    levy::payments(n, rest, weights, caps, marks, first, paid);
-    rest
-}
-
-// The same, with the payments put into the sheet.
-fn levy_in(
-    total: Fen,
-    first: usize,
-    n: usize,
-    weights: &[u32; 256],
-    caps: &[u32; 256],
-    marks: &mut [u32; 256],
-    paid: &mut [u32],
-    sheet: &mut [u8],
-) -> Rest
-    requires { ⌜ Levyable n (now weights) (now caps) (now marks) (total .0) × (length (now paid) ≡ n) × Turn n first × Ruled n line.paid (now sheet) ⌝ }
-    ensures { λ r. ⌜ LeviedIn n first (total .0) (take n (now (weights .entry))) (take n (now (caps .entry))) (now (sheet .entry)) (now (marks .exit)) (now (sheet .exit)) r ⌝ }
-{
-    let rest = levy_on(total, first, n, weights, caps, marks, paid);
-    put_column(sheet, PAID, paid);
+    levy::payments(n, rest, weights, marks, first, caps);
     rest
 }
 
@@ -66,19 +46,9 @@ pub fn collect(total: Fen, first: usize, n: usize, sheet: &mut [u8]) -> Rest
     let mut weights = [0u32; 256];
     let mut caps = [0u32; 256];
     let mut marks = [0u32; 256];
-    let mut paid = [0u32; 256];
     get_pair(sheet, WEIGHT, CAP, &mut weights[..n], &mut caps[..n]);
-    let rest = levy_in(
-        total,
-        first,
-        n,
-        &weights,
-        &caps,
-        &mut marks,
-        &mut paid[..n],
-        sheet,
-    );
-    put_column(sheet, CLOSING, &marks[..n]);
+    let rest = levy_on(total, first, n, &weights, &mut caps, &mut marks);
+    put_pair(sheet, PAID, CLOSING, &caps[..n], &marks[..n]);
     rest
 }
 

@@ -1,15 +1,14 @@
 -- `levy_try::show_line` meets its contract.
 use Prim.Native.Nat.{_-_, _≤_}
-use lib.ListN.{length}
 use borrow.Author.Needs.{needs}
 use Rattle.levy_try.proofs.show_line.Statement.{statement}
 use Rattle.levy_try.proofs.show_line.Tie as tie
 
 abbrev Inv-loop : tie.InvT-loop
-Inv-loop column i₀ i = i ≤ length column
+Inv-loop n column i₀ i = i ≤ n
 
 abbrev μ-loop : tie.MeasureT-loop
-μ-loop column i₀ i = length column - i
+μ-loop n column i₀ i = n - i
 
 loop-holds : tie.Need-loop-holds Inv-loop μ-loop
 loop-holds c = search needs
@@ -17,8 +16,8 @@ loop-holds c = search needs
 mul-show-figure : tie.Need-mul-show-figure Inv-loop μ-loop
 mul-show-figure c = search needs
 
-shared-slice-read-show-figure : tie.Need-shared-slice-read-show-figure Inv-loop μ-loop
-shared-slice-read-show-figure c = search needs
+element-copy-out-show-figure : tie.Need-element-copy-out-show-figure Inv-loop μ-loop
+element-copy-out-show-figure c = search needs
 
 show-figure-requires : tie.Need-show-figure-requires Inv-loop μ-loop
 show-figure-requires c κs = search needs
@@ -46,7 +45,7 @@ show-line-spec =
     μ-loop
     loop-holds
     mul-show-figure
-    shared-slice-read-show-figure
+    element-copy-out-show-figure
     show-figure-requires
     add-i
     loop-less

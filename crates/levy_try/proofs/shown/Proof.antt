@@ -1,6 +1,6 @@
 -- `levy_try::shown` meets its contract.
-use borrow.Author.Needs.{needs}
 use Rattle.levy_try.proofs.Cases.{fit, pay-asked, told, made}
+use borrow.Author.Needs.{needs}
 use Rattle.levy_try.proofs.shown.Statement.{statement}
 use Rattle.levy_try.proofs.shown.Tie as tie
 
@@ -31,11 +31,8 @@ end-line-requires c κs = search needs
 show-line-requires : tie.Need-show-line-requires
 show-line-requires c κs = search needs
 
-cast-t15 : tie.Need-cast-t15
-cast-t15 c = search needs
-
-same-length : tie.Need-same-length
-same-length c = search needs
+cast-t14 : tie.Need-cast-t14
+cast-t14 c = search needs
 
 returns : tie.Need-returns
 returns c = (search told, search made)
@@ -53,6 +50,5 @@ shown-spec =
     show-requires-2
     end-line-requires
     show-line-requires
-    cast-t15
-    same-length
+    cast-t14
     returns)

@@ -1,7 +1,7 @@
 -- `levy::payments` meets its contract: it only lends columns.
-use borrow.Author.Needs.{needs}
 use Rattle.columns.proofs.Table.{front-long}
 use Rattle.levy.proofs.Making.{pay-spread, payments-made}
+use borrow.Author.Needs.{needs}
 use Rattle.levy.proofs.paying.payments.Statement.{statement}
 use Rattle.levy.proofs.paying.payments.Tie as tie
 
@@ -23,9 +23,6 @@ slice-aggregate-pay-open-2 c = search front-long
 pay-open-requires : tie.Need-pay-open-requires
 pay-open-requires c κs = search pay-spread
 
-same-length : tie.Need-same-length
-same-length c = search needs
-
 returns : tie.Need-returns
 returns c = search payments-made
 
@@ -39,5 +36,4 @@ payments-spec =
     array-borrow-prefix-parts
     slice-aggregate-pay-open-2
     pay-open-requires
-    same-length
     returns)

@@ -1,9 +1,12 @@
--- `settle::payers::collect` meets its contract: it lends columns, and puts the closing rounds into their field.
-use Rattle.settle.proofs.Lending.{front-count}
-use Rattle.settle.proofs.Levying.{front-leviable, weights-asked, caps-asked, rounds-asked, marks-count, marks-asked, levied}
+-- `settle::payers::collect` meets its contract: it lends columns, and puts payments and closing rounds into their fields.
+use Rattle.settle.proofs.Levying.{front-leviable, weights-asked, caps-asked, rounds-asked, paid-count, marks-count, paid-asked, marks-asked, levied}
 use borrow.Author.Needs.{needs}
 use Rattle.settle.proofs.payers.collect.Statement.{statement}
 use Rattle.settle.proofs.payers.collect.Tie as tie
+
+-- the place where the columns were read, from the one after the rounds
+abbrev before-levy-on : tie.After-levy-on → tie.After-get-pair
+before-levy-on c = c .before .before .before .before .before .before
 
 array-borrow-prefix-weights : tie.Need-array-borrow-prefix-weights
 array-borrow-prefix-weights c = search needs
@@ -20,36 +23,40 @@ slice-aggregate-get-pair-2 c = search front-leviable
 get-pair-requires : tie.Need-get-pair-requires
 get-pair-requires c κs = search (weights-asked, caps-asked)
 
-array-borrow-prefix-paid : tie.Need-array-borrow-prefix-paid
-array-borrow-prefix-paid c = search needs
+levy-on-requires : tie.Need-levy-on-requires
+levy-on-requires c κs =
+    let got = c .before .before .before .before .before in
+    let asked = got .before .before .before .before .before .pre in
+    (rounds-asked _ _ _ _ asked _ _ (got .get-pair .ensures .0) (got .get-pair .ensures .1), asked .turn)
 
-slice-aggregate-levy-in : tie.Need-slice-aggregate-levy-in
-slice-aggregate-levy-in c = search front-leviable
+array-share-prefix-caps : tie.Need-array-share-prefix-caps
+array-share-prefix-caps c = search needs
 
-levy-in-requires : tie.Need-levy-in-requires
-levy-in-requires c κs =
-    let got = c .before .before .before .before .before .before .before in
-    let asked = got .before .before .before .before .before .pre in (
-      rounds-asked _ _ _ _ asked _ _ (got .get-pair .ensures .0) (got .get-pair .ensures .1),
-      front-count _ (asked .few),
-      asked .turn,
-      asked .paid,
-    )
+slice-aggregate-put-pair : tie.Need-slice-aggregate-put-pair
+slice-aggregate-put-pair c =
+    let l = c .before .before in
+    let got = before-levy-on l in
+    let asked = got .before .before .before .before .before .pre in
+    paid-count _ _ _ _ asked _ _ (got .get-pair .ensures .0) (got .get-pair .ensures .1) _ _ _ (l .levy-on .ensures)
 
 array-share-prefix-marks : tie.Need-array-share-prefix-marks
 array-share-prefix-marks c = search needs
 
-slice-aggregate-put-column : tie.Need-slice-aggregate-put-column
-slice-aggregate-put-column c =
-    let levied = c .before .before .before .before .before in
-    let got = levied .before .before .before .before .before .before .before .before in
-    marks-count _ _ _ _ (got .before .before .before .before .before .pre) _ _ (got .get-pair .ensures .0) (got .get-pair .ensures .1) _ _ _ (levied .levy-in .ensures)
+slice-aggregate-put-pair-2 : tie.Need-slice-aggregate-put-pair-2
+slice-aggregate-put-pair-2 c =
+    let l = c .before .before .before in
+    let got = before-levy-on l in
+    let asked = got .before .before .before .before .before .pre in
+    marks-count _ _ _ _ asked _ _ (got .get-pair .ensures .0) (got .get-pair .ensures .1) _ _ _ (l .levy-on .ensures)
 
-put-column-requires : tie.Need-put-column-requires
-put-column-requires c κs =
-    let levied = c .before .before .before .before .before in
-    let got = levied .before .before .before .before .before .before .before .before in
-    marks-asked _ _ _ _ (got .before .before .before .before .before .pre) _ _ (got .get-pair .ensures .0) (got .get-pair .ensures .1) _ _ _ (levied .levy-in .ensures)
+put-pair-requires : tie.Need-put-pair-requires
+put-pair-requires c κs =
+    let l = c .before .before .before in
+    let got = before-levy-on l in
+    let asked = got .before .before .before .before .before .pre in (
+      paid-asked _ _ _ _ asked _ _ (got .get-pair .ensures .0) (got .get-pair .ensures .1) _ _ _ (l .levy-on .ensures),
+      marks-asked _ _ _ _ asked _ _ (got .get-pair .ensures .0) (got .get-pair .ensures .1) _ _ _ (l .levy-on .ensures),
+    )
 
 same-length : tie.Need-same-length
 same-length c = search needs
@@ -57,10 +64,10 @@ same-length c = search needs
 returns : tie.Need-returns
 returns c =
     let put = c .before .before in
-    let done = put .before .before .before .before .before .before in
-    let got = done .before .before .before .before .before .before .before .before in
-    levied _ _ _ _ (got .before .before .before .before .before .pre) _ _ (got .get-pair .ensures .0) (got .get-pair .ensures .1) _ _ _ (done .levy-in .ensures) _
-    (put .put-column .ensures)
+    let l = put .before .before .before .before in
+    let got = before-levy-on l in
+    let asked = got .before .before .before .before .before .pre in
+    levied _ _ _ _ asked _ _ (got .get-pair .ensures .0) (got .get-pair .ensures .1) _ _ _ (l .levy-on .ensures) _ (put .put-pair .ensures)
 
 pub collect-spec : {M : Type 1} → statement M
 collect-spec =
@@ -71,11 +78,11 @@ collect-spec =
     array-borrow-prefix-caps
     slice-aggregate-get-pair-2
     get-pair-requires
-    array-borrow-prefix-paid
-    slice-aggregate-levy-in
-    levy-in-requires
+    levy-on-requires
+    array-share-prefix-caps
+    slice-aggregate-put-pair
     array-share-prefix-marks
-    slice-aggregate-put-column
-    put-column-requires
+    slice-aggregate-put-pair-2
+    put-pair-requires
     same-length
     returns)

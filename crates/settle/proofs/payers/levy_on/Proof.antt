@@ -10,11 +10,8 @@ rounds-requires c κs = search needs
 payments-requires : tie.Need-payments-requires
 payments-requires c κs = search payments-asked
 
-same-length : tie.Need-same-length
-same-length c = search needs
-
 returns : tie.Need-returns
 returns c = search levied-on
 
 pub levy-on-spec : {M : Type 1} → statement M
-levy-on-spec = tie.close (tie.spec rounds-requires payments-requires same-length returns)
+levy-on-spec = tie.close (tie.spec rounds-requires payments-requires returns)
