@@ -113,7 +113,7 @@ fn share_group(left: Kwh, sum: Kwh, group: &[u64], first: usize, out: &mut [u64]
     share::split(left.0 as u64, group, first, out);
 }
 
-// The same for the bands of one bid, which come to stand in `group`.
+// The same for the bands of one bid, for which `group` is room.
 fn parts_in(
     bid: Li,
     left: Kwh,
@@ -130,33 +130,24 @@ fn parts_in(
     share_group(left, sum, group, first, out);
 }
 
-// What of `left` each band of one bid is called for.
-fn parts_at(bid: Li, left: Kwh, first: usize, widths: &[u32], bids: &[u32], out: &mut [u64])
-    requires { ⌜ Columns (now widths) (now bids) × Room (now widths) first (now out) ⌝ }
-    ensures { λ _. ⌜ now (out .exit) ≡ partsIn (left .0) (groupIn (now (widths .entry)) (now (bids .entry)) (bid .0)) first ⌝ }
-{
-    let n = widths.len();
-    let mut group = [0u64; 256];
-    parts_in(bid, left, first, widths, bids, &mut group[..n], out);
-}
-
-// The walk over bids and bands, by rising bid, from a column of 0; `parts` is what the bands of one bid are called for.
-// It is left as soon as the need is met.
+// The walk over bids and bands, by rising bid, from a column of 0; `group` is room for the bands of one bid, `parts` for what they are
+// called for. It is left as soon as the need is met.
 fn walk(
     need: Kwh,
     first: usize,
     widths: &[u32],
     bids: &[u32],
     called: &mut [u32],
+    group: &mut [u64],
     parts: &mut [u64],
 ) -> Kwh
-    requires { ⌜ Blank (now widths) (now bids) first (now called) (now parts) ⌝ }
+    requires { ⌜ Blank (now widths) (now bids) first (now called) (now parts) × (length (now group) ≡ length (now widths)) ⌝ }
     ensures { λ r. ⌜ TierCalled (need .0) (now (widths .entry)) (now (bids .entry)) first (r .0) (now (called .exit)) ⌝ }
 {
     let mut left = need;
     let mut bid = next_bid(Li(0), widths, bids);
     'walk: while bid.0 < PAST {
-        parts_at(bid, left, first, widths, bids, parts);
+        parts_in(bid, left, first, widths, bids, group, parts);
         let mut i = 0;
         while i < parts.len() {
             let part = parts[i] as u32;
@@ -178,8 +169,17 @@ pub fn call_tier(need: Kwh, first: usize, widths: &[u32], bids: &[u32], called: 
     ensures { λ r. ⌜ TierCalled (need .0) (now (widths .entry)) (now (bids .entry)) first (r .0) (now (called .exit)) ⌝ }
 {
     let n = widths.len();
+    let mut group = [0u64; 256];
     let mut parts = [0u64; 256];
-    walk(need, first, widths, bids, called, &mut parts[..n])
+    walk(
+        need,
+        first,
+        widths,
+        bids,
+        called,
+        &mut group[..n],
+        &mut parts[..n],
+    )
 }
 
 // The higher of a bid and that of row i, if the row delivers: it was called and has energy to be paid for.

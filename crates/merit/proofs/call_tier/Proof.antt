@@ -1,17 +1,23 @@
--- `merit::call_tier` meets its contract: it only lends room for the parts.
-use Rattle.merit.proofs.Steps.{front-ready, blank}
+-- `merit::call_tier` meets its contract: it only lends room for the bands of one bid and their parts.
+use Rattle.merit.proofs.Steps.{front-ready, front-room, blank}
 use borrow.Author.Needs.{needs}
 use Rattle.merit.proofs.call_tier.Statement.{statement}
 use Rattle.merit.proofs.call_tier.Tie as tie
 
-array-borrow-prefix-parts : tie.Need-array-borrow-prefix-parts
-array-borrow-prefix-parts c = search needs
+array-borrow-prefix-group : tie.Need-array-borrow-prefix-group
+array-borrow-prefix-group c = search needs
 
 slice-aggregate-walk : tie.Need-slice-aggregate-walk
 slice-aggregate-walk c = search front-ready
 
+array-borrow-prefix-parts : tie.Need-array-borrow-prefix-parts
+array-borrow-prefix-parts c = search needs
+
+slice-aggregate-walk-2 : tie.Need-slice-aggregate-walk-2
+slice-aggregate-walk-2 c = search front-ready
+
 walk-requires : tie.Need-walk-requires
-walk-requires c κs = search blank
+walk-requires c κs = (search blank, search front-room)
 
 same-length : tie.Need-same-length
 same-length c = search needs
@@ -22,4 +28,11 @@ returns c = search needs
 pub call-tier-spec : {M : Type 1} → statement M
 call-tier-spec =
     tie.close
-    (tie.spec array-borrow-prefix-parts slice-aggregate-walk walk-requires same-length returns)
+    (tie.spec
+    array-borrow-prefix-group
+    slice-aggregate-walk
+    array-borrow-prefix-parts
+    slice-aggregate-walk-2
+    walk-requires
+    same-length
+    returns)

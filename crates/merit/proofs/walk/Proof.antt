@@ -1,35 +1,36 @@
 -- `merit::walk` meets its contract: what was called so far is what the definition calls below this bid.
 use Prim.Native.Nat.{_-_}
+use mathlib.Core.Path.{_≡_}
 use lib.ListN.{length}
-use borrow.Author.Needs.{needs}
 use Rattle.merit.specs.Walk.{past}
 use Rattle.merit.proofs.Next.{next-less}
 use Rattle.merit.proofs.Walking.{Walked, walked-first, walked-room, walked-calls, walked-parts, walked-next}
 use Rattle.merit.proofs.Walking.{Turned, turned-first, turned-room, turned-calls, turned-parts, turned-next}
 use Rattle.merit.proofs.Walking.{part-small, part-fits, call-fits, turn-fits, ended-met, ended-past}
+use borrow.Author.Needs.{needs}
 use Rattle.merit.proofs.walk.Statement.{statement}
 use Rattle.merit.proofs.walk.Tie as tie
 
 abbrev Inv-loop : tie.InvT-loop
-Inv-loop first widths bids called₀ parts left₀ bid i₀ called left i = Turned (left₀ .0) called₀ parts i (left .0) called
+Inv-loop first widths bids called₀ group parts left₀ bid i₀ called left i = Turned (left₀ .0) called₀ parts i (left .0) called
 
 abbrev μ-loop : tie.MeasureT-loop
-μ-loop first widths bids called₀ parts left₀ bid i₀ called left i = length parts - i
+μ-loop first widths bids called₀ group parts left₀ bid i₀ called left i = length parts - i
 
 abbrev Inv-walk : tie.InvT-walk
-Inv-walk first widths bids called₀ parts₀ left₀ bid₀ called parts left bid = Walked (left₀ .0) widths bids first (bid .0) (left .0) called parts
+Inv-walk first widths bids called₀ group₀ parts₀ left₀ bid₀ called group parts left bid = Walked (left₀ .0) widths bids first (bid .0) (left .0) called parts × (length group ≡ length widths)
 
 abbrev μ-walk : tie.MeasureT-walk
-μ-walk first widths bids called₀ parts₀ left₀ bid₀ called parts left bid = past - bid .0
+μ-walk first widths bids called₀ group₀ parts₀ left₀ bid₀ called group parts left bid = past - bid .0
 
 next-bid-requires : tie.Need-next-bid-requires Inv-loop μ-loop Inv-walk μ-walk
 next-bid-requires c κs = search needs
 
 walk-holds : tie.Need-walk-holds Inv-loop μ-loop Inv-walk μ-walk
-walk-holds c = search walked-first
+walk-holds c = (search walked-first, search needs)
 
-parts-at-requires : tie.Need-parts-at-requires Inv-loop μ-loop Inv-walk μ-walk
-parts-at-requires c κs = (search needs, search walked-room)
+parts-in-requires : tie.Need-parts-in-requires Inv-loop μ-loop Inv-walk μ-walk
+parts-in-requires c κs = (search needs, search walked-room, search needs)
 
 loop-holds : tie.Need-loop-holds Inv-loop μ-loop Inv-walk μ-walk
 loop-holds c = search turned-first
@@ -55,8 +56,8 @@ add-called c = search call-fits
 slice-write-called : tie.Need-slice-write-called Inv-loop μ-loop Inv-walk μ-walk
 slice-write-called c = search turned-room
 
-sub-t21 : tie.Need-sub-t21 Inv-loop μ-loop Inv-walk μ-walk
-sub-t21 c = search part-fits
+sub-t24 : tie.Need-sub-t24 Inv-loop μ-loop Inv-walk μ-walk
+sub-t24 c = search part-fits
 
 add-i : tie.Need-add-i Inv-loop μ-loop Inv-walk μ-walk
 add-i c = search turn-fits
@@ -67,8 +68,8 @@ loop-less c = search needs
 loop-again : tie.Need-loop-again Inv-loop μ-loop Inv-walk μ-walk
 loop-again c = search turned-next
 
-add-t23 : tie.Need-add-t23 Inv-loop μ-loop Inv-walk μ-walk
-add-t23 c = search needs
+add-t26 : tie.Need-add-t26 Inv-loop μ-loop Inv-walk μ-walk
+add-t26 c = search needs
 
 next-bid-requires-2 : tie.Need-next-bid-requires-2 Inv-loop μ-loop Inv-walk μ-walk
 next-bid-requires-2 c κs = search needs
@@ -79,26 +80,34 @@ walk-less c = search next-less
 walk-again : tie.Need-walk-again Inv-loop μ-loop Inv-walk μ-walk
 walk-again c =
     let turn = c .before .before .before in
-    let shared = turn .before .before .before in
-    let walk = shared .before .before .before .before in
-    let start = walk .before .before .before .before .before .before in
-    walked-next _ _ _ _ _ _ (start .pre) _ _ _ _ _ (walk .walk .inv) (shared .parts-at .ensures) _ _ _ (turn .loop .inv) _ (search needs)
-    (search needs) (c .next-bid2 .ensures)
+    let shared = turn .before .before .before .before .before in
+    let walk = shared .before .before .before .before .before in
+    let start = walk .before .before .before .before .before .before .before in (
+      walked-next _ _ _ _ _ _ (start .pre .0) _ _ _ _ _ (walk .walk .inv .0) (shared .parts-in .ensures) _ _ _ (turn .loop .inv) _ (search needs)
+          (search needs) (c .next-bid2 .ensures),
+      search needs,
+    )
 
 same-length : tie.Need-same-length Inv-loop μ-loop Inv-walk μ-walk
 same-length c = search walked-calls
 
 same-length-2 : tie.Need-same-length-2 Inv-loop μ-loop Inv-walk μ-walk
-same-length-2 c = search walked-parts
+same-length-2 c = search needs
+
+same-length-3 : tie.Need-same-length-3 Inv-loop μ-loop Inv-walk μ-walk
+same-length-3 c = search walked-parts
 
 returns : tie.Need-returns Inv-loop μ-loop Inv-walk μ-walk
 returns c = search ended-past
 
-same-length-3 : tie.Need-same-length-3 Inv-loop μ-loop Inv-walk μ-walk
-same-length-3 c = search turned-calls
-
 same-length-4 : tie.Need-same-length-4 Inv-loop μ-loop Inv-walk μ-walk
-same-length-4 c = search turned-parts
+same-length-4 c = search turned-calls
+
+same-length-5 : tie.Need-same-length-5 Inv-loop μ-loop Inv-walk μ-walk
+same-length-5 c = search needs
+
+same-length-6 : tie.Need-same-length-6 Inv-loop μ-loop Inv-walk μ-walk
+same-length-6 c = search turned-parts
 
 returns-2 : tie.Need-returns-2 Inv-loop μ-loop Inv-walk μ-walk
 returns-2 c = search ended-met
@@ -113,7 +122,7 @@ walk-spec =
     μ-walk
     next-bid-requires
     walk-holds
-    parts-at-requires
+    parts-in-requires
     loop-holds
     mul-part
     slice-read-part
@@ -122,17 +131,19 @@ walk-spec =
     slice-read-called
     add-called
     slice-write-called
-    sub-t21
+    sub-t24
     add-i
     loop-less
     loop-again
-    add-t23
+    add-t26
     next-bid-requires-2
     walk-less
     walk-again
     same-length
     same-length-2
-    returns
     same-length-3
+    returns
     same-length-4
+    same-length-5
+    same-length-6
     returns-2)

@@ -16,22 +16,27 @@ const REPETITIONS: usize = 20;
 const PASSES: usize = 5;
 const ROWS: usize = 256;
 
-type Settle = fn(&[u8], &mut [u8]) -> bool;
+type Work = fn(&[u8], &mut [u8]) -> bool;
 
-fn engine(interval: &[u8], statement: &mut [u8]) -> bool {
-    wheatrudder::settle(interval, &[], statement).is_ok()
-}
+/// The same work by the engine and by the reference.
+type Both = [Work; 2];
 
-fn reference(interval: &[u8], statement: &mut [u8]) -> bool {
-    reference::settle(interval, &[], statement).is_ok()
-}
+const SETTLE: Both = [
+    |interval, out| wheatrudder::settle(interval, &[], out).is_ok(),
+    |interval, out| reference::settle(interval, &[], out).is_ok(),
+];
+
+const REWRITE: Both = [
+    |interval, out| wheatrudder::rewrite(interval, out).is_ok(),
+    |interval, out| reference::rewrite(interval, out).is_ok(),
+];
 
 /// Microseconds a quarter, in the best of a few passes.
-fn settle_all(settle: Settle, intervals: &[Vec<u8>], statement: &mut [u8]) -> f64 {
+fn time(work: Work, intervals: &[Vec<u8>], out: &mut [u8]) -> f64 {
     let pass = |_| {
         let start = Instant::now();
         for interval in intervals {
-            assert!(black_box(settle(black_box(interval), statement)));
+            assert!(black_box(work(black_box(interval), out)));
         }
         start.elapsed().as_secs_f64() * 1e6 / intervals.len() as f64
     };
@@ -44,14 +49,14 @@ fn spread(mut times: Vec<f64>) -> [f64; 3] {
     [(times[times.len() / 2 - 1] + times[times.len() / 2]) / 2.0, times[0], times[times.len() - 1]]
 }
 
-fn measure(name: &str, intervals: &[Vec<u8>]) {
-    let mut statement = vec![0; STATEMENT_HEAD + LINE * ROWS];
+fn measure(name: &str, [engine, reference]: Both, intervals: &[Vec<u8>]) {
+    let mut out = vec![0; STATEMENT_HEAD + LINE * ROWS];
     let (mut ours, mut theirs, mut ratios) = (Vec::new(), Vec::new(), Vec::new());
-    settle_all(engine, intervals, &mut statement);
-    settle_all(reference, intervals, &mut statement);
+    time(engine, intervals, &mut out);
+    time(reference, intervals, &mut out);
     for repetition in 0..REPETITIONS {
-        let [first, second]: [Settle; 2] = if repetition % 2 == 0 { [engine, reference] } else { [reference, engine] };
-        let mut times = [first, second].map(|settle| settle_all(settle, intervals, &mut statement));
+        let [first, second] = if repetition % 2 == 0 { [engine, reference] } else { [reference, engine] };
+        let mut times = [first, second].map(|work| time(work, intervals, &mut out));
         if repetition % 2 == 1 {
             times.reverse();
         }
@@ -75,14 +80,18 @@ fn main() {
         |what| println!("\n| {what} | engine, µs a quarter | reference | engine / reference |\n|---|---|---|---|");
     head("a day of 96 quarters, 256 rows");
     for shape in [Shape::Mixed, Shape::Edges, Shape::TiedBids, Shape::TiedRemainders, Shape::AllCapped] {
-        measure(&format!("{shape:?}"), &day(|| accepted::interval_of(&mut random, shape, ROWS as u32)));
+        measure(&format!("{shape:?}"), SETTLE, &day(|| accepted::interval_of(&mut random, shape, ROWS as u32)));
     }
     head("rows, mixed");
     for rows in [16, 64, 256] {
-        measure(&rows.to_string(), &day(|| accepted::interval_of(&mut random, Shape::Mixed, rows)));
+        measure(&rows.to_string(), SETTLE, &day(|| accepted::interval_of(&mut random, Shape::Mixed, rows)));
     }
     head("rounds, 256 rows");
     for rounds in [2, 4, 8, 12, 16, 20, 25, MOST] {
-        measure(&rounds.to_string(), &day(|| filled(ladder(&mut random, rounds).interval, ROWS)));
+        measure(&rounds.to_string(), SETTLE, &day(|| filled(ladder(&mut random, rounds).interval, ROWS)));
+    }
+    head("a file rewritten, rows");
+    for rows in [16, 64, 256] {
+        measure(&rows.to_string(), REWRITE, &day(|| accepted::interval_of(&mut random, Shape::Mixed, rows)));
     }
 }
