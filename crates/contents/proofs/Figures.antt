@@ -3,9 +3,12 @@
 --   x-said        its contents make that file
 --   x-read        and the file says these contents
 --   x-refused     with rows 2 and 3 exchanged the writer gives 7 at row 3; with a buffer one byte short, 11 at place 0
+--   x-again       rewritten into 80 bytes it is 78 bytes and leaves two; into 77, 11; without its last byte it is refused with 4, room or not
 use mathlib.Core.Path.{_≡_, refl}
 use mathlib.Core.List.{List, [], _∷_, _++_}
 use Prim.Native.Nat.{ℕ}
+use lib.ListN.{take}
+use Rattle.records.specs.Buffer.{put}
 use Rattle.records.specs.Number.{numberAt, numberBytes}
 use Rattle.columns.specs.Table.{table}
 use Rattle.records.specs.Fields.{fieldsBytes}
@@ -16,8 +19,9 @@ use Rattle.files.specs.Terms.{termsOf}
 use Rattle.files.specs.Range.{headTests, headOk, statusOk, idleTests, notOffering, offerTests, offering, rowTests, rowOk}
 use Rattle.files.specs.Order.{headChecks, rowChecks, rowChecksAt, rowChecksOf, intervalOrder, intervalFault}
 use Rattle.files.specs.declared.Row.{Row}
-use Rattle.contents.specs.Content.{zeroRow, contentsOf, contentsBytes, termsIn, rowChecksIn, writerOrder, writtenOf}
-use Rattle.contents.specs.declared.Written.the-variants.{Refused}
+use Rattle.contents.specs.Content.{zeroRow, contentsOf, readingOf, contentsBytes, termsIn, rowChecksIn, writerOrder, writtenOf, writtenBuffer}
+use Rattle.contents.specs.Content.{rewrittenOf, rewrittenBuffer}
+use Rattle.contents.specs.declared.Written.the-variants.{Bytes, Refused}
 use Rattle.contents.specs.declared.Contents.{Contents}
 
 abbrev file : List ℕ
@@ -82,3 +86,15 @@ pub x-refused :
 unfolding writtenOf writerOrder rowByRow rowChecksIn rowChecks previous firstRefusal termsIn
     headOk headTests rowOk rowTests statusOk notOffering idleTests offering offerTests table
 x-refused = (refl, refl)
+
+pub x-again :
+    (rewrittenOf file 80 ≡ Bytes 78)
+    × (rewrittenBuffer file (table 80 (λ i. 170)) ≡ file ++ (170 ∷ 170 ∷ []))
+    × (rewrittenOf file 77 ≡ Refused 11 0)
+    × (rewrittenBuffer file (table 77 (λ i. 170)) ≡ table 77 (λ i. 170))
+    × (rewrittenOf (take 77 file) 0 ≡ Refused 4 0)
+    × (rewrittenOf (take 77 file) 78 ≡ Refused 4 0)
+unfolding rewrittenOf rewrittenBuffer readingOf writtenOf writtenBuffer writerOrder intervalOrder headChecks rowByRow rowChecksOf rowChecksAt
+    rowChecksIn rowChecks previous firstRefusal termsOf termsIn headAt rowAt recordAt fieldsAt numberAt headOk headTests rowOk rowTests statusOk
+    notOffering idleTests offering offerTests contentsOf contentsBytes headBytes recordsBytes recordBytes fieldsBytes numberBytes put table
+x-again = (refl, refl, refl, refl, refl, refl)

@@ -1,6 +1,6 @@
 -- Loops that fill a column, position by position, with numbers of 32 bits: what holds after i of n positions.
 --     Fill                          the loops' invariant: f stands at every position passed, and each number is small
---     fill-none, fill-on, fill-end    before the loop, one position more, after it
+--     fill-none, fill-on            before the loop, one position more
 --     fill-small                    after it every number is one of 32 bits
 --     fill-is                       a filled copy is what was copied
 --     small-at                      a number of such a column
@@ -23,7 +23,7 @@ use Rattle.columns.specs.Sum.{whole}
 use Rattle.columns.specs.Table.{at, table, Below}
 use Rattle.columns.proofs.Sum.{lt-or-le, sum-bound}
 use Rattle.columns.proofs.Table.{table-is}
-use Rattle.columns.proofs.Fill.{Reached, reached-none, reached-next, reached-now, reached-all, reached-front}
+use Rattle.columns.proofs.Fill.{Reached, reached-none, reached-next, reached-now, reached-front}
 use Rattle.levy.specs.Rounds.{openWeights}
 use Rattle.levy.specs.Asked.{Small, Still, paidFrom, Made}
 
@@ -44,9 +44,6 @@ module _ (f : ℕ → ℕ) (start out : List ℕ) (i : ℕ) (fill : Fill f start
             (λ k q. rw (getD-set-other out i k v 0 (omega arith)) (fill .small k q))
             (rw (getD-set-same out i v 0 (omega (arith, fill .reached .room))) low);
       }
-
-  pub fill-end : n ≤ i → out ≡ table n f
-  fill-end q = rw (← long) (reached-all 0 f start out i (fill .reached) (omega (arith, fill .reached .room)))
 
   pub fill-small : n ≤ i → Small out
   fill-small q k =

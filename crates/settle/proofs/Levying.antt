@@ -7,7 +7,7 @@
 --   shares-asked, shares-lined, shares-left     an amount over the sums of a field, in lent columns
 --   front-shareable, share-front, share-there    and in fronts of fresh arrays
 --   divided-none, divided-asked, divided-more, divided-all    one sharing after the other
-use Prim.Native.Nat.{ℕ, _+_, _-_, _≤_, _<_}
+use Prim.Native.Nat.{ℕ, _+_, _≤_, _<_}
 use mathlib.Core.Path.{_≡_, refl, sym, ap, _∙_}
 use mathlib.Core.List.{List, _++_}
 use native.Mathlib.Numerals.{add-one}
@@ -18,7 +18,6 @@ use Rattle.columns.specs.Table.{at}
 use Rattle.columns.proofs.Table.{table-length}
 use Rattle.records.specs.declared.Field.{Field}
 use Rattle.records.specs.Sheet.{Lined, cell, columnOf, withColumn}
-use Rattle.records.proofs.Sheet.{column-length}
 use Rattle.share.specs.Share.{shares}
 use Rattle.share.proofs.Laws.{shares-length}
 use Rattle.levy.specs.Asked.{standingOf, Levyable, Finished, Payable, Apportionable}
