@@ -6,8 +6,9 @@
  * A refusal changes no byte of the buffer. A success changes none past the bytes that it counts.
  *
  * Any bytes of any length are answered. Every function is thread-safe: nothing is kept between calls, no memory is allocated,
- * no file and no clock is used. A pointer may be null where its length is 0; otherwise it has to point to that many bytes,
- * and the bytes of the buffer must not overlap those of the files. A length is below 2^63.
+ * no file and no clock is used. A call takes at most 12,288 bytes of stack, and of the C library memcpy and memset alone
+ * (docs/GATEWAY.md). A pointer may be null where its length is 0; otherwise it has to point to that many bytes, and the bytes of
+ * the buffer must not overlap those of the files. A length is below 2^63.
  *
  *   interval file    15 bytes and 21 for each row; at most 256 rows
  *   correction        9 bytes and 21 for each row; length 0 stands for none
