@@ -28,18 +28,14 @@ use Rattle.files.specs.declared.Verdict.the-variants.{Accepted, Refused}
 use Rattle.files.proofs.Answer.{accepted-of, refused-of}
 use Rattle.contents.specs.Content.{contentsOf, readingOf, fieldsFrom, fieldsIn, contentsBytes, withRows, rowsAgain}
 use Rattle.contents.specs.Content.{writerFault, writtenOf, writtenBuffer, rewrittenOf, rewrittenBuffer}
-use Rattle.contents.specs.declared.Reading.{Reading}
 use Rattle.contents.specs.declared.Written.the-variants as written
 use Rattle.contents.proofs.Refusal.{room-decides, passed-writer}
 use Rattle.contents.proofs.Walk.{Placed, place-next}
-use Rattle.contents.proofs.Said.{head-of, few, kept, file-held, file-reading}
+use Rattle.contents.proofs.Said.{head-of, few, kept, file-held, file-said}
 use Rattle.contents.proofs.Answered.{rows-then-head}
 
--- what an accepted file says: its contents, and what refuses them by the room that there is
+-- what an accepted file says: what refuses it as contents, by the room that there is, and its rows
 module _ (s : List ℕ) (passes : Passes (intervalOrder s)) where
-  said : readingOf s .contents ≡ contentsOf s
-  said = ap (λ (r : Reading). r .contents) (file-reading s passes)
-
   ok : headOk (contentsOf s .head) ≡ true
   unfolding contentsOf
   ok = head-of s passes .ok
@@ -111,16 +107,16 @@ module _ (s : List ℕ) (v : Verdict) (p : v ≡ verdict (rowCount s) (intervalF
 
     pub again-short : (room : ℕ) → room < rowStart n → written.Refused 11 0 ≡ rewrittenOf s room
     unfolding rewrittenOf writtenOf
-    again-short room l = rw (passes, said s passes, short-fault s passes room (omega (arith, rows)))
+    again-short room l = rw (passes, file-said s passes, short-fault s passes room (omega (arith, rows)))
 
     pub again-left : (out : List ℕ) → length out < rowStart n → out ≡ rewrittenBuffer s out
     unfolding rewrittenBuffer writtenBuffer
-    again-left out l = rw (passes, said s passes, short-fault s passes (length out) (omega (arith, rows)))
+    again-left out l = rw (passes, file-said s passes, short-fault s passes (length out) (omega (arith, rows)))
 
     pub again-bytes : (room : ℕ) → rowStart n ≤ room → written.Bytes (rowStart n) ≡ rewrittenOf s room
     unfolding rewrittenOf writtenOf contentsOf
-    again-bytes room l = rw (passes, said s passes, roomy-fault s passes room (omega (arith, rows)), rows)
+    again-bytes room l = rw (passes, file-said s passes, roomy-fault s passes room (omega (arith, rows)), rows)
 
     pub again-done : (out out′ : List ℕ) → rowStart n ≤ length out → out′ ≡ put out 0 (contentsBytes (contentsOf s)) → out′ ≡ rewrittenBuffer s out
     unfolding rewrittenBuffer writtenBuffer
-    again-done out out′ l e = rw (passes, said s passes, roomy-fault s passes (length out) (omega (arith, rows))) e
+    again-done out out′ l e = rw (passes, file-said s passes, roomy-fault s passes (length out) (omega (arith, rows))) e

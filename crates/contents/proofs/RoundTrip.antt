@@ -24,11 +24,10 @@ use Rattle.files.proofs.Answer.{interval-numbers}
 use Rattle.contents.specs.Content.{contentsOf, readingOf, contentsBytes, writerFault, writtenOf, writtenBuffer, rewrittenOf, rewrittenBuffer}
 use Rattle.contents.specs.InRange.{InRange}
 use Rattle.contents.specs.declared.Contents.{Contents}
-use Rattle.contents.specs.declared.Reading.{Reading}
 use Rattle.contents.specs.declared.Written.the-variants.{Bytes}
 use Rattle.contents.proofs.Rows.{contents-length}
 use Rattle.contents.proofs.Refusal.{passed-writer, in-range-writable}
-use Rattle.contents.proofs.Said.{head-of, file-again, file-in-range, file-reading}
+use Rattle.contents.proofs.Said.{head-of, file-again, file-in-range, file-said}
 use Rattle.contents.proofs.Made.{contents-read}
 
 module _ (c : Contents) (c-in : InRange c) (out : List ℕ) (room : rowStart (c .head .rows) ≤ length out) where
@@ -57,20 +56,17 @@ module _ (s : List ℕ) (accepted : file.numberOf (readingOf s .verdict) ≡ 0) 
       go true e = absurd (omega (arith, first-number 1 7 (intervalOrder s) (interval-numbers s) e .0, rw e at accepted))
       go false e = e
 
-  said : readingOf s .contents ≡ contentsOf s
-  said = ap (λ (r : Reading). r .contents) (file-reading s passes)
-
   long : length s ≡ rowStart (contentsOf s .head .rows)
   unfolding contentsOf
   long = head-of s passes .fits
 
   module _ (out : List ℕ) (room : length s ≤ length out) where
     pub file-rewritten : writtenOf (readingOf s .contents) (length out) ≡ Bytes (length s)
-    file-rewritten = rw (said, long) (contents-written (contentsOf s) (file-in-range s passes bytes) out (omega (arith, long)))
+    file-rewritten = rw (file-said s passes, long) (contents-written (contentsOf s) (file-in-range s passes bytes) out (omega (arith, long)))
 
     pub file-buffer : writtenBuffer (readingOf s .contents) out ≡ put out 0 s
     file-buffer =
-        rw said
+        rw (file-said s passes)
         (contents-buffer (contentsOf s) (file-in-range s passes bytes) out (omega (arith, long)) ∙ ap (put out 0) (file-again s passes bytes))
 
     pub file-front : take (length s) (writtenBuffer (readingOf s .contents) out) ≡ s

@@ -2,7 +2,7 @@
 --   head-of, few      its head passed 1 to 4, and announces at most 256 rows
 --   file-again        its contents make the same bytes again
 --   file-in-range     they are in range
---   file-reading      they are what the reader answers
+--   file-reading, file-said     they are what the reader answers
 --   file-terms        they are checked against the terms of the file
 --   kept              row by row they are the file's
 --   file-held         nothing refuses them by 6 or 7
@@ -33,6 +33,7 @@ use Rattle.files.specs.declared.Verdict.the-variants.{Accepted}
 use Rattle.files.proofs.Passed.{HeadPassed, head-passed, Passed, rows-passed}
 use Rattle.contents.specs.Content.{zeroRow, contentsOf, readingOf, fieldsIn, contentsBytes, termsIn, idIn, heldOrder}
 use Rattle.contents.specs.InRange.{InRange}
+use Rattle.contents.specs.declared.Reading.{Reading}
 use Rattle.contents.proofs.Walk.{fileRow}
 use Rattle.contents.proofs.Record.{head-said, row-said, rows-few}
 use Rattle.contents.proofs.Rows.{records-write}
@@ -88,6 +89,9 @@ module _ (s : List ℕ) (accepted : Passes (intervalOrder s)) where
   pub file-reading : readingOf s ≡ record { verdict = Accepted (rowCount s); contents = contentsOf s }
   unfolding readingOf
   file-reading = rw accepted
+
+  pub file-said : readingOf s .contents ≡ contentsOf s
+  file-said = ap (λ (r : Reading). r .contents) file-reading
 
   module _ (bytes : (i : ℕ) → getD s i 0 < 256) where
     pub file-again : contentsBytes (contentsOf s) ≡ s
