@@ -3,8 +3,8 @@
  *   gateway STACK INTERVAL [CORRECTION]        STACK in bytes, whole pages: 16384
  *
  * On such a thread it settles the files, copies the bytes that count for the last row and rewrites the interval file; then it does
- * the same on its ordinary stack, and answers and buffers have to be the same. Pages below and above the stack cannot be touched: a
- * stack that is too small ends the program there (SIGSEGV). docs/GATEWAY.md says what a gateway has to give the engine.
+ * the same on its ordinary stack, and answers and buffers have to be the same. A page below the stack and one above it cannot be
+ * touched: a stack that is too small ends the program there (SIGSEGV). docs/GATEWAY.md says what a gateway has to give the engine.
  *
  * Built by tools/try-library; by hand: cc -Iinclude examples/gateway.c target/native/libabi.a -pthread -o gateway */
 #define _DEFAULT_SOURCE
@@ -20,9 +20,6 @@
 
 /* A byte past the longest file: a longer one is refused all the same. */
 #define MOST_BYTES (WHEATRUDDER_INTERVAL_LENGTH(WHEATRUDDER_MOST_ROWS) + 1)
-
-/* A function takes its frame in one step, so that a guard of one page could be stepped over; this is more than any frame. */
-#define GUARD ((size_t)1 << 16)
 
 struct file {
     uint8_t bytes[MOST_BYTES];
@@ -73,15 +70,15 @@ static void run_on_stack_of(size_t size, struct work *work)
     size_t page = (size_t)sysconf(_SC_PAGESIZE), least = (size_t)sysconf(_SC_THREAD_STACK_MIN);
     size_t told = size < least ? (least + page - 1) / page * page : size;
     need(size > 0 && size % page == 0, "make a stack that is not whole pages");
-    uint8_t *map = mmap(NULL, GUARD + told + GUARD, PROT_NONE, MAP_PRIVATE | MAP_ANONYMOUS, -1, 0);
+    uint8_t *map = mmap(NULL, page + told + page, PROT_NONE, MAP_PRIVATE | MAP_ANONYMOUS, -1, 0);
     need(map != MAP_FAILED, "map a stack");
-    need(!mprotect(map + GUARD + told - size, size, PROT_READ | PROT_WRITE), "open the stack");
+    need(!mprotect(map + page + told - size, size, PROT_READ | PROT_WRITE), "open the stack");
     pthread_attr_t how;
     pthread_t thread;
-    need(!pthread_attr_init(&how) && !pthread_attr_setstack(&how, map + GUARD, told), "use the stack");
+    need(!pthread_attr_init(&how) && !pthread_attr_setstack(&how, map + page, told), "use the stack");
     need(!pthread_create(&thread, &how, run, work) && !pthread_join(thread, NULL), "run the thread");
     pthread_attr_destroy(&how);
-    munmap(map, GUARD + told + GUARD);
+    munmap(map, page + told + page);
 }
 
 static void read_file(const char *name, struct file *file)

@@ -67,12 +67,11 @@ int main(int count, char **words)
     size_t bound = (size_t)strtoul(words[1], NULL, 10);
     interval_length = fread(interval, 1, sizeof interval, file);
     fclose(file);
-    /* Once outside a thread, so that the loader has done its part. */
-    settle(NULL), row(NULL), rewrite(NULL);
-    settle(NULL);
-    size_t own = depth(nothing);
+    /* Once outside a thread, so that the loader has done its part; last the one whose statement is read below. */
+    row(NULL), rewrite(NULL), settle(NULL);
     if (wheatrudder_number(answer) != 0)
         return 2;
+    size_t own = depth(nothing);
     printf("%u rows, %u rounds; the thread itself takes %zu bytes\n", wheatrudder_statement_rows(out),
            wheatrudder_statement_rounds(out), own);
     int above = 0;

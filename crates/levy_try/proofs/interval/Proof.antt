@@ -23,7 +23,7 @@ array-read-expect : tie.Need-array-read-expect
 array-read-expect c = search needs
 
 expect-requires : tie.Need-expect-requires
-expect-requires c κs = let s = c in got-at 0 _ _ _ (s .shown .ensures .0) (s .before .before .before .pre .told)
+expect-requires c κs = got-at 0 _ _ _ (c .shown .ensures .0) (c .before .before .before .pre .told)
 
 array-read-expect-2 : tie.Need-array-read-expect-2
 array-read-expect-2 c = search needs

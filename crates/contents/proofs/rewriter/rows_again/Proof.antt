@@ -36,7 +36,11 @@ loop-less : tie.Need-loop-less Inv-loop μ-loop
 loop-less c = search needs
 
 loop-again : tie.Need-loop-again Inv-loop μ-loop
-loop-again c = search again-next
+loop-again c =
+    let put = c .before .before in
+    let read = put .before in
+    let loop = read .before .before .before in
+    again-next _ _ _ _ _ _ _ (loop .loop .inv) (search needs) (search needs) (read .row-at .ensures) (put .put-row .ensures)
 
 same-length : tie.Need-same-length Inv-loop μ-loop
 same-length c = search needs
