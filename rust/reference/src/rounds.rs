@@ -16,6 +16,9 @@ pub struct Payer {
 pub struct Rounds {
     /// Rounds in which a payer reached its cap.
     pub count: u16,
+    /// Payer visits: the open payers at the start of each round, added up, also of the round in which nobody closes
+    /// (document 02, request 8).
+    pub visits: u32,
     /// What the caps fail to cover once everybody has closed.
     pub shortfall: u64,
 }
@@ -26,9 +29,10 @@ pub fn redistribute(payers: &mut [Payer], total: u64, turns: Turns) -> Rounds {
     let mut open: Vec<usize> = (0..payers.len()).filter(|&place| payers[place].weight > 0).collect();
     let mut rest = total;
     let mut weight: u64 = payers.iter().map(|payer| payer.weight).sum();
-    let mut count = 0;
+    let (mut count, mut visits) = (0, 0);
     loop {
         let (rate_rest, rate_weight, were_open) = (rest, weight, open.len());
+        visits += were_open as u32;
         open.retain(|&place| {
             let payer = &mut payers[place];
             let closes = rate_rest * payer.weight >= payer.cap * rate_weight;
@@ -46,12 +50,12 @@ pub fn redistribute(payers: &mut [Payer], total: u64, turns: Turns) -> Rounds {
         count += 1;
     }
     if open.is_empty() {
-        return Rounds { count, shortfall: rest };
+        return Rounds { count, visits, shortfall: rest };
     }
     let sharers: Vec<Sharer> =
         open.iter().map(|&position| Sharer { position, weight: payers[position].weight }).collect();
     for (place, part) in open.into_iter().zip(share(rest, &sharers, turns)) {
         payers[place].paid = part;
     }
-    Rounds { count, shortfall: 0 }
+    Rounds { count, visits, shortfall: 0 }
 }

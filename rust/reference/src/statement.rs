@@ -8,11 +8,11 @@ use crate::money::{compensation, pays, penalty, solar_or_wind_cap, thermal_cap, 
 use crate::rounds::{Payer, redistribute};
 use crate::share::{Sharer, Turns, share};
 
-pub const STATEMENT_HEAD: usize = 35;
+pub const STATEMENT_HEAD: usize = 39;
 pub const LINE: usize = 42;
 
 /// Widths of the fields after the mark.
-const HEAD_FIELDS: [usize; 9] = [4, 1, 2, 2, 8, 8, 2, 4, 2];
+const HEAD_FIELDS: [usize; 10] = [4, 1, 2, 2, 8, 8, 2, 4, 2, 4];
 const LINE_FIELDS: [usize; 11] = [2, 4, 4, 4, 4, 4, 4, 4, 2, 4, 4];
 
 /// Settles accepted contents into a buffer of exactly the statement's length.
@@ -44,6 +44,7 @@ pub(crate) fn write(interval: &Interval, out: &mut [u8]) {
     head[27..29].copy_from_slice(&rounds.count.to_le_bytes());
     head[29..33].copy_from_slice(&calls.uncovered.to_le_bytes());
     head[33..35].copy_from_slice(&(rows.len() as u16).to_le_bytes());
+    head[35..39].copy_from_slice(&rounds.visits.to_le_bytes());
 
     let (lines, _) = body.as_chunks_mut::<LINE>();
     for (place, line) in lines.iter_mut().enumerate() {

@@ -47,15 +47,16 @@ fn told(interval: &Interval) -> Vec<Vec<u64>> {
 #[test]
 fn p1_to_p5_interval_x() {
     let figures = [
-        (3545, 67_500, 22_500, 0, 0),
-        (1350, 67_500, 22_500, 1, 0),
-        (1300, 65_000, 25_000, 1, 0),
-        (1200, 60_000, 30_000, 2, 0),
-        (1000, 50_000, 25_000, 2, 15_000),
+        (3545, 67_500, 22_500, 0, 0, 2),
+        (1350, 67_500, 22_500, 1, 0, 3),
+        (1300, 65_000, 25_000, 1, 0, 3),
+        (1200, 60_000, 30_000, 2, 0, 3),
+        (1000, 50_000, 25_000, 2, 15_000, 3),
     ];
-    for (tariff, second, third, rounds, shortfall) in figures {
+    // Both are open in round 1. Where row 2 closes in it, the wind farm is looked at once more, and closes or ends the rounds.
+    for (tariff, second, third, rounds, shortfall, visits) in figures {
         let told = told(&x(tariff));
-        assert_eq!(told[0][4..7], [90_000, shortfall, rounds], "tariff {tariff}");
+        assert_eq!(told[0][4..], [90_000, shortfall, rounds, 0, 3, visits], "tariff {tariff}");
         assert_eq!([told[2][7], told[3][7]], [second, third], "tariff {tariff}");
         assert_eq!(told[1][3..5], [90_000, shortfall], "tariff {tariff}");
     }
@@ -113,13 +114,13 @@ fn run_only_paid_energy() {
 #[test]
 fn run_only_no_rows() {
     let empty = Interval { rows: Vec::new(), ..x(1300) };
-    assert_eq!(tell(&bytes(&empty)), "0 0 0 0 0 0 0 3000 0\n");
+    assert_eq!(tell(&bytes(&empty)), "0 0 0 0 0 0 0 3000 0 0\n");
 }
 
 #[test]
 fn run_only_no_payers() {
     let lone = Interval { rows: x(1300).rows[..1].to_vec(), ..x(1300) };
-    assert_eq!(tell(&bytes(&lone)), "0 0 200 400 90000 90000 0 0 1\n1 2500 500 90000 90000 0 0 0 0 0 0\n");
+    assert_eq!(tell(&bytes(&lone)), "0 0 200 400 90000 90000 0 0 1 0\n1 2500 500 90000 90000 0 0 0 0 0 0\n");
 }
 
 #[test]
@@ -146,7 +147,7 @@ fn run_only_tier_1_bids() {
 
 #[test]
 fn tell_prints_interval_x() {
-    let text = "0 0 200 400 90000 0 1 0 3\n\
+    let text = "0 0 200 400 90000 0 1 0 3 3\n\
                 1 2500 500 90000 0 0 0 0 0 0 0\n\
                 2 0 0 0 0 15000 65000 65000 1 0 0\n\
                 3 0 0 0 0 5000 32500 25000 0 0 0\n";
@@ -156,9 +157,9 @@ fn tell_prints_interval_x() {
 
 #[test]
 fn a_refusal_leaves_the_buffer() {
-    let mut statement = [7; 160];
+    let mut statement = [7; 164];
     assert_eq!(settle(&bytes(&x(1300)), &[], &mut statement), Err((11, 0)));
-    assert_eq!(statement, [7; 160]);
+    assert_eq!(statement, [7; 164]);
 }
 
 /// Interval X at tariff 1300 with row 1 at another meter reading.
@@ -185,7 +186,7 @@ fn request_1_statements() {
         (
             x_metered(12_500),
             [
-                "0 0 0 0 0 0 0 0 3",
+                "0 0 0 0 0 0 0 0 3 2",
                 "1 2500 500 0 0 0 40625 0 0 0 0",
                 "2 0 0 0 0 15000 65000 0 0 0 0",
                 "3 0 0 0 0 5000 32500 0 0 0 0",
@@ -195,7 +196,7 @@ fn request_1_statements() {
         (
             x_metered(12_499),
             [
-                "0 0 200 0 20 0 0 0 3",
+                "0 0 200 0 20 0 0 0 3 2",
                 "1 2500 500 20 0 0 0 0 0 0 0",
                 "2 0 0 0 0 15000 65000 15 0 0 0",
                 "3 0 0 0 0 5000 32500 5 0 0 0",
@@ -205,7 +206,7 @@ fn request_1_statements() {
         (
             x_metered(11_000),
             [
-                "0 0 200 0 30000 0 0 0 3",
+                "0 0 200 0 30000 0 0 0 3 2",
                 "1 2500 500 30000 0 0 0 0 0 0 0",
                 "2 0 0 0 0 15000 65000 22500 0 0 0",
                 "3 0 0 0 0 5000 32500 7500 0 0 0",
@@ -215,7 +216,7 @@ fn request_1_statements() {
         (
             x_beside(dearer(20_000)),
             [
-                "0 0 200 400 90000 0 1 0 3",
+                "0 0 200 400 90000 0 1 0 3 3",
                 "1 2500 2000 90000 0 0 0 0 0 0 0",
                 "2 2500 2000 0 0 15000 65000 65000 1 0 0",
                 "3 0 0 0 0 5000 32500 25000 0 0 0",
@@ -245,7 +246,7 @@ fn request_1_prices_and_totals() {
 fn request_1_a_dearer_row_of_another_status() {
     // Row 2 runs as low as row 1, but is starting or in a grid accident: not paid, it sets no price, and it owes nothing for
     // the 1,000 kWh that it was called for and did not deliver. Status 2 is among the figures of request 4.
-    let text = "0 0 200 400 90000 57500 1 0 3\n\
+    let text = "0 0 200 400 90000 57500 1 0 3 1\n\
                 1 2500 2000 90000 57500 0 0 0 0 0 0\n\
                 2 2500 2000 0 0 0 0 0 0 0 0\n\
                 3 0 0 0 0 5000 32500 32500 1 0 0\n";
@@ -375,9 +376,9 @@ fn request_2_cuts() {
 #[test]
 fn request_2_one_row_and_no_rows() {
     let lone = Interval { quarter: 95, rows: x(1300).rows[..1].to_vec(), ..x(1300) };
-    assert_eq!(tell(&bytes(&lone)), "0 95 200 400 90000 90000 0 0 1\n1 2500 500 90000 90000 0 0 0 0 0 0\n");
+    assert_eq!(tell(&bytes(&lone)), "0 95 200 400 90000 90000 0 0 1 0\n1 2500 500 90000 90000 0 0 0 0 0 0\n");
     let empty = Interval { quarter: 95, rows: Vec::new(), ..x(1300) };
-    assert_eq!(tell(&bytes(&empty)), "0 95 0 0 0 0 0 3000 0\n");
+    assert_eq!(tell(&bytes(&empty)), "0 95 0 0 0 0 0 3000 0 0\n");
 }
 
 /// Row 1 of interval X is called in full and gets 90,000 fen at 200 and 400 li; row 2 beside it is reduced and called in full
@@ -393,7 +394,7 @@ fn request_4_statements() {
         (
             reduced(1300, 8_000),
             [
-                "0 0 200 400 90000 57500 1 0 3",
+                "0 0 200 400 90000 57500 1 0 3 1",
                 "1 2500 2000 90000 57500 0 0 0 0 0 0",
                 "2 2500 2000 0 0 0 0 0 0 0 0",
                 "3 0 0 0 0 5000 32500 32500 1 0 0",
@@ -403,7 +404,7 @@ fn request_4_statements() {
         (
             reduced(1300, 9_000),
             [
-                "0 0 200 400 90000 57500 1 0 3",
+                "0 0 200 400 90000 57500 1 0 3 1",
                 "1 2500 2000 90000 0 0 0 0 0 0 0",
                 "2 2500 2000 0 0 0 0 0 0 80000 22500",
                 "3 0 0 0 0 5000 32500 32500 1 0 0",
@@ -413,7 +414,7 @@ fn request_4_statements() {
         (
             reduced(1300, 11_000),
             [
-                "0 0 200 400 90000 57500 1 0 3",
+                "0 0 200 400 90000 57500 1 0 3 1",
                 "1 2500 2000 90000 0 0 0 0 0 0 0",
                 "2 2500 2000 0 0 0 0 0 0 200000 142500",
                 "3 0 0 0 0 5000 32500 32500 1 0 0",
@@ -423,7 +424,7 @@ fn request_4_statements() {
         (
             reduced(1300, 12_500),
             [
-                "0 0 200 400 90000 57500 1 0 3",
+                "0 0 200 400 90000 57500 1 0 3 1",
                 "1 2500 2000 90000 0 0 0 0 0 0 0",
                 "2 2500 2000 0 0 0 40625 0 0 260000 202500",
                 "3 0 0 0 0 5000 32500 32500 1 0 0",
@@ -434,7 +435,7 @@ fn request_4_statements() {
         (
             reduced(1300, 20_000),
             [
-                "0 0 200 400 90000 0 1 0 3",
+                "0 0 200 400 90000 0 1 0 3 3",
                 "1 2500 2000 90000 0 0 0 0 0 0 0",
                 "2 2500 2000 0 0 15000 65000 65000 1 260000 260000",
                 "3 0 0 0 0 5000 32500 25000 0 0 0",
@@ -445,7 +446,7 @@ fn request_4_statements() {
         (
             reduced(1000, 20_000),
             [
-                "0 0 200 400 90000 15000 2 0 3",
+                "0 0 200 400 90000 15000 2 0 3 3",
                 "1 2500 2000 90000 0 0 0 0 0 0 0",
                 "2 2500 2000 0 0 15000 50000 50000 1 260000 245000",
                 "3 0 0 0 0 5000 25000 25000 2 0 0",
@@ -546,7 +547,7 @@ fn request_4_nobody_delivered() {
     let interval = Interval { need: 4_500, rows, ..x(1300) };
     assert_eq!(
         tell(&bytes(&interval)),
-        "0 0 0 0 0 0 0 0 2\n1 2500 2000 0 0 0 0 0 0 0 0\n2 0 0 0 0 5000 32500 0 0 0 0\n"
+        "0 0 0 0 0 0 0 0 2 1\n1 2500 2000 0 0 0 0 0 0 0 0\n2 0 0 0 0 5000 32500 0 0 0 0\n"
     );
 }
 
@@ -573,4 +574,85 @@ fn request_4_a_larger_penalty_may_cut_somebody_a_fen_more() {
         assert_eq!(told[5][9..11], [penalty, 0]);
         assert_eq!([told[1][4], told[2][4], told[3][4]], cuts);
     }
+}
+
+/// Interval X with row 2 at 27,500 kWh and a thermal row 4 at 15,000: weights 37,500, 5,000 and 2,500, caps 68.75, 25 and 37.5 fen
+/// for each hao of the tariff. In round 1 the 90,000 fen are 2 for each kWh: 75,000, 10,000 and 5,000.
+fn three_payers(tariff: u16) -> Interval {
+    let mut interval = x(tariff);
+    interval.rows[1].metered = 27_500;
+    interval.rows.push(row(4, 1, 15_000));
+    interval
+}
+
+#[test]
+fn request_8_three_payers() {
+    let figures = [
+        // Nobody closes: a cap of 75,006 is above row 2's 75,000.
+        (1091, [0, 0, 0], 0, 3),
+        // 75,000 reach 74,937. The 15,063 that are left are 10,042 and 5,021: nobody else closes.
+        (1090, [1, 0, 0], 0, 3 + 2),
+        // Of 41,875 row 3 owes 27,916 and has a cap of 17,500, row 4 owes 13,958 and has 26,250. It stays open at 24,375.
+        (700, [1, 2, 0], 0, 3 + 2 + 1),
+        // Each in a round of its own: of 48,750 row 3 owes 32,500, above 15,000, and row 4 16,250, below 22,500. Then it owes 33,750.
+        (600, [1, 2, 3], 11_250, 3 + 2 + 1),
+        // 10,000 do not reach 10,025. Of 62,432 rows 3 and 4 owe 41,621 and 20,810, above 10,025 and 15,037: both close.
+        (401, [1, 2, 2], 37_370, 3 + 2),
+        // 10,000 are row 3's cap, so it closes with row 2; row 4 owes the whole of 52,500 and has a cap of 15,000.
+        (400, [1, 1, 2], 37_500, 3 + 1),
+        // All at once: caps of 6,875, 2,500 and 3,750.
+        (100, [1, 1, 1], 76_875, 3),
+    ];
+    for (tariff, closing, shortfall, visits) in figures {
+        let told = told(&three_payers(tariff));
+        assert_eq!([told[2][8], told[3][8], told[4][8]], closing, "tariff {tariff}");
+        assert_eq!([told[0][5], told[0][9]], [shortfall, visits], "tariff {tariff}");
+    }
+}
+
+#[test]
+fn request_8_nobody_to_visit() {
+    // A row at exactly half load is a payer, but weighs nothing and is never open.
+    let half_load = Interval { rows: vec![x(1300).rows[0], row(2, 1, 12_500)], ..x(1300) };
+    let text = "0 0 200 400 90000 90000 0 0 2 0\n1 2500 500 90000 90000 0 0 0 0 0 0\n2 0 0 0 0 0 40625 0 0 0 0\n";
+    assert_eq!(tell(&bytes(&half_load)), text);
+    // Beside a wind farm it adds nothing: that closes at 32,500 in round 1.
+    let beside = Interval { rows: [&half_load.rows[..], &[row(3, 2, 5_000)]].concat(), ..half_load };
+    assert_eq!(told(&beside)[0][5..], [57_500, 1, 0, 3, 1]);
+    // Nor does a wind farm at 0, nor any in a grid accident.
+    let still = vec![row(1, 2, 0), Row { status: 3, ..row(2, 3, 5_000) }];
+    assert_eq!(told(&Interval { rows: still, ..x(1300) })[0][4..], [0, 0, 0, 3_000, 2, 0]);
+}
+
+#[test]
+fn request_8_nothing_to_pay() {
+    // At tariff 1 a farm of 199 kWh has a cap of 0 and closes, one of 200 has a cap of 1 and does not.
+    let farms = |closing: u16, open: u16| {
+        let metered = (0..closing + open).map(|place| if place < closing { 199 } else { 200 });
+        let rows = (1..).zip(metered).map(|(id, metered)| row(id, 2, metered)).collect();
+        let head = told(&Interval { rows, ..x(1) }).swap_remove(0);
+        [head[4], head[6], head[9]]
+    };
+    assert_eq!(farms(1, 0), [0, 1, 1]);
+    assert_eq!(farms(0, 1), [0, 0, 1]);
+    assert_eq!(farms(1, 1), [0, 1, 2 + 1]);
+    assert_eq!(farms(2, 1), [0, 1, 3 + 1]);
+    // As many as a file holds; a number of two bytes.
+    assert_eq!(farms(256, 0), [0, 1, 256]);
+    assert_eq!(farms(255, 1), [0, 1, 256 + 1]);
+    assert_eq!(farms(128, 128), [0, 1, 256 + 128]);
+}
+
+#[test]
+fn request_8_payers_who_stay_open_are_visited_once() {
+    // Three wind farms of 5,000 kWh and 100 fen: caps of 32,500 are out of reach, and the quiet round is the only one.
+    assert_eq!(told(&tied_payments(0))[0][6..], [0, 0, 4, 3]);
+}
+
+#[test]
+fn request_8_is_the_heads_last_field() {
+    // 6 visits, little-endian, before the first line's mark.
+    let mut statement = [7; 39 + 4 * 42];
+    assert_eq!(settle(&bytes(&three_payers(600)), &[], &mut statement), Ok(207));
+    assert_eq!(statement[33..41], [4, 0, 6, 0, 0, 0, b'P', b'L']);
 }
