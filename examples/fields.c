@@ -12,8 +12,8 @@ static void print_head(const uint8_t *s)
     printf("%" PRIu32 " %u %u %u", wheatrudder_statement_day(s), wheatrudder_statement_quarter(s),
            wheatrudder_statement_price1(s), wheatrudder_statement_price2(s));
     printf(" %" PRIu64 " %" PRIu64, wheatrudder_statement_total(s), wheatrudder_statement_shortfall(s));
-    printf(" %u %" PRIu32 " %u\n", wheatrudder_statement_rounds(s), wheatrudder_statement_uncovered(s),
-           wheatrudder_statement_rows(s));
+    printf(" %u %" PRIu32 " %u %" PRIu32 "\n", wheatrudder_statement_rounds(s), wheatrudder_statement_uncovered(s),
+           wheatrudder_statement_rows(s), wheatrudder_statement_visits(s));
 }
 
 static void print_line(const uint8_t *s, size_t i)

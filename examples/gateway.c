@@ -111,8 +111,8 @@ int main(int count, char **words)
     print_answer("row", on_gateway.copied);
     print_answer("rewrite", on_gateway.rewritten);
     if (wheatrudder_number(on_gateway.settled) == 0)
-        printf("%u rows, %u rounds, ", wheatrudder_statement_rows(on_gateway.statement),
-               wheatrudder_statement_rounds(on_gateway.statement));
+        printf("%u rows, %u rounds, %" PRIu32 " visits, ", wheatrudder_statement_rows(on_gateway.statement),
+               wheatrudder_statement_rounds(on_gateway.statement), wheatrudder_statement_visits(on_gateway.statement));
     int same = memcmp(&on_gateway, &on_desk, sizeof on_gateway) == 0;
     printf("%s on a stack of %zu bytes\n", same ? "the same" : "NOT THE SAME", size);
     return !same;

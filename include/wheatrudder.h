@@ -12,7 +12,7 @@
  *
  *   interval file    15 bytes and 21 for each row; at most 256 rows
  *   correction        9 bytes and 21 for each row; length 0 stands for none
- *   statement        35 bytes and 42 for each row
+ *   statement        39 bytes and 42 for each row
  */
 #ifndef WHEATRUDDER_H
 #define WHEATRUDDER_H
@@ -26,7 +26,7 @@ extern "C" {
 
 #define WHEATRUDDER_MOST_ROWS 256
 #define WHEATRUDDER_ROW_LENGTH 21
-#define WHEATRUDDER_HEAD_LENGTH 35
+#define WHEATRUDDER_HEAD_LENGTH 39
 #define WHEATRUDDER_LINE_LENGTH 42
 #define WHEATRUDDER_INTERVAL_LENGTH(rows) (15 + WHEATRUDDER_ROW_LENGTH * (size_t)(rows))
 #define WHEATRUDDER_CORRECTION_LENGTH(rows) (9 + WHEATRUDDER_ROW_LENGTH * (size_t)(rows))
@@ -64,6 +64,7 @@ uint64_t wheatrudder_rewrite(const uint8_t *interval, size_t interval_length,
 #define WHEATRUDDER_HEAD_ROUNDS 27
 #define WHEATRUDDER_HEAD_UNCOVERED 29
 #define WHEATRUDDER_HEAD_ROWS 33
+#define WHEATRUDDER_HEAD_VISITS 35
 
 /* Where each field of a line stands in the line. */
 #define WHEATRUDDER_LINE_ID 2
@@ -131,6 +132,12 @@ static inline uint32_t wheatrudder_statement_uncovered(const uint8_t *statement)
 static inline uint16_t wheatrudder_statement_rows(const uint8_t *statement)
 {
     return wheatrudder_u16(statement + WHEATRUDDER_HEAD_ROWS);
+}
+/* Payer visits: in each round one for each payer of weight above 0 that has not reached its cap in an earlier one, also in the last
+ * round, in which nobody does. With m payers of weight above 0 at most m(m + 1)/2. */
+static inline uint32_t wheatrudder_statement_visits(const uint8_t *statement)
+{
+    return wheatrudder_u32(statement + WHEATRUDDER_HEAD_VISITS);
 }
 
 /* Line i of a statement, counted from 0; the lines are in the order of the file's rows. */

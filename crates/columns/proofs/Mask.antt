@@ -9,6 +9,7 @@
 --     where-all       everybody passes: the sum of all
 --     where-zero      values of 0 add up to 0
 --     where-term      a position that passes is at most the sum
+--     where-each      the same value at each that passes: that value for each of them
 --     where-cross     a * f ≤ b * g at each that passes: a * (sum of f) ≤ b * (sum of g)
 --     where-cross-lt  the same with < at each: the gap is at least the number that pass
 --     count-parts     counts of two parts
@@ -78,6 +79,16 @@ unfolding sumWhere
 where-term n p f k l e =
     let h : cond (p k) (f k) 0 ≡ f k = rw e in
     omega (arith, term-le n (λ j. cond (p j) (f j) 0) k l)
+
+pub where-each : (n c : ℕ) (p : ℕ → Bool) (f : ℕ → ℕ) → Below n (λ k. p k ≡ true → f k ≡ c) → sumWhere n p f ≡ c * countTo n p
+unfolding sumWhere countTo sumTo
+where-each zero c p f h = omega arith
+where-each (suc n) c p f h =
+    omega (arith, where-each n c p f (λ k l. h k (omega arith)), each (p n) (f n) (h n (omega arith)))
+  where
+    each : (t : Bool) (x : ℕ) → (t ≡ true → x ≡ c) → cond t x 0 ≡ c * bit t
+    each true x h = omega (arith, h refl)
+    each false x h = omega arith
 
 pub where-cross-lt : (n : ℕ) (p : ℕ → Bool) (a b : ℕ) (f g : ℕ → ℕ) → Below n (λ k. p k ≡ true → a * f k < b * g k)
     → a * sumWhere n p f + countTo n p ≤ b * sumWhere n p g

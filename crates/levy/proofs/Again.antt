@@ -9,6 +9,7 @@
 --     went-on                the answer, from the answer of the next call
 --     weights-few            the weights are few enough to be added up
 --     rounds-begin           what the first call asks
+--     visits-asked           what the count of visits asks
 --     rounds-end             the answer of all rounds
 use Prim.Native.Nat.{ℕ, suc, _+_, _-_, _*_, _^_, _≤_, _<_}
 use mathlib.Core.Path.{_≡_, refl, ap, sym, _∙_, subst}
@@ -22,13 +23,15 @@ use Rattle.columns.specs.Sum.{whole, countTo, sumWhere}
 use Rattle.columns.specs.Table.{at}
 use Rattle.columns.proofs.Sum.{sum-bound, count-zero}
 use Rattle.columns.proofs.Table.{table-is}
-use Rattle.levy.specs.Rounds.{Standing, opens, closes, closed, next, run, opening}
+use Rattle.levy.specs.Rounds.{Standing, opens, closes, closed, next, run, opening, final, visitsTold}
 use Rattle.levy.specs.Capped.{hasClosed}
-use Rattle.levy.specs.Asked.{standing, Levyable, Round, Shut, Ready, Ended, Finished}
+use Rattle.levy.specs.Asked.{standing, Levyable, Round, Shut, Ready, Ended, Countable, Finished}
 use Rattle.levy.specs.declared.Closed.{Closed}
 use Rattle.levy.proofs.Arrays.{zeros-are, take-replicate, drop-replicate}
 use Rattle.levy.proofs.Step.{Sound, sound-weight, closed-nobody, closed-somebody, closed-caps-le, closed-weights-le, next-sound, opening-sound}
 use Rattle.levy.proofs.Step.{opens-fall, opens-le, run-stop, run-again, final-run}
+use Rattle.levy.proofs.Count.{marks-rounds}
+use Rattle.levy.proofs.Visits.{visits-told}
 
 -- where nobody closes no mark changes
 same-marks : (ws cs : List ℕ) (st : Standing) → length (st .marks) ≡ length ws → closed ws cs st ws ≡ 0 → next ws cs st .marks ≡ st .marks
@@ -186,15 +189,33 @@ module _ (total n : ℕ) (weights caps marks : List ℕ) (asked : Levyable n wei
         early = omega (arith, opens-le (take n weights) (take n marks), asked .held .few, first-long);
       }
 
-  pub rounds-end : (after rest : List ℕ) → Ended n weights caps marks (standing n marks total weight 0) after rest
-      → Finished total n weights caps after (record { money = record { 0 = at rest 0 }; weight = at rest 1; rounds = at rest 2 })
-  rounds-end after rest ended =
-      record {
-        is =
-            sym (ended .is (length (take n weights)) (opens-le (take n weights) (take n marks)))
-            ∙ ap (run (length (take n weights)) (take n weights) (take n caps)) begin-is
-            ∙ final-run total (take n weights) (take n caps) (length (take n weights))
-            (opens-le (take n weights) (opening total (take n weights) .marks));
-        past = ended .past ∙ rw zeros (drop-replicate 256 n (asked .held .few));
-        long = ended .long;
-      }
+  module _ (after rest : List ℕ) (ended : Ended n weights caps marks (standing n marks total weight 0) after rest) where
+    end-is : standing n after (at rest 0) (at rest 1) (at rest 2) ≡ final total (take n weights) (take n caps)
+    end-is =
+        sym (ended .is (length (take n weights)) (opens-le (take n weights) (take n marks)))
+        ∙ ap (run (length (take n weights)) (take n weights) (take n caps)) begin-is
+        ∙ final-run total (take n weights) (take n caps) (length (take n weights))
+        (opens-le (take n weights) (opening total (take n weights) .marks))
+
+    pub visits-asked : Countable n weights after (at rest 2)
+    visits-asked =
+        record {
+          few = asked .held .few;
+          weights-long = asked .held .weights-long;
+          marks-long = ended .long;
+          marks-le = λ i. subst (λ (st : Standing). at (st .marks) i ≤ st .rounds) (sym end-is) (marks-rounds total (take n weights) (take n caps) i);
+          early = ended .early;
+        }
+
+    pub rounds-end : (counted : ℕ) → counted ≡ visitsTold (take n weights) (take n after) (at rest 2)
+        → Finished total n weights caps after
+        (record { money = record { 0 = at rest 0 }; weight = at rest 1; rounds = at rest 2; visits = counted })
+    rounds-end counted told =
+        record {
+          is = end-is;
+          visits-are =
+              told ∙ ap (λ (st : Standing). visitsTold (take n weights) (st .marks) (st .rounds)) end-is
+              ∙ sym (visits-told total (take n weights) (take n caps));
+          past = ended .past ∙ rw zeros (drop-replicate 256 n (asked .held .few));
+          long = ended .long;
+        }

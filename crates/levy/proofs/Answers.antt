@@ -1,5 +1,5 @@
 -- Two results that one contract allows are equal, for each public function: theorems of the contract itself (`Learnt`).
---     rounds-unique         marks and what is left
+--     rounds-unique         marks, what is left, visits
 --     shortfall-unique
 --     cover-unique           what is left of a shortfall and of penalties
 --     payments-unique, apportion-unique      the columns
@@ -19,7 +19,12 @@ use Rattle.levy.proofs.filling.cover.Reads as cover-reads
 pub rounds-unique : Leaves-one rounds-reads.Learnt (λ κs x y e f. (x ≡ y) × (e .1 .1 .1 .1 .0 .now ≡ f .1 .1 .1 .1 .0 .now))
 rounds-unique κs a x y e f p q =
     let same : standingOf (a .1 .0) (e .1 .1 .1 .1 .0 .now) x ≡ standingOf (a .1 .0) (f .1 .1 .1 .1 .0 .now) y = p .is ∙ sym (q .is) in (
-      ap (λ (st : Standing). record { money = record { 0 = st .money }; weight = st .weight; rounds = st .rounds }) same,
+      (λ i. record {
+        money = record { 0 = same i .money };
+        weight = same i .weight;
+        rounds = same i .rounds;
+        visits = (p .visits-are ∙ sym (q .visits-are)) i;
+      }),
       sym (take-append-drop (a .1 .0) (e .1 .1 .1 .1 .0 .now))
           ∙ rw (ap (λ (st : Standing). st .marks) same, p .past ∙ sym (q .past)) (take-append-drop (a .1 .0) (f .1 .1 .1 .1 .0 .now)),
     )

@@ -1,6 +1,7 @@
 -- How many rounds there are, and who closed in which.
 --     Counted            rounds and open payers together are at most the payers; each round has somebody who closed in it
 --     opening-counted    it holds before the first round
+--     mark-stays         the mark of whoever has closed stays
 --     next-counted       a round in which somebody closes keeps it
 --     final-counted      it holds after the last round
 --     opens-inside       a payer is open or has closed
@@ -57,8 +58,7 @@ opening-counted total ws =
     record { early = omega (arith, opens-payers ws (opening total ws .marks)); somebody = λ r some le. absurd (omega arith) }
 
 module _ (ws cs : List ℕ) (st : Standing) where
-  -- the mark of whoever does not close stays
-  mark-stays : (i : ℕ) → i < length ws → 0 < at (st .marks) i → at (next ws cs st .marks) i ≡ at (st .marks) i
+  pub mark-stays : (i : ℕ) → i < length ws → 0 < at (st .marks) i → at (next ws cs st .marks) i ≡ at (st .marks) i
   mark-stays i l some = mark-next ws cs st i l ∙ same (closes ws cs st i) refl
     where
       same : (t : Bool) → closes ws cs st i ≡ t → cond t (suc (st .rounds)) (at (st .marks) i) ≡ at (st .marks) i

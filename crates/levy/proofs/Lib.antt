@@ -2,11 +2,13 @@ pub mod Arrays
 pub mod Step
 pub mod Rate
 pub mod Count
+pub mod Visits
 pub mod Payment
 pub mod Cut
 pub mod Unique
 pub mod Turn
 pub mod Fill
 pub mod Making
+pub mod Told
 pub mod Again
 pub mod Answers

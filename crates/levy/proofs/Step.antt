@@ -14,7 +14,8 @@
 --     inside-weight       whoever has weight stands in the column
 --     closed-nobody       no weight closes: nobody does
 --     closed-somebody     some weight closes: somebody does
---     opens-fall          the open payers fall by as many as close
+--     open-parts          who is open stays open or closes
+--     opens-fall          so the open payers fall by as many as close
 --     run-stop            where nobody closes, rounds stop, however many are allowed
 --     run-more            where somebody closes, the next round follows
 --     run-again           what the rounds that follow come to, all rounds come to
@@ -112,17 +113,21 @@ module _ (ws cs : List ℕ) (st : Standing) where
   unfolding next
   next-rounds = refl
 
+  -- said of any figure of a test that is 0 where the test fails
+  pub open-parts : (g : Bool → ℕ) → g false ≡ 0 → (i : ℕ) → i < length ws
+      → g (isOpen ws (st .marks) i) ≡ g (isOpen ws (next ws cs st .marks) i) + g (closes ws cs st i)
+  open-parts g none i l = rw (mark-next i l) (each (closes ws cs st i) refl)
+    where
+      each : (t : Bool) → closes ws cs st i ≡ t
+          → g (eqb (at (st .marks) i) 0 && ltb 0 (at ws i)) ≡ g (eqb (cond t (suc (st .rounds)) (at (st .marks) i)) 0 && ltb 0 (at ws i)) + g t
+      each true e = rw (ne-eqb (suc (st .rounds)) 0 (omega arith)) (omega (arith, none, ap g (closes-open i e)))
+      each false e = omega (arith, none)
+
   pub opens-fall : opens ws (next ws cs st .marks) + countTo (length ws) (closes ws cs st) ≡ opens ws (st .marks)
   unfolding opens
   opens-fall =
       sym
-      (count-parts (length ws) (isOpen ws (st .marks)) (isOpen ws (next ws cs st .marks)) (closes ws cs st)
-      (λ i l. rw (mark-next i l) (each i (closes ws cs st i) refl)))
-    where
-      each : (i : ℕ) (t : Bool) → closes ws cs st i ≡ t
-          → bit (eqb (at (st .marks) i) 0 && ltb 0 (at ws i)) ≡ bit (eqb (cond t (suc (st .rounds)) (at (st .marks) i)) 0 && ltb 0 (at ws i)) + bit t
-      each i true e = rw (ne-eqb (suc (st .rounds)) 0 (omega arith)) (ap bit (closes-open i e))
-      each i false e = omega arith
+      (count-parts (length ws) (isOpen ws (st .marks)) (isOpen ws (next ws cs st .marks)) (closes ws cs st) (open-parts bit refl))
 
   -- whoever closes has weight, so the weight that closes tells whether anybody does
   pub closed-nobody : closed ws cs st ws ≡ 0 → countTo (length ws) (closes ws cs st) ≡ 0

@@ -9,7 +9,7 @@ use lib.ListN.{length, take, drop, replicate}
 use Rattle.columns.specs.Sum.{whole, sumWhere}
 use Rattle.columns.specs.Table.{at}
 use Rattle.share.specs.Share.{shares}
-use Rattle.levy.specs.Rounds.{Standing, opens, closed, next, run, final, openWeights, paid, shortfall, toCut, toReturn}
+use Rattle.levy.specs.Rounds.{Standing, opens, closed, next, run, final, visits, openWeights, paid, shortfall, toCut, toReturn}
 use Rattle.levy.specs.declared.Closed.{Closed}
 use Rattle.levy.specs.declared.Rest.{Rest}
 use Rattle.levy.specs.declared.Left.{Left}
@@ -73,9 +73,18 @@ pub record Ended (n : ℕ) (weights caps marks : List ℕ) (st : Standing) (afte
   pub long : length after ≡ 256
   pub early : at rest 2 ≤ 256
 
--- answered by the rounds: how things stand after the last one, and 0 past the n positions
+-- asked where visits are counted: every mark is one of so many rounds
+pub record Countable (n : ℕ) (weights marks : List ℕ) (rounds : ℕ) : Type 0 where
+  pub few : n ≤ 256
+  pub weights-long : length weights ≡ 256
+  pub marks-long : length marks ≡ 256
+  pub marks-le : (i : ℕ) → at (take n marks) i ≤ rounds
+  pub early : rounds ≤ 256
+
+-- answered by the rounds: how things stand after the last one, how often payers were looked at, and 0 past the n positions
 pub record Finished (total n : ℕ) (weights caps after : List ℕ) (r : Rest) : Type 0 where
   pub is : standingOf n after r ≡ final total (take n weights) (take n caps)
+  pub visits-are : r .visits ≡ visits total (take n weights) (take n caps)
   pub past : drop n after ≡ replicate (256 - n) 0
   pub long : length after ≡ 256
 

@@ -1,7 +1,7 @@
 -- Rounds (01, Rounds; Articles 31, 32): a total is shared over weights ws under caps cs; both are columns of one length. What is short is
--- filled from penalties first (02, request 4).
+-- filled from penalties first (02, request 4); what the rounds take in work is counted (its request 8).
 -- Nothing here knows of kinds, tariffs or regions.
-use Prim.Native.Nat.{ℕ, zero, suc, _-_, _*_, min}
+use Prim.Native.Nat.{ℕ, zero, suc, _+_, _-_, _*_, min}
 use mathlib.Core.Bool.{Bool, cond, _&&_}
 use mathlib.Core.List.{List}
 use lib.Dec.{leb, ltb, eqb}
@@ -63,6 +63,26 @@ opening total ws =
 -- how things stand after the last round; in each round but the last somebody closes, so one for each position is enough
 unfoldable pub final : ℕ → List ℕ → List ℕ → Standing
 final total ws cs = run (length ws) ws cs (opening total ws)
+
+-- 02, request 8: how often a payer is looked at from here on. In each round every open payer once, also in the last one, in which nobody
+-- closes; so many rounds at most
+unfoldable pub visitsFrom : ℕ → List ℕ → List ℕ → Standing → ℕ
+visitsFrom zero ws cs st = 0
+visitsFrom (suc f) ws cs st =
+    let more = visitsFrom f ws cs (next ws cs st) in
+    opens ws (st .marks) + cond (eqb (countTo (length ws) (closes ws cs st)) 0) 0 more
+
+-- the payer visits of all rounds; each round but the last closes a payer, so one for each position is enough
+unfoldable pub visits : ℕ → List ℕ → List ℕ → ℕ
+visits total ws cs = visitsFrom (length ws) ws cs (opening total ws)
+
+-- the same told by the closing rounds (`visits-told`): a payer is looked at in every round up to the one that closes it, and one that
+-- never closes in all of them and in the last, quiet one
+unfoldable pub visitsAt : List ℕ → List ℕ → ℕ → ℕ → ℕ
+visitsAt ws marks rounds i = cond (ltb 0 (at ws i)) (cond (eqb (at marks i) 0) (rounds + 1) (at marks i)) 0
+
+unfoldable pub visitsTold : List ℕ → List ℕ → ℕ → ℕ
+visitsTold ws marks rounds = sumTo (length ws) (visitsAt ws marks rounds)
 
 -- the weights that are still open, by the marks
 unfoldable pub openWeights : List ℕ → List ℕ → List ℕ

@@ -1,6 +1,7 @@
 // Rounds until nobody closes (01, Rounds). A payer's mark is the round in which it closed, 0 before that.
 use crate::Closed;
 use crate::Rest;
+use crate::visiting::count_visits;
 use units::Fen;
 ghost use mathlib.Core.Path.{_≡_};
 ghost use mathlib.Core.Bool.{cond, _&&_};
@@ -114,10 +115,12 @@ pub fn rounds(
     let weight = columns::total_of(&column[..n]);
     let mut rest = [0u64; 3];
     redistribute(total, weight, 0, n, weights, caps, marks, &mut rest);
+    let visits = count_visits(n, rest[2] as u32, weights, marks);
     Rest {
         money: Fen(rest[0]),
         weight: rest[1],
         rounds: rest[2] as u16,
+        visits,
     }
 }
 

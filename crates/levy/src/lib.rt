@@ -1,9 +1,10 @@
-// Who pays and how much (01, Rounds; Article 32), on columns with a position for each row: rounds, payments, what penalties fill
-// (02, request 4), cuts and what is returned. Money is fen, in columns too. Weights are bare numbers of proportion: kWh today,
+// Who pays and how much (01, Rounds; Article 32), on columns with a position for each row: rounds and the work they are (02, request 8),
+// payments, what penalties fill (its request 4), cuts and what is returned. Money is fen, in columns too. Weights are bare numbers of proportion: kWh today,
 // thousandths of a kWh under request 10.
 mod closing;
 mod filling;
 mod paying;
+mod visiting;
 
 pub use closing::rounds;
 pub use closing::shortfall;
@@ -18,11 +19,12 @@ pub struct Closed {
     pub weights: u64,
 }
 
-// What is left after the last round, and in how many rounds a payer reached its cap.
+// What is left after the last round, in how many rounds a payer reached its cap, and how often a payer was looked at in all.
 pub struct Rest {
     pub money: Fen,
     pub weight: u64,
     pub rounds: u16,
+    pub visits: u32,
 }
 
 // What is left once penalties have filled a shortfall: of the shortfall, to be cut, and of the penalties, to be returned.

@@ -19,7 +19,7 @@ use Rattle.columns.specs.Sum.{sumTo, whole, countTo}
 use Rattle.columns.specs.Table.{at, table}
 use Rattle.columns.proofs.First.{both-left, both-right}
 use Rattle.share.specs.Share.{quota, rest, turn, before, rank, left, share}
-use Rattle.levy.specs.Rounds.{Standing, closes, closed, next, run, opening, final, openWeights, paid, payments, shortfall}
+use Rattle.levy.specs.Rounds.{Standing, opens, closes, closed, next, run, opening, final, visitsFrom, visits, openWeights, paid, payments, shortfall}
 use Rattle.levy.specs.Asked.{standingOf, Levyable, Finished, Short, Payable}
 use Rattle.levy.specs.declared.Rest.{Rest}
 use Rattle.levy.proofs.Arrays.{zeros-at}
@@ -68,9 +68,9 @@ ready total n weights caps few long wide light low rich some =
     }
 
 -- interval X's columns, in arrays of 256
-pub fit-x : (cap2 cap3 rounds shortfall paid2 paid3 : ℕ) → Worked cap2 cap3 rounds shortfall paid2 paid3
+pub fit-x : (cap2 cap3 rounds seen short paid2 paid3 : ℕ) → Worked cap2 cap3 rounds seen short paid2 paid3
     → Case 90000 3 (0 ∷ 15000 ∷ 5000 ∷ replicate 253 0) (0 ∷ cap2 ∷ cap3 ∷ replicate 253 0)
-fit-x cap2 cap3 rounds shortfall paid2 paid3 w =
+fit-x cap2 cap3 rounds seen short paid2 paid3 w =
     ready 90000 3 (0 ∷ 15000 ∷ 5000 ∷ replicate 253 0) (0 ∷ cap2 ∷ cap3 ∷ replicate 253 0) tt refl refl tt
     (caps-low cap2 cap3 (w .low2) (w .low3)) tt tt
 
@@ -82,10 +82,11 @@ module _ (total n : ℕ) (weights caps : List ℕ) (asked : Case total n weights
   pay-asked marks r ended = payable total n weights caps (replicate 256 0) marks r (asked .fit) ended 0 (λ l. l)
 
 pub told : (total n : ℕ) (weights caps marks : List ℕ) (r : Rest) → Finished total n weights caps marks r → (x : ℕ) → Short r x
-    → r .rounds ∷ x ∷ [] ≡ outcome total (take n weights) (take n caps)
+    → r .rounds ∷ r .visits ∷ x ∷ [] ≡ outcome total (take n weights) (take n caps)
 unfolding outcome
 told total n weights caps marks r ended x short =
-    rw (short n marks) (ap (λ (st : Standing). st .rounds ∷ shortfall st ∷ []) (ended .is))
+    rw (short n marks, ended .visits-are)
+    (ap (λ (st : Standing). st .rounds ∷ visits total (take n weights) (take n caps) ∷ shortfall st ∷ []) (ended .is))
 
 pub made : (total n : ℕ) (weights caps marks : List ℕ) (r : Rest) → Finished total n weights caps marks r → (paid : List ℕ)
     → paid ≡ payments (take n weights) (take n caps) (standingOf n marks r) 0 ++ drop n caps
@@ -99,30 +100,30 @@ pub paid-at : (i : ℕ) (xs paid ys past : List ℕ) → xs ≡ paid ++ past →
 paid-at i xs paid ys past e f = got-at i xs (paid ++ past) (ys ++ past) e (ap (λ (zs : List ℕ). zs ++ past) f)
 
 -- caps that are small by a computed test, and figures that the definitions come to
-worked : (cap2 cap3 rounds shortfall paid2 paid3 : ℕ) → T (leb cap2 44000000) → T (leb cap3 44000000)
-    → outcome 90000 (0 ∷ 15000 ∷ 5000 ∷ []) (capsX cap2 cap3) ≡ rounds ∷ shortfall ∷ []
+worked : (cap2 cap3 rounds seen short paid2 paid3 : ℕ) → T (leb cap2 44000000) → T (leb cap3 44000000)
+    → outcome 90000 (0 ∷ 15000 ∷ 5000 ∷ []) (capsX cap2 cap3) ≡ rounds ∷ seen ∷ short ∷ []
     → paidIn 90000 (0 ∷ 15000 ∷ 5000 ∷ []) (capsX cap2 cap3) ≡ 0 ∷ paid2 ∷ paid3 ∷ []
-    → Worked cap2 cap3 rounds shortfall paid2 paid3
-worked cap2 cap3 rounds shortfall paid2 paid3 low2 low3 told made =
+    → Worked cap2 cap3 rounds seen short paid2 paid3
+worked cap2 cap3 rounds seen short paid2 paid3 low2 low3 told made =
     record { low2 = leb→le cap2 44000000 low2; low3 = leb→le cap3 44000000 low3; told = told; made = made }
 
-pub p1-to-p5 : Worked 177250 88625 0 0 67500 22500
-    × Worked 67500 33750 1 0 67500 22500
-    × Worked 65000 32500 1 0 65000 25000
-    × Worked 60000 30000 2 0 60000 30000
-    × Worked 50000 25000 2 15000 50000 25000
-unfolding outcome paidIn final run opening next closes closed countTo sumTo table whole shortfall payments paid openWeights
+pub p1-to-p5 : Worked 177250 88625 0 2 0 67500 22500
+    × Worked 67500 33750 1 3 0 67500 22500
+    × Worked 65000 32500 1 3 0 65000 25000
+    × Worked 60000 30000 2 3 0 60000 30000
+    × Worked 50000 25000 2 3 15000 50000 25000
+unfolding outcome paidIn visits visitsFrom opens final run opening next closes closed countTo sumTo table whole shortfall payments paid openWeights
     share quota rest turn before rank left
 p1-to-p5 = (
-  worked 177250 88625 0 0 67500 22500 tt tt refl refl,
-  worked 67500 33750 1 0 67500 22500 tt tt refl refl,
-  worked 65000 32500 1 0 65000 25000 tt tt refl refl,
-  worked 60000 30000 2 0 60000 30000 tt tt refl refl,
-  worked 50000 25000 2 15000 50000 25000 tt tt refl refl,
+  worked 177250 88625 0 2 0 67500 22500 tt tt refl refl,
+  worked 67500 33750 1 3 0 67500 22500 tt tt refl refl,
+  worked 65000 32500 1 3 0 65000 25000 tt tt refl refl,
+  worked 60000 30000 2 3 0 60000 30000 tt tt refl refl,
+  worked 50000 25000 2 3 15000 50000 25000 tt tt refl refl,
 )
 
-pub four : outcome 10000 (7 ∷ 7 ∷ 7 ∷ 7 ∷ 7 ∷ []) (2302 ∷ 1000 ∷ 3000 ∷ 2290 ∷ 2100 ∷ []) ≡ 4 ∷ 0 ∷ []
-unfolding outcome final run opening next closes closed countTo sumTo table whole shortfall
+pub four : outcome 10000 (7 ∷ 7 ∷ 7 ∷ 7 ∷ 7 ∷ []) (2302 ∷ 1000 ∷ 3000 ∷ 2290 ∷ 2100 ∷ []) ≡ 4 ∷ 15 ∷ 0 ∷ []
+unfolding outcome visits visitsFrom opens final run opening next closes closed countTo sumTo table whole shortfall
 four = refl
 
 pub four-paid : paidIn 10000 (7 ∷ 7 ∷ 7 ∷ 7 ∷ 7 ∷ []) (2302 ∷ 1000 ∷ 3000 ∷ 2290 ∷ 2100 ∷ [])

@@ -1,5 +1,5 @@
 // The rounds of P1 to P5 (01, Checked figures: interval X at five tariffs) and a case of four rounds, run on columns. Weights and caps are
-// written as numbers; rounds, shortfall and payments are proved and printed. P6 to P11 are no matter of rounds and stand elsewhere.
+// written as numbers; rounds, visits, shortfall and payments are proved and printed. P6 to P11 are no matter of rounds and stand elsewhere.
 use units::Fen;
 ghost use mathlib.Core.Path.{_≡_};
 ghost use mathlib.Core.List.{_++_};
@@ -32,6 +32,14 @@ fn show_line(n: usize, column: &[u32; 256])
     end_line();
 }
 
+// Rounds, visits and shortfall on a line of their own.
+fn show_outcome(told: [u64; 3]) {
+    show(told[0]);
+    show(told[1]);
+    show(told[2]);
+    end_line();
+}
+
 // Marks before the first round.
 fn blank() -> [u32; 256]
     ensures { λ r. ⌜ r ≡ replicate 256 0 ⌝ }
@@ -40,7 +48,7 @@ fn blank() -> [u32; 256]
 }
 
 // All the rounds of a case, then what everybody pays, in the place of the caps.
-fn shown(total: Fen, n: usize, weights: &[u32; 256], caps: &mut [u32; 256]) -> [u64; 2]
+fn shown(total: Fen, n: usize, weights: &[u32; 256], caps: &mut [u32; 256]) -> [u64; 3]
     requires { ⌜ Case (total .0) n (now weights) (now caps) ⌝ }
     ensures { λ r. ⌜ (r ≡ outcome (total .0) (take n (now (weights .entry))) (take n (now (caps .entry))))
         × (now (caps .exit) ≡ paidIn (total .0) (take n (now (weights .entry))) (take n (now (caps .entry))) ++ drop n (now (caps .entry))) ⌝ }
@@ -49,16 +57,15 @@ fn shown(total: Fen, n: usize, weights: &[u32; 256], caps: &mut [u32; 256]) -> [
     let rest = levy::rounds(total, n, weights, caps, &mut marks);
     let short = levy::shortfall(rest);
     levy::payments(n, rest, weights, &marks, 0, caps);
-    show(rest.rounds as u64);
-    show(short.0);
-    end_line();
+    let told = [rest.rounds as u64, rest.visits as u64, short.0];
+    show_outcome(told);
     show_line(n, caps);
-    [rest.rounds as u64, short.0]
+    told
 }
 
 // Interval X under the caps that a tariff gives rows 2 and 3, and what 01 says of it.
-fn interval(cap2: u32, cap3: u32, rounds: u64, shortfall: u64, paid2: u32, paid3: u32)
-    requires { ⌜ Worked cap2 cap3 rounds shortfall paid2 paid3 ⌝ }
+fn interval(cap2: u32, cap3: u32, rounds: u64, visits: u64, shortfall: u64, paid2: u32, paid3: u32)
+    requires { ⌜ Worked cap2 cap3 rounds visits shortfall paid2 paid3 ⌝ }
 {
     let mut weights = [0u32; 256];
     weights[1] = 15000;
@@ -68,12 +75,13 @@ fn interval(cap2: u32, cap3: u32, rounds: u64, shortfall: u64, paid2: u32, paid3
     caps[2] = cap3;
     let told = shown(Fen(90000), 3, &weights, &mut caps);
     check::expect(told[0] == rounds);
-    check::expect(told[1] == shortfall);
+    check::expect(told[1] == visits);
+    check::expect(told[2] == shortfall);
     check::expect(caps[1] == paid2);
     check::expect(caps[2] == paid3);
 }
 
-// Five payers of one weight: one closes in each of four rounds, and the fifth pays what is left.
+// Five payers of one weight: one closes in each of four rounds, and the fifth pays what is left. They are looked at 5 + 4 + 3 + 2 + 1 times.
 fn many() {
     let mut weights = [0u32; 256];
     weights[0] = 7;
@@ -89,15 +97,16 @@ fn many() {
     caps[4] = 2100;
     let told = shown(Fen(10000), 5, &weights, &mut caps);
     check::expect(told[0] == 4);
+    check::expect(told[1] == 15);
     check::expect(caps[2] == 2308);
 }
 
 // P1 to P5, at tariffs 3545, 1350, 1300, 1200 and 1000, then the four rounds.
 fn main() {
-    interval(177250, 88625, 0, 0, 67500, 22500);
-    interval(67500, 33750, 1, 0, 67500, 22500);
-    interval(65000, 32500, 1, 0, 65000, 25000);
-    interval(60000, 30000, 2, 0, 60000, 30000);
-    interval(50000, 25000, 2, 15000, 50000, 25000);
+    interval(177250, 88625, 0, 2, 0, 67500, 22500);
+    interval(67500, 33750, 1, 3, 0, 67500, 22500);
+    interval(65000, 32500, 1, 3, 0, 65000, 25000);
+    interval(60000, 30000, 2, 3, 0, 60000, 30000);
+    interval(50000, 25000, 2, 3, 15000, 50000, 25000);
     many();
 }

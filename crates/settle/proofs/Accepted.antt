@@ -79,7 +79,7 @@ module _ (s k : List ℕ) (n : ℕ) (h : verdictOf s k ≡ Accepted n) where
                 omega (arith, f .total),
                 (
                   omega (arith, f .total, f .shortfall),
-                  (omega (arith, f .rounds, head .rows), (omega (arith, f .uncovered, head .need), (omega (arith, head .rows), tt))),
+                  (omega (arith, f .rounds, head .rows), (omega (arith, f .uncovered, head .need), (omega (arith, head .rows), (omega (arith, f .visits), tt)))),
                 ),
               ),
             ),

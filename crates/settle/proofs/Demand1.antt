@@ -7,7 +7,7 @@
 --   short-refused      accepted files and a buffer that is too short: 11, place 0
 --   refused-by         and there is no other refusal
 --   refusal-keeps      a refusal leaves every byte of the buffer as it was; refused-keeps: the same by the answer
---   settled-count      a statement of n rows has 35 + 34n bytes
+--   settled-count      a statement of n rows has 39 + 42n bytes
 --   settled-buffer     a settlement: they are put in front of what the buffer held
 --   settled-front      so they stand at the front of the buffer
 --   settled-past       and every byte past them is as before

@@ -94,6 +94,7 @@ module _ (s k out : List ℕ) (h : numberOf (answerOf s k (length out)) ≡ 0) w
           shortfall = f .shortfall;
           rounds = f .rounds;
           uncovered = f .uncovered;
+          visits = f .visits;
           called1 = column 1 (f .called1) (omega arith) (long .called1) (λ i. refl) j;
           called2 = column 2 (f .called2) (omega arith) (long .called2) (λ i. refl) j;
           compensations = column 3 (f .compensations) (omega arith) (long .compensations) (λ i. refl) j;

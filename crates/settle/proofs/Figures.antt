@@ -30,12 +30,12 @@ use Rattle.duties.specs.Duty.{width1, width2, energy1, energy2, credit1, credit
 use Rattle.duties.specs.Duties.{dutiesOf}
 use Rattle.merit.specs.Call.{cheaperIn, cheaper, group, due, called, calls, uncovered}
 use Rattle.merit.specs.Price.{price}
-use Rattle.levy.specs.Rounds.{closes, closed, next, run, opening, final, openWeights, paid, payments, shortfall, cuts, returned}
+use Rattle.levy.specs.Rounds.{opens, closes, closed, next, run, opening, final, visitsFrom, visits, openWeights, paid, payments, shortfall, cuts, returned}
 use Rattle.statement.specs.Statement.{statementHeadBytes, statementHeadAt}
 use Rattle.settle.specs.Settlement.{firstTurn, compensationsOf, penaltiesOf, levied, figures}
 use Rattle.settle.specs.Statement.{statementHead, statementBytes}
 use Rattle.settle.specs.Answer.{dutiesIn, figuresOf, statementOf, settleOrder, answerOf, bufferAfter}
-use Rattle.settle.specs.Requests.{fileOf, settledThree, told, settledNone, settledReduced, requestTable}
+use Rattle.settle.specs.Requests.{fileOf, settledThree, told, settledNone, settledReduced, visited, requestTable}
 use Rattle.settle.specs.Table.{intervalX, settledX, Entry, entry, figuresTable, same, allRight}
 
 all-right : (allRight figuresTable && allRight requestTable) ≡ true
@@ -44,9 +44,9 @@ unfolding sumTo countTo maxTo maxWhere findTo whole table numberAt numberBytes f
     firstRefusal rowByRow previous headAt rowAt correctionHeadAt headTests headOk statusOk idleTests notOffering offerTests offering rowTests rowOk
     headChecks rowChecks rowChecksAt rowChecksOf intervalOrder fileOrder termsOf hasId findId countingRow
     width1 width2 energy1 energy2 credit1 credit2 payer weight cap dutiesOf cheaperIn cheaper group due called calls uncovered price
-    closes closed next run opening final openWeights paid payments shortfall cuts returned firstTurn compensationsOf penaltiesOf levied figures
+    opens closes closed next run opening final visitsFrom visits openWeights paid payments shortfall cuts returned firstTurn compensationsOf penaltiesOf levied figures
     statementHeadBytes statementHeadAt statementHead statementBytes
-    dutiesIn figuresOf statementOf settleOrder answerOf bufferAfter intervalX settledX figuresTable fileOf settledThree told settledNone settledReduced requestTable same allRight
+    dutiesIn figuresOf statementOf settleOrder answerOf bufferAfter intervalX settledX figuresTable fileOf settledThree told settledNone settledReduced visited requestTable same allRight
 all-right = refl
 
 same-is : (xs ys : List ℕ) → same xs ys ≡ true → xs ≡ ys

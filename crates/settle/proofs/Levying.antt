@@ -21,7 +21,7 @@ use Rattle.records.specs.Sheet.{Lined, cell, columnOf, withColumn}
 use Rattle.share.specs.Share.{shares}
 use Rattle.share.proofs.Laws.{shares-length}
 use Rattle.levy.specs.Asked.{standingOf, Levyable, Finished, Payable, Apportionable}
-use Rattle.levy.specs.Rounds.{Standing, final, payments}
+use Rattle.levy.specs.Rounds.{Standing, final, visits, payments}
 use Rattle.levy.specs.declared.Rest.{Rest}
 use Rattle.levy.specs.declared.Left.{Left}
 use Rattle.levy.proofs.Arrays.{zeros-at}
@@ -71,6 +71,7 @@ module _ (total n first : ℕ) (weights caps marks₀ marks : List ℕ) (rest : 
         payments =
             ap (take n) made ∙ take-at paying (drop n caps) n paying-long
             ∙ ap (λ (st : Standing). payments (take n weights) (take n caps) st first) (ended .is);
+        visits = ended .visits-are;
       }
 
 -- ---- over the sheet
@@ -148,6 +149,7 @@ module _ (n first total : ℕ) (s : List ℕ) (asked : Leviable n first total s)
             money = ap (λ (st : Standing). st .money) stands;
             weight = ap (λ (st : Standing). st .weight) stands;
             rounds = ap (λ (st : Standing). st .rounds) stands;
+            visits = now .visits ∙ (λ j. visits total (array-front line.weight ws weights-read j) (array-front line.cap cs caps-read j));
           }
 
 -- ---- an amount over the sums of a field

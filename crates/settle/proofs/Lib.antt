@@ -16,5 +16,6 @@ pub mod Demand2
 pub mod Prices
 pub mod Demand3
 pub mod Penalties
+pub mod Visits
 pub mod InTurn
 pub mod Unique

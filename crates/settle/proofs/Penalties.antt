@@ -117,6 +117,7 @@ unseen need first d credits1 credits2 =
       shortfall = refl;
       rounds = refl;
       uncovered = refl;
+      visits = refl;
       called1 = refl;
       called2 = refl;
       compensations = refl;

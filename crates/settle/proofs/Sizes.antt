@@ -3,9 +3,10 @@
 --   owed-length, owed-small               the column of penalties, its numbers
 --   figures-long         a number in every column for each row
 --   figures-sized        every figure by its bound (record Sized)
-use Prim.Native.Nat.{ℕ, _≤_}
+use Prim.Native.Nat.{ℕ, _+_, _≤_}
 use mathlib.Core.Path.{_≡_, refl, _∙_}
 use mathlib.Core.List.{List}
+use native.Mathlib.Nat.{mul-le-mul}
 use native.Mathlib.Omega.{arith}
 use lib.Dec.{ltb}
 use lib.ListN.{length}
@@ -19,9 +20,10 @@ use Rattle.merit.specs.Call.{calls, uncovered}
 use Rattle.merit.proofs.Laws.{calls-length, calls-le, price-le}
 use Rattle.pay.specs.Pay.{compensation, penalty}
 use Rattle.pay.proofs.Laws.{compensation-most, penalty-most}
-use Rattle.levy.specs.Rounds.{payers, final}
+use Rattle.levy.specs.Rounds.{payers, final, visits}
 use Rattle.levy.proofs.Step.{final-sound}
 use Rattle.levy.proofs.Count.{rounds-count, marks-rounds}
+use Rattle.levy.proofs.Visits.{visits-most}
 use Rattle.levy.proofs.Payment.{payments-length, payment-le-cap, shortfall-le}
 use Rattle.levy.proofs.Cut.{cuts-length, cut-le, returned-length, returned-le}
 use Rattle.duties.specs.Duties.{Duties, Level}
@@ -36,6 +38,7 @@ pub record Sized (need n : ℕ) (f : Figures) : Type 0 where
   pub shortfall : f .shortfall ≤ f .total
   pub rounds : f .rounds ≤ n
   pub uncovered : f .uncovered ≤ need
+  pub visits : f .visits ≤ 32896
   pub called1 : (i : ℕ) → at (f .called1) i ≤ 250000
   pub called2 : (i : ℕ) → at (f .called2) i ≤ 250000
   pub compensations : (i : ℕ) → at (f .compensations) i ≤ 25000000
@@ -60,12 +63,19 @@ pub record Long (n : ℕ) (f : Figures) : Type 0 where
   pub penalties : length (f .penalties) ≡ n
   pub returned : length (f .returned) ≡ n
 
--- rounds number at most the weights
+-- payers number at most the weights, and so do rounds; 256 payers are visited at most 256 * 257 / 2 times
+payers-few : (ws : List ℕ) → payers ws ≤ length ws
+unfolding payers
+payers-few ws = count-le (length ws) (λ i. ltb 0 (at ws i))
+
 rounds-few : (total : ℕ) (ws cs : List ℕ) → final total ws cs .rounds ≤ length ws
-rounds-few total ws cs = omega (arith, rounds-count total ws cs, some)
-  where
-    some : payers ws ≤ length ws
-    some = unfold payers in count-le (length ws) (λ i. ltb 0 (at ws i))
+rounds-few total ws cs = omega (arith, rounds-count total ws cs, payers-few ws)
+
+visits-few : (total : ℕ) (ws cs : List ℕ) → length ws ≤ 256 → visits total ws cs ≤ 32896
+visits-few total ws cs few =
+    let m : payers ws ≤ 256 = omega (arith, payers-few ws) in
+    let m+1 : payers ws + 1 ≤ 257 = omega arith in
+    omega (arith, visits-most total ws cs, mul-le-mul m m+1)
 
 module _ (n : ℕ) (d : Duties) where
   pub pay-length : Level n d → (c1 c2 : List ℕ) (p1 p2 : ℕ) → length (compensationsOf d c1 c2 p1 p2) ≡ n
@@ -150,6 +160,7 @@ module _ (need first n : ℕ) (d : Duties) where
         shortfall = shortfall-le (whole pay) ws cs;
         rounds = omega (arith, rounds-few (whole pay) ws cs, within .level .weights);
         uncovered = uncovered-le;
+        visits = visits-few (whole pay) ws cs (omega (arith, within .few, within .level .weights));
         called1 = narrow1;
         called2 = narrow2;
         compensations = pay-small n d within c1 c2 _ _ p1 p2;

@@ -20,7 +20,7 @@ use Rattle.merit.specs.OneTier.{tierCalls}
 use Rattle.merit.specs.Price.{price}
 use Rattle.merit.proofs.Apart.{calls-one, calls-two, uncovered-tiers}
 use Rattle.pay.specs.Pay.{compensation, penalty}
-use Rattle.levy.specs.Rounds.{Standing, final, payments, shortfall, toCut, toReturn, cuts, returned}
+use Rattle.levy.specs.Rounds.{Standing, final, visits, payments, shortfall, toCut, toReturn, cuts, returned}
 use Rattle.levy.specs.declared.Rest.{Rest}
 use Rattle.levy.specs.declared.Left.{Left}
 use Rattle.share.specs.Share.{shares}
@@ -317,6 +317,10 @@ module _ (n : ℕ) (d : Duties) (within : Within n d) (need first : ℕ) (turn :
     pub levied-rounds : r .rounds ≡ f .rounds
     unfolding figures levied
     levied-rounds = now .rounds ∙ ap (λ (st : Standing). st .rounds) ends
+
+    pub levied-visits : r .visits ≡ f .visits
+    unfolding figures
+    levied-visits = now .visits ∙ (λ j. visits (f .total) (weights-read j) (caps-read j))
 
     pub levied-short : (x : ℕ) (marks : List ℕ)
         → x ≡ shortfall (record { marks = marks; money = r .money .0; weight = r .weight; rounds = r .rounds }) → x ≡ f .shortfall

@@ -172,6 +172,9 @@ module _ (s k : List ℕ) (n : ℕ) (ok : verdictOf s k ≡ Accepted n) (out : L
             rounds-4 : r .rounds ≡ f .rounds
             rounds-4 = stage.levied-rounds n d within need first turn id out room t4 r levied-4
 
+            visits-4 : r .visits ≡ f .visits
+            visits-4 = stage.levied-visits n d within need first turn id out room t4 r levied-4
+
             short-4 : x .0 ≡ f .shortfall
             short-4 = stage.levied-short n d within need first turn id out room t4 r levied-4 (x .0) [] (short 0 [])
 
@@ -226,6 +229,7 @@ module _ (s k : List ℕ) (n : ℕ) (ok : verdictOf s k ≡ Accepted n) (out : L
                       rounds = r .rounds;
                       uncovered = c2 .left;
                       rows = n;
+                      visits = r .visits;
                     }))
                     → t7 ≡ put out 0 (statementOf s k)
                 unfolding statementOf statementBytes statementHead
@@ -245,6 +249,7 @@ module _ (s k : List ℕ) (n : ℕ) (ok : verdictOf s k ≡ Accepted n) (out : L
                       rounds = rounds-4 j;
                       uncovered = record { 0 = left-2 j };
                       rows = n;
+                      visits = visits-4 j;
                     })))
                     ∙ ap (λ (m : ℕ). put (sheet m letterL lineWidths out n lines) 0 top) (sym (head-length (statementHead (headAt s) n f)))
                     ∙ sheet-head top letterL lineWidths out n lines (omega (arith, room, head-length (statementHead (headAt s) n f)))
@@ -304,6 +309,7 @@ module _ (s k : List ℕ) (n : ℕ) (ok : verdictOf s k ≡ Accepted n) (out : L
                     rounds = r .rounds;
                     uncovered = m .uncovered;
                     rows = n;
+                    visits = r .visits;
                   }))
                   → t7 ≡ put out 0 (statementOf s k)
               stated t7 seven =

@@ -1,6 +1,6 @@
 -- What the promises of the engine speak of besides its definitions: the figures that a statement's bytes hold, how prices and penalties
--- follow from the rows, whose turn it is, and demand 3 said of any figures.
-use Prim.Native.Nat.{ℕ, _+_, _-_, _*_, _≤_, _<_}
+-- follow from the rows, whose turn it is, how much work the rounds were, and demand 3 said of any figures.
+use Prim.Native.Nat.{ℕ, _+_, _-_, _*_, _/_, _≤_, _<_}
 use mathlib.Core.Path.{_≡_}
 use mathlib.Core.Bool.{Bool, cond}
 use mathlib.Core.List.{List}
@@ -18,7 +18,7 @@ use Rattle.duties.specs.Duty.{normal, reduced, meterEnergy1, meterEnergy2}
 use Rattle.duties.specs.Duties.{Duties}
 use Rattle.pay.specs.Pay.{penalty}
 use Rattle.share.specs.Share.{turn}
-use Rattle.levy.specs.Rounds.{payers}
+use Rattle.levy.specs.Rounds.{payers, visitsTold}
 use Rattle.levy.specs.Capped.{hasClosed, outside, payersInside, capsInside, leftBy, weightsBeside, Capped}
 use Rattle.records.specs.Sheet.{columnOf}
 use Rattle.statement.specs.Statement.{statementHeadAt}
@@ -42,6 +42,7 @@ figuresAt b =
       shortfall = h .shortfall .0;
       rounds = h .rounds;
       uncovered = h .uncovered .0;
+      visits = h .visits;
       called1 = columnOf line.called1 n b;
       called2 = columnOf line.called2 n b;
       compensations = columnOf line.compensation n b;
@@ -118,6 +119,7 @@ pub record SameButPenalties (f g : Figures) : Type 0 where
   pub shortfall : f .shortfall ≡ g .shortfall
   pub rounds : f .rounds ≡ g .rounds
   pub uncovered : f .uncovered ≡ g .uncovered
+  pub visits : f .visits ≡ g .visits
   pub called1 : f .called1 ≡ g .called1
   pub called2 : f .called2 ≡ g .called2
   pub compensations : f .compensations ≡ g .compensations
@@ -178,6 +180,16 @@ pub record InTurn (s k : List ℕ) (f : Figures) : Type 0 where
 -- the figures of a pair if equal remainders went to the lower id at every quarter, as in document 01
 unfoldable pub figuresByLowerId : List ℕ → List ℕ → Figures
 figuresByLowerId s k = figures (headAt s .need .0) 0 (dutiesIn s k)
+
+-- ---- how much work the rounds were (02, request 8)
+
+-- the visits told follow from the lines: the closing rounds added up, and for each payer that never closes the rounds and one more. So
+-- each payer is visited, only once if nobody ever closes, and m payers at most m (m + 1) / 2 times
+pub record Visits (f : Figures) : Type 0 where
+  pub told : f .visits ≡ visitsTold (f .weights) (f .closing) (f .rounds)
+  pub at-most : f .visits ≤ payers (f .weights) * (payers (f .weights) + 1) / 2
+  pub at-least : payers (f .weights) ≤ f .visits
+  pub quiet : f .rounds ≡ 0 → f .visits ≡ payers (f .weights)
 
 -- ---- demand 3, said of any figures
 

@@ -16,7 +16,7 @@ use Rattle.statement.specs.Statement.{lineStart, statementHeadAt}
 use Rattle.statement.specs.Line as line
 use Rattle.settle.specs.Settlement.{firstTurn}
 use Rattle.settle.specs.Answer.{answerOf, bufferAfter, numberOf, valueOf}
-use Rattle.settle.specs.Table.{Entry, entry, twoBands}
+use Rattle.settle.specs.Table.{Entry, entry, intervalX, twoBands}
 
 -- the fields of a thermal row that offers down to 8,000 kWh, by its id, metered energy, status and bids; of one that does not offer;
 -- of a wind farm
@@ -39,9 +39,9 @@ fileOf quarter tariff need rows =
 -- the settlement of three rows read back: number, prices, total, shortfall, rounds; then for each row what it is paid, and what it pays
 unfoldable pub settledThree : List ℕ → List ℕ
 settledThree s =
-    let out = bufferAfter s [] (replicate 161 255) in
+    let out = bufferAfter s [] (replicate 165 255) in
     let h = statementHeadAt out in
-    numberOf (answerOf s [] 161) ∷ h .price1 .0 ∷ h .price2 .0 ∷ h .total .0 ∷ h .shortfall .0 ∷ h .rounds
+    numberOf (answerOf s [] 165) ∷ h .price1 .0 ∷ h .price2 .0 ∷ h .total .0 ∷ h .shortfall .0 ∷ h .rounds
     ∷ cell line.compensation out 0 ∷ cell line.compensation out 1 ∷ cell line.compensation out 2
     ∷ cell line.paid out 0 ∷ cell line.paid out 1 ∷ cell line.paid out 2 ∷ []
 
@@ -93,8 +93,8 @@ tiedCuts quarter =
 unfoldable pub settledNone : ℕ → List ℕ
 settledNone quarter =
     let s = fileOf quarter 1300 3000 [] in
-    let h = statementHeadAt (bufferAfter s [] (replicate 35 255)) in
-    numberOf (answerOf s [] 35) ∷ valueOf (answerOf s [] 35) ∷ h .quarter ∷ h .uncovered .0 ∷ []
+    let h = statementHeadAt (bufferAfter s [] (replicate 39 255)) in
+    numberOf (answerOf s [] 39) ∷ valueOf (answerOf s [] 39) ∷ h .quarter ∷ h .uncovered .0 ∷ []
 
 -- ---- request 4, penalty money first
 
@@ -102,7 +102,7 @@ settledNone quarter =
 -- what row 2 owes, and what is returned to it
 unfoldable pub settledReduced : ℕ → ℕ → List ℕ
 settledReduced tariff metered =
-    let out = bufferAfter (besideAt tariff 9000 metered 2) [] (replicate 161 255) in
+    let out = bufferAfter (besideAt tariff 9000 metered 2) [] (replicate 165 255) in
     let h = statementHeadAt out in
     h .total .0 ∷ h .shortfall .0 ∷ h .rounds ∷ cell line.cut out 0 ∷ cell line.paid out 1 ∷ cell line.paid out 2
     ∷ cell line.penalty out 1 ∷ cell line.returned out 1 ∷ []
@@ -120,6 +120,21 @@ shortOf kwh =
     fileOf 0 200 10000
     (offering 1 12460 0 105 400 ∷ offering 2 12460 0 105 400 ∷ offering 3 12499 0 105 400 ∷ windRow 4 3
     ∷ offering 5 (10000 + kwh) 2 105 400 ∷ [])
+
+-- ---- request 8, how much work a quarter can take
+
+-- rounds and visits as a file's statement tells them, then the closing round of each line
+unfoldable pub visited : List ℕ → List ℕ
+visited s =
+    let out = bufferAfter s [] (replicate (lineStart (rowCount s)) 255) in
+    let h = statementHeadAt out in
+    h .rounds ∷ h .visits ∷ columnOf line.closing (rowCount s) out
+
+-- interval X with row 2 at 110 percent and another thermal row at 60: payers of 37,500, 5,000 and 2,500 kWh, who owe 75,000, 10,000 and
+-- 5,000 fen in round 1
+abbrev pub threePayers : ℕ → List ℕ
+threePayers tariff =
+    fileOf 0 tariff 3000 (offering 1 9000 0 200 400 ∷ thermalRow 2 27500 ∷ windRow 3 5000 ∷ thermalRow 4 15000 ∷ [])
 
 -- the figures, request by request
 unfoldable pub requestTable : List Entry
@@ -152,7 +167,7 @@ requestTable =
     ∷ entry (sharedAt 3 100 (1 ∷ 1 ∷ 1 ∷ 0 ∷ [])) (34 ∷ 33 ∷ 33 ∷ 0 ∷ [])
     -- one row, and none
     ∷ entry (sharedAt 95 7 (3 ∷ [])) (7 ∷ [])
-    ∷ entry (settledNone 95) (0 ∷ 35 ∷ 95 ∷ 3000 ∷ [])
+    ∷ entry (settledNone 95) (0 ∷ 39 ∷ 95 ∷ 3000 ∷ [])
     -- calls: 50 each and one more; at quarter 5 position 2 is the wind farm's, and row 1 is next
     ∷ entry (tiedCalls 0) (51 ∷ 50 ∷ 0 ∷ [])
     ∷ entry (tiedCalls 1) (50 ∷ 51 ∷ 0 ∷ [])
@@ -199,4 +214,26 @@ requestTable =
     -- a penalty larger by 21 fen leaves 29 to cut in place of 50, and row 3 is cut by a fen more
     ∷ entry (told line.penalty (shortOf 38) ++ told line.cut (shortOf 38)) (0 ∷ 0 ∷ 0 ∷ 0 ∷ 798 ∷ 25 ∷ 25 ∷ 0 ∷ 0 ∷ 0 ∷ [])
     ∷ entry (told line.penalty (shortOf 39) ++ told line.cut (shortOf 39)) (0 ∷ 0 ∷ 0 ∷ 0 ∷ 819 ∷ 14 ∷ 14 ∷ 1 ∷ 0 ∷ 0 ∷ [])
+    -- request 8, how much work a quarter can take. P1 to P5: two payers are looked at; once row 2 has closed, the wind farm again
+    ∷ entry (visited (intervalX 3545)) (0 ∷ 2 ∷ 0 ∷ 0 ∷ 0 ∷ [])
+    ∷ entry (visited (intervalX 1350)) (1 ∷ 3 ∷ 0 ∷ 1 ∷ 0 ∷ [])
+    ∷ entry (visited (intervalX 1300)) (1 ∷ 3 ∷ 0 ∷ 1 ∷ 0 ∷ [])
+    ∷ entry (visited (intervalX 1200)) (2 ∷ 3 ∷ 0 ∷ 1 ∷ 2 ∷ [])
+    ∷ entry (visited (intervalX 1000)) (2 ∷ 3 ∷ 0 ∷ 1 ∷ 2 ∷ [])
+    -- nobody is open: no rows; only a row that receives; and one at half load, which weighs nothing
+    ∷ entry (visited (fileOf 0 1300 3000 [])) (0 ∷ 0 ∷ [])
+    ∷ entry (visited (fileOf 0 1300 3000 (offering 1 9000 0 200 400 ∷ []))) (0 ∷ 0 ∷ 0 ∷ [])
+    ∷ entry (visited (fileOf 0 1300 3000 (offering 1 9000 0 200 400 ∷ thermalRow 2 12500 ∷ []))) (0 ∷ 0 ∷ 0 ∷ 0 ∷ [])
+    -- three payers: nobody ever closes, row 2's cap being 75,006; it closes at 74,937, and two are looked at once more
+    ∷ entry (visited (threePayers 1091)) (0 ∷ 3 ∷ 0 ∷ 0 ∷ 0 ∷ 0 ∷ [])
+    ∷ entry (visited (threePayers 1090)) (1 ∷ 5 ∷ 0 ∷ 1 ∷ 0 ∷ 0 ∷ [])
+    -- each in a round of its own, the last left open or closed as well: 3 + 2 + 1, as many as can be
+    ∷ entry (visited (threePayers 700)) (2 ∷ 6 ∷ 0 ∷ 1 ∷ 2 ∷ 0 ∷ [])
+    ∷ entry (visited (threePayers 600)) (3 ∷ 6 ∷ 0 ∷ 1 ∷ 2 ∷ 3 ∷ [])
+    -- two at once in the second round, two at once in the first, all at once
+    ∷ entry (visited (threePayers 401)) (2 ∷ 5 ∷ 0 ∷ 1 ∷ 2 ∷ 2 ∷ [])
+    ∷ entry (visited (threePayers 400)) (2 ∷ 4 ∷ 0 ∷ 1 ∷ 1 ∷ 2 ∷ [])
+    ∷ entry (visited (threePayers 100)) (1 ∷ 3 ∷ 0 ∷ 1 ∷ 1 ∷ 1 ∷ [])
+    -- nothing is to pay: a cap of 0 is reached all the same, one of a fen is not
+    ∷ entry (visited (fileOf 0 1 0 (windRow 1 199 ∷ windRow 2 200 ∷ []))) (1 ∷ 3 ∷ 1 ∷ 0 ∷ [])
     ∷ []

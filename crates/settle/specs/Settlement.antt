@@ -1,5 +1,5 @@
 -- The rules put together: from columns of duties to the figures of a statement (01, Calls and prices to Rounds; prices by 02,
--- request 1, leftovers by its request 2, penalties by its request 4). Nothing here knows where the columns came from.
+-- request 1, leftovers by its request 2, penalties by its request 4, visits by its request 8). Nothing here knows where the columns came from.
 use Prim.Native.Nat.{ℕ, _%_}
 use mathlib.Core.Bool.{cond}
 use mathlib.Core.List.{List}
@@ -12,7 +12,7 @@ use Rattle.merit.specs.Band.{one, two, Bands}
 use Rattle.merit.specs.Call.{calls, uncovered}
 use Rattle.merit.specs.Price.{price}
 use Rattle.pay.specs.Pay.{compensation, penalty}
-use Rattle.levy.specs.Rounds.{Standing, final, payments, shortfall, cuts, returned}
+use Rattle.levy.specs.Rounds.{Standing, final, visits, payments, shortfall, cuts, returned}
 
 -- the position whose turn comes first among equal remainders: the quarter modulo the n rows of the file, sharers or not. Without
 -- rows there is nothing to divide by, and nobody shares
@@ -44,6 +44,7 @@ pub record Figures : Type 0 where
   pub shortfall : ℕ
   pub rounds : ℕ
   pub uncovered : ℕ
+  pub visits : ℕ
   pub called1 : List ℕ
   pub called2 : List ℕ
   pub compensations : List ℕ
@@ -59,8 +60,8 @@ pub record Figures : Type 0 where
 unfoldable pub levied : List ℕ → List ℕ → List ℕ → Standing
 levied pay ws cs = final (whole pay) ws cs
 
--- calls, prices, compensations, rounds, payments, penalties, cuts and what is returned of a need, by the position that goes first. The
--- shortfall is that before penalties
+-- calls, prices, compensations, rounds, visits, payments, penalties, cuts and what is returned of a need, by the position that goes first.
+-- The shortfall is that before penalties
 unfoldable pub figures : ℕ → ℕ → Duties → Figures
 figures need first d =
     let b = bandsOf d in
@@ -78,6 +79,7 @@ figures need first d =
       shortfall = shortfall st;
       rounds = st .rounds;
       uncovered = uncovered need b;
+      visits = visits (whole pay) (d .weights) (d .caps);
       called1 = c1;
       called2 = c2;
       compensations = pay;

@@ -1,4 +1,4 @@
--- The statement that the figures make (01, The files; 02, request 4).
+-- The statement that the figures make (01, The files; 02, requests 4 and 8).
 use Prim.Native.Nat.{ℕ}
 use mathlib.Core.List.{List, [], _∷_, _++_}
 use Rattle.columns.specs.Table.{at, table}
@@ -21,6 +21,7 @@ statementHead h n f =
       rounds = f .rounds;
       uncovered = record { 0 = f .uncovered };
       rows = n;
+      visits = f .visits;
     }
 
 -- the fields of the line of the row at position i, which has this id

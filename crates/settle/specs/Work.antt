@@ -18,7 +18,7 @@ use Rattle.merit.specs.OneTier.{tierCalls}
 use Rattle.merit.specs.Price.{price}
 use Rattle.pay.specs.Pay.{compensation, penalty}
 use Rattle.levy.specs.Asked.{standingOf}
-use Rattle.levy.specs.Rounds.{Standing, final, payments}
+use Rattle.levy.specs.Rounds.{Standing, final, visits, payments}
 use Rattle.levy.specs.declared.Rest.{Rest}
 use Rattle.levy.specs.declared.Left.{Left}
 use Rattle.share.specs.Share.{shares}
@@ -173,6 +173,7 @@ pub record LeviedOn (n first total : ℕ) (ws cs marks paid : List ℕ) (r : Res
   pub marks-long : length marks ≡ 256
   pub paid-long : length paid ≡ 256
   pub payments : take n paid ≡ payments ws cs (final total ws cs) first
+  pub visits : r .visits ≡ visits total ws cs
 
 -- everybody has paid: payments and closing rounds stand in their fields, and what is left is known
 pub record Levied (n first total : ℕ) (s t : List ℕ) (r : Rest) : Type 0 where
@@ -181,6 +182,7 @@ pub record Levied (n first total : ℕ) (s t : List ℕ) (r : Rest) : Type 0 whe
   pub money : r .money .0 ≡ standingIn total n s .money
   pub weight : r .weight ≡ standingIn total n s .weight
   pub rounds : r .rounds ≡ standingIn total n s .rounds
+  pub visits : r .visits ≡ visits total (columnOf line.weight n s) (columnOf line.cap n s)
 
 -- what is cut, over the compensations, and what is returned, over the penalties
 abbrev pub cutting : Left → Sharing

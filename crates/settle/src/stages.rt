@@ -59,6 +59,7 @@ pub fn write_statement(interval: &[u8], correction: &[u8], n: usize, sheet: &mut
         rounds: rest.rounds,
         uncovered,
         rows,
+        visits: rest.visits,
     };
     put_statement_head(sheet, top);
 }

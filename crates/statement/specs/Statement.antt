@@ -1,4 +1,4 @@
--- Statements in bytes (01, The files; 02, request 4): a head, then a line for each row, each a record by its table of widths.
+-- Statements in bytes (01, The files; 02, requests 4 and 8): a head, then a line for each row, each a record by its table of widths.
 use Prim.Native.Nat.{ℕ, _+_, _*_}
 use mathlib.Core.List.{List, [], _∷_}
 use Rattle.columns.specs.Table.{at}
@@ -12,9 +12,9 @@ letterS = 83
 abbrev pub letterL : ℕ
 letterL = 76
 
--- day, quarter, price of tier 1, of tier 2, total, shortfall, rounds, uncovered, rows
+-- day, quarter, price of tier 1, of tier 2, total, shortfall, rounds, uncovered, rows, visits
 abbrev pub headWidths : List ℕ
-headWidths = 4 ∷ 1 ∷ 2 ∷ 2 ∷ 8 ∷ 8 ∷ 2 ∷ 4 ∷ 2 ∷ []
+headWidths = 4 ∷ 1 ∷ 2 ∷ 2 ∷ 8 ∷ 8 ∷ 2 ∷ 4 ∷ 2 ∷ 4 ∷ []
 
 -- id, called in tier 1, in tier 2, compensation, cut, weight, cap, paid, closing round, penalty, returned
 abbrev pub lineWidths : List ℕ
@@ -33,7 +33,8 @@ lineStart i = headSize + i * lineSize
 -- a head as its fields, and back
 abbrev pub headFields : StatementHead → List ℕ
 headFields h =
-    h .day ∷ h .quarter ∷ h .price1 .0 ∷ h .price2 .0 ∷ h .total .0 ∷ h .shortfall .0 ∷ h .rounds ∷ h .uncovered .0 ∷ h .rows ∷ []
+    h .day ∷ h .quarter ∷ h .price1 .0 ∷ h .price2 .0 ∷ h .total .0 ∷ h .shortfall .0 ∷ h .rounds ∷ h .uncovered .0 ∷ h .rows
+    ∷ h .visits ∷ []
 
 abbrev pub headOf : List ℕ → StatementHead
 headOf xs =
@@ -47,6 +48,7 @@ headOf xs =
       rounds = at xs 6;
       uncovered = record { 0 = at xs 7 };
       rows = at xs 8;
+      visits = at xs 9;
     }
 
 unfoldable pub statementHeadBytes : StatementHead → List ℕ

@@ -1,4 +1,4 @@
-// Statements in bytes (01, The files; 02, request 4): a head and a line for each row, each a record by its table of widths. A line is its list of fields,
+// Statements in bytes (01, The files; 02, requests 4 and 8): a head and a line for each row, each a record by its table of widths. A line is its list of fields,
 // and a field of all lines is a column.
 use records::Field;
 use records::get_record;
@@ -23,14 +23,15 @@ pub struct StatementHead {
     pub rounds: u16,
     pub uncovered: Kwh,
     pub rows: u16,
+    pub visits: u32,
 }
 
 // The widths of a head's fields and of a line's, and how many bytes each takes with its mark.
-pub const HEAD_WIDTHS: [u8; 9] = [4, 1, 2, 2, 8, 8, 2, 4, 2];
+pub const HEAD_WIDTHS: [u8; 10] = [4, 1, 2, 2, 8, 8, 2, 4, 2, 4];
 
 pub const LINE_WIDTHS: [u8; 11] = [2, 4, 4, 4, 4, 4, 4, 4, 2, 4, 4];
 
-pub const HEAD: usize = 35;
+pub const HEAD: usize = 39;
 
 pub const LINE: usize = 42;
 
@@ -120,7 +121,7 @@ pub fn statement_head_at(s: &[u8]) -> StatementHead
     requires { ⌜ headSize ≤ length (now s) ⌝ }
     ensures { λ r. ⌜ r ≡ statementHeadAt (now (s .entry)) ⌝ }
 {
-    let mut x = [0u64; 9];
+    let mut x = [0u64; 10];
     get_record(s, 0, &HEAD_WIDTHS, &mut x);
     StatementHead {
         day: x[0] as u32,
@@ -132,6 +133,7 @@ pub fn statement_head_at(s: &[u8]) -> StatementHead
         rounds: x[6] as u16,
         uncovered: Kwh(x[7] as u32),
         rows: x[8] as u16,
+        visits: x[9] as u32,
     }
 }
 
@@ -150,6 +152,7 @@ pub fn put_statement_head(out: &mut [u8], h: StatementHead)
         h.rounds as u64,
         h.uncovered.0 as u64,
         h.rows as u64,
+        h.visits as u64,
     ];
     put_record(out, 0, b'S', &HEAD_WIDTHS, &fields);
 }

@@ -6,7 +6,7 @@
 --   refusal-placed                  the word, the number and the place are the refusal's text
 --   told-settled, told-refused      what the engine answers decides which of the two `tell` prints
 --   settled-placed, refused-placed  the same of what it answered, and of the buffer that it was lent
---   told-rows                       a settlement has as many lines of text behind the head's as that one's last number says
+--   told-rows                       a settlement has as many lines of text behind the head's as that one says there are rows
 use mathlib.Core.Path.{_≡_, refl, sym, ap, _∙_}
 use mathlib.Core.List.{List, [], _∷_, _++_}
 use Prim.Native.Nat.{ℕ, _+_, _*_, _≤_}

@@ -20,7 +20,7 @@ use Rattle.duties.specs.Duty.{width1, width2, energy1, energy2, credit1, credit
 use Rattle.duties.specs.Duties.{dutiesOf}
 use Rattle.merit.specs.Call.{cheaperIn, cheaper, group, due, called, calls, uncovered}
 use Rattle.merit.specs.Price.{price}
-use Rattle.levy.specs.Rounds.{closes, closed, next, run, opening, final, openWeights, paid, payments, shortfall, cuts, returned}
+use Rattle.levy.specs.Rounds.{opens, closes, closed, next, run, opening, final, visitsFrom, visits, openWeights, paid, payments, shortfall, cuts, returned}
 use Rattle.statement.specs.Statement.{statementHeadBytes}
 use Rattle.settle.specs.Settlement.{firstTurn, compensationsOf, penaltiesOf, levied, figures}
 use Rattle.settle.specs.Statement.{statementHead, statementBytes}
@@ -29,7 +29,7 @@ use Rattle.settle.specs.Table.{intervalX}
 use Rattle.telling.specs.Text.{decimalIn, textTo, linesTo, statementText, refusedText, toldText, tellText}
 
 pub shown-statement : tellText (intervalX 1300)
-    ≡ 48 ∷ 32 ∷ 48 ∷ 32 ∷ 50 ∷ 48 ∷ 48 ∷ 32 ∷ 52 ∷ 48 ∷ 48 ∷ 32 ∷ 57 ∷ 48 ∷ 48 ∷ 48 ∷ 48 ∷ 32 ∷ 48 ∷ 32 ∷ 49 ∷ 32 ∷ 48 ∷ 32 ∷ 51 ∷ 10
+    ≡ 48 ∷ 32 ∷ 48 ∷ 32 ∷ 50 ∷ 48 ∷ 48 ∷ 32 ∷ 52 ∷ 48 ∷ 48 ∷ 32 ∷ 57 ∷ 48 ∷ 48 ∷ 48 ∷ 48 ∷ 32 ∷ 48 ∷ 32 ∷ 49 ∷ 32 ∷ 48 ∷ 32 ∷ 51 ∷ 32 ∷ 51 ∷ 10
     ∷ 49 ∷ 32 ∷ 50 ∷ 53 ∷ 48 ∷ 48 ∷ 32 ∷ 53 ∷ 48 ∷ 48 ∷ 32 ∷ 57 ∷ 48 ∷ 48 ∷ 48 ∷ 48 ∷ 32 ∷ 48 ∷ 32 ∷ 48 ∷ 32 ∷ 48 ∷ 32 ∷ 48 ∷ 32 ∷ 48 ∷ 32 ∷ 48 ∷ 32 ∷ 48 ∷ 10
     ∷ 50 ∷ 32 ∷ 48 ∷ 32 ∷ 48 ∷ 32 ∷ 48 ∷ 32 ∷ 48 ∷ 32 ∷ 49 ∷ 53 ∷ 48 ∷ 48 ∷ 48 ∷ 32 ∷ 54 ∷ 53 ∷ 48 ∷ 48 ∷ 48 ∷ 32 ∷ 54 ∷ 53 ∷ 48 ∷ 48 ∷ 48 ∷ 32 ∷ 49 ∷ 32 ∷ 48 ∷ 32 ∷ 48 ∷ 10
     ∷ 51 ∷ 32 ∷ 48 ∷ 32 ∷ 48 ∷ 32 ∷ 48 ∷ 32 ∷ 48 ∷ 32 ∷ 53 ∷ 48 ∷ 48 ∷ 48 ∷ 32 ∷ 51 ∷ 50 ∷ 53 ∷ 48 ∷ 48 ∷ 32 ∷ 50 ∷ 53 ∷ 48 ∷ 48 ∷ 48 ∷ 32 ∷ 48 ∷ 32 ∷ 48 ∷ 32 ∷ 48 ∷ 10 ∷ []
@@ -38,7 +38,7 @@ unfolding sumTo countTo maxTo maxWhere findTo whole table numberAt numberBytes f
     firstRefusal rowByRow previous headAt rowAt correctionHeadAt headTests headOk statusOk idleTests notOffering offerTests offering rowTests rowOk
     headChecks rowChecks rowChecksAt rowChecksOf intervalOrder fileOrder termsOf hasId findId countingRow
     width1 width2 energy1 energy2 credit1 credit2 payer weight cap dutiesOf cheaperIn cheaper group due called calls uncovered price
-    closes closed next run opening final openWeights paid payments shortfall cuts returned firstTurn compensationsOf penaltiesOf levied figures
+    opens closes closed next run opening final visitsFrom visits openWeights paid payments shortfall cuts returned firstTurn compensationsOf penaltiesOf levied figures
     statementHeadBytes statementHead statementBytes dutiesIn figuresOf statementOf settleOrder answerOf intervalX
     decimalIn textTo linesTo statementText toldText tellText
 shown-statement = refl

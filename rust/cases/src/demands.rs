@@ -54,6 +54,7 @@ pub fn check(statement: &[u8]) -> Result<(), String> {
     penalties(&lines, clearing)?;
     books(&lines)?;
     numbering(&lines, rounds)?;
+    visits(&lines, rounds, number(&head[35..39]))?;
     penalty_money_first(&lines, shortfall)?;
     let (closed, open): (Vec<&Line>, Vec<&Line>) =
         lines.iter().filter(|line| line.weight > 0).partition(|line| line.closing > 0);
@@ -144,6 +145,15 @@ fn numbering(lines: &[Line], rounds: u128) -> Result<(), String> {
     demand(lines.iter().all(|line| line.weight > 0 || line.closing == 0), "only payers of weight above 0 close")?;
     let somebody = (1..=rounds).all(|round| lines.iter().any(|line| line.closing == round));
     demand(somebody, "somebody closes in every round")
+}
+
+/// A payer is visited in every round up to the one in which it closes; one that never closes, also in the quiet round at the end.
+fn visits(lines: &[Line], rounds: u128, visits: u128) -> Result<(), String> {
+    let looks = |line: &Line| if line.closing > 0 { line.closing } else { rounds + 1 };
+    let each: Vec<u128> = lines.iter().filter(|line| line.weight > 0).map(looks).collect();
+    let payers = each.len() as u128;
+    demand(visits == each.iter().sum(), "the visits are those that the closing rounds tell")?;
+    demand(visits <= payers * (payers + 1) / 2, "m payers of weight above 0 are visited at most m(m + 1)/2 times")
 }
 
 /// The rate is `rest` for the sum of the open weights; every open and every capped payer is checked against it.

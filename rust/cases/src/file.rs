@@ -3,7 +3,7 @@
 pub const INTERVAL_HEAD: usize = 15;
 pub const CORRECTION_HEAD: usize = 9;
 pub const ROW: usize = 21;
-pub const STATEMENT_HEAD: usize = 35;
+pub const STATEMENT_HEAD: usize = 39;
 pub const LINE: usize = 42;
 
 pub const THERMAL: u8 = 1;

@@ -51,6 +51,13 @@ pub struct Ladder {
     pub closing: Vec<u16>,
 }
 
+impl Ladder {
+    /// Everybody closes, so each payer is visited as many times as its closing round says.
+    pub fn visits(&self) -> u32 {
+        self.closing.iter().copied().map(u32::from).sum()
+    }
+}
+
 /// An interval of so many closing rounds, its rows in a drawn order.
 pub fn ladder(random: &mut Random, rounds: usize) -> Ladder {
     let mut total = 0;
@@ -78,9 +85,10 @@ pub fn filled(mut interval: Interval, rows: usize) -> Interval {
     interval
 }
 
-/// What a statement says: the rounds, and each line's closing round.
-pub fn told(statement: &[u8]) -> (u16, Vec<u16>) {
+/// What a statement says: the rounds, the visits, and each line's closing round.
+pub fn told(statement: &[u8]) -> (u16, u32, Vec<u16>) {
     let number = |bytes: &[u8], at: usize| u16::from_le_bytes([bytes[at], bytes[at + 1]]);
     let (head, lines) = statement.split_at(STATEMENT_HEAD);
-    (number(head, 27), lines.chunks_exact(LINE).map(|line| number(line, 32)).collect())
+    let visits = u32::from(number(head, 35)) | u32::from(number(head, 37)) << 16;
+    (number(head, 27), visits, lines.chunks_exact(LINE).map(|line| number(line, 32)).collect())
 }

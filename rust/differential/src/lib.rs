@@ -39,6 +39,10 @@ pub struct Tally {
     pub filled: u64,
     pub still_cut: u64,
     pub returned: u64,
+    /// Settlements in which a payer is looked at again after another has closed.
+    pub revisited: u64,
+    /// Settlements of two payers or more with as many visits as so many can take.
+    pub at_bound: u64,
     /// Settlements whose calls, payments, cuts and returned penalties are others than by the lower id.
     pub turned: [u64; 4],
 }
@@ -58,6 +62,8 @@ impl Tally {
         self.filled += other.filled;
         self.still_cut += other.still_cut;
         self.returned += other.returned;
+        self.revisited += other.revisited;
+        self.at_bound += other.at_bound;
         self.turned.iter_mut().zip(other.turned).for_each(|(sum, more)| *sum += more);
     }
 }
@@ -87,6 +93,7 @@ pub fn trial(seed: u64, number: u64, tally: &mut Tally) -> Result<(), String> {
             tally.settled += 1;
             tally.outbid += u64::from(outbid(&case.interval, statement)?);
             count_penalties(statement, tally);
+            count_visits(statement, tally);
             tally.turned.iter_mut().zip(turned(&case, statement)).for_each(|(sum, is)| *sum += u64::from(is));
         }
         Err((number, _)) => tally.refused[usize::from(number)] += 1,
@@ -127,6 +134,14 @@ fn count_penalties(statement: &[u8], tally: &mut Tally) {
     tally.filled += u64::from(shortfall > 0);
     tally.still_cut += u64::from(wheatrudder::lines(statement).any(|line| line.cut > 0));
     tally.returned += u64::from(wheatrudder::lines(statement).any(|line| line.returned > 0));
+}
+
+/// Puts the visits of a settlement into the tally.
+fn count_visits(statement: &[u8], tally: &mut Tally) {
+    let visits = wheatrudder::head(statement).expect("a statement has a head").visits;
+    let payers = wheatrudder::lines(statement).filter(|line| line.weight > 0).count() as u32;
+    tally.revisited += u64::from(visits > payers);
+    tally.at_bound += u64::from(payers >= 2 && visits == payers * (payers + 1) / 2);
 }
 
 /// Whether calls, payments, cuts and returned penalties are others than at quarter 0, where leftovers go to the lower id as before

@@ -39,6 +39,7 @@ fn enough(tally: &Tally) {
     assert!(tally.outbid > tally.settled / 5);
     assert!(tally.penalised > tally.settled / 8 && tally.filled > tally.settled / 10);
     assert!(tally.still_cut > tally.settled / 20 && tally.returned > tally.settled / 20);
+    assert!(tally.revisited > tally.settled / 10 && tally.at_bound > 0);
     assert!(tally.turned.iter().all(|&count| count > tally.settled / 40));
 }
 
@@ -99,13 +100,14 @@ fn ladders_close_one_group_in_each_round() {
     for rounds in ladder::FEWEST..=ladder::MOST {
         let due = ladder(&mut random, rounds);
         let name = format!("{rounds} rounds of seed {seed}");
-        let buffer = due.interval.statement_length();
+        let (buffer, visits) = (due.interval.statement_length(), due.visits());
         let alone = Case { name: name.clone(), interval: due.interval.bytes(), correction: Vec::new(), buffer };
         let (spoilt, correction) = accepted::spoil(&mut random, due.interval);
         let pair = Case { name, interval: spoilt.bytes(), correction: correction.bytes(), buffer };
         for case in [alone, pair] {
             let outcome = same(&case, "settle", settle, reference::settle).unwrap_or_else(|what| panic!("{what}"));
-            assert_eq!(ladder::told(&outcome.buffer), (rounds as u16, due.closing.clone()), "{}", case.name);
+            let told = (rounds as u16, visits, due.closing.clone());
+            assert_eq!(ladder::told(&outcome.buffer), told, "{}", case.name);
             assert_eq!(demands::check(&outcome.buffer), Ok(()), "{}", case.name);
         }
     }
@@ -124,7 +126,7 @@ fn figures_are_read_from_a_statement() {
     let mut statement = vec![0; interval.statement_length()];
     let length = wheatrudder::settle(&interval.bytes(), &[], &mut statement).expect("accepted");
     let head = wheatrudder::head(&statement[..length]).expect("a head");
-    assert_eq!((head.total, head.shortfall, head.rounds, head.rows), (90_000, 0, 1, 3));
+    assert_eq!((head.total, head.shortfall, head.rounds, head.rows, head.visits), (90_000, 0, 1, 3, 3));
     let paid: Vec<(u16, u32)> = wheatrudder::lines(&statement).map(|line| (line.id, line.paid)).collect();
     assert_eq!(paid, [(1, 0), (2, 65_000), (3, 25_000)]);
 }
@@ -140,6 +142,21 @@ fn a_penalty_fills_the_shortfall_and_the_rest_is_returned() {
     let figures: Vec<[u32; 3]> =
         wheatrudder::lines(&statement).map(|line| [line.cut, line.penalty, line.returned]).collect();
     assert_eq!(figures, [[0, 0, 0], [0, 80_000, 22_500], [0, 0, 0]]);
+}
+
+#[test]
+fn open_payers_are_visited_in_every_round() {
+    // Three payers of whom none, one, two and three close; then two of them in round 2, two in round 1, and all at once.
+    let figures = [(1091, 0, 3), (1090, 1, 5), (700, 2, 6), (600, 3, 6), (401, 2, 5), (400, 2, 4), (100, 1, 3)];
+    for (tariff, rounds, visits) in figures {
+        let mut interval = Interval::x(tariff);
+        interval.rows[1].metered = 27_500;
+        interval.rows.push(Row::thermal(4, 100, 15_000));
+        let mut statement = vec![0; interval.statement_length()];
+        wheatrudder::settle(&interval.bytes(), &[], &mut statement).expect("accepted");
+        let head = wheatrudder::head(&statement).expect("a head");
+        assert_eq!((head.rounds, head.visits), (rounds, visits), "tariff {tariff}");
+    }
 }
 
 #[test]

@@ -194,6 +194,11 @@ fn rounds() -> Vec<Case> {
         ];
         Interval::new(tariff, 3_000, rows)
     };
+    // Three payers, of whom none, one, two and three close, each in a round of its own, two of them in one, and all in one.
+    let three = [Row::thermal(2, 100, 27_500), Row::wind(3, 100, 5_000), Row::thermal(4, 100, 15_000)];
+    for tariff in [1_091, 1_090, 700, 600, 401, 400, 100] {
+        cases.push(case(format!("three payers at tariff {tariff}"), &paying(tariff, &three)));
+    }
     let thirds = Interval { need: 2_500, ..paying(200, &equal.map(|row| Row { metered: 16_667, ..row })[..3]) };
     let a_hundred_and_one = |tariff| {
         let mut interval = Interval { need: 1, ..paying(tariff, &equal) };
@@ -222,6 +227,13 @@ fn rounds() -> Vec<Case> {
         case(
             "a cap of 1 stays open where nothing is due",
             &Interval { need: 0, ..paying(1, &[Row::wind(2, 100, 200)]) },
+        ),
+        case(
+            "caps of 0, 0 and 1 where nothing is due",
+            &Interval {
+                need: 0,
+                ..paying(1, &[(2, 199), (3, 199), (4, 200)].map(|(id, kwh)| Row::wind(id, 100, kwh)))
+            },
         ),
         case("a cap of 0 beside an open payer", &paying(199, &[Row::wind(2, 1, 1), Row::wind(3, 2_000, 550_000)])),
         case(

@@ -80,9 +80,16 @@ fn a_ladder_closes_one_group_in_each_round() {
         let due = ladder(&mut random, rounds);
         let mut statement = vec![0; due.interval.statement_length()];
         reference::settle(&due.interval.bytes(), &[], &mut statement).expect("accepted");
-        assert_eq!(ladder::told(&statement), (rounds as u16, due.closing), "seed {seed}");
+        assert_eq!(ladder::told(&statement), (rounds as u16, due.visits(), due.closing), "seed {seed}");
         assert_eq!(demands::check(&statement), Ok(()), "{rounds} rounds of seed {seed}");
     }
+}
+
+#[test]
+fn the_longest_ladder_takes_1960_visits() {
+    let due = ladder(&mut Random::from_seed(1), ladder::MOST);
+    // Rows alike times the round in which they close, over the 27 groups.
+    assert_eq!((due.closing.iter().filter(|&&round| round > 0).count(), due.visits()), (185, 1_960));
 }
 
 #[test]
@@ -178,12 +185,12 @@ fn a_changed_figure_fails_the_demands() {
         let case = accepted::case(&mut random);
         let outcome = run(&case, seed);
         let statement = &outcome.buffer[..outcome.answer.expect("accepted")];
-        // Total, shortfall and rounds in the head; compensation, cut, paid, penalty and returned in a line.
-        let mut places = vec![11, 19, 27];
+        // Total, shortfall, rounds and visits in the head; compensation, cut, paid, closing round, penalty and returned in a line.
+        let mut places = vec![11, 19, 27, 35];
         let rows = (statement.len() - STATEMENT_HEAD) / LINE;
         if rows > 0 {
             let line = STATEMENT_HEAD + LINE * random.below(rows);
-            places.extend([12, 16, 28, 34, 38].map(|field| line + field));
+            places.extend([12, 16, 28, 32, 34, 38].map(|field| line + field));
         }
         for place in places {
             let mut changed = statement.to_vec();

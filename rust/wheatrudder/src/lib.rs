@@ -2,7 +2,7 @@
 //!
 //! ```
 //! let interval = include_bytes!(concat!(env!("CARGO_MANIFEST_DIR"), "/../../examples/x.interval"));
-//! let mut statement = [0; 10_787]; // room for 256 rows
+//! let mut statement = [0; 10_791]; // room for 256 rows
 //! let length = wheatrudder::settle(interval, &[], &mut statement).expect("accepted");
 //! let head = wheatrudder::head(&statement[..length]).expect("a statement");
 //! assert_eq!((head.total, head.shortfall), (90_000, 0));

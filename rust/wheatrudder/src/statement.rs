@@ -1,6 +1,6 @@
 //! A statement's bytes as figures: money in fen, energy in kWh, prices in li for each kWh.
 
-pub const STATEMENT_HEAD: usize = 35;
+pub const STATEMENT_HEAD: usize = 39;
 pub const LINE: usize = 42;
 
 #[derive(Clone, Copy, Debug, PartialEq, Eq)]
@@ -21,6 +21,9 @@ pub struct Head {
     pub uncovered: u32,
     /// How many lines follow.
     pub rows: u16,
+    /// Payer visits: in each round one for each payer of weight above 0 that has not reached its cap in an earlier one, also in the
+    /// last round, in which nobody does. With m payers of weight above 0 at most m(m + 1)/2.
+    pub visits: u32,
 }
 
 #[derive(Clone, Copy, Debug, PartialEq, Eq)]
@@ -72,6 +75,7 @@ pub fn head(statement: &[u8]) -> Option<Head> {
         rounds: u16_at(statement, 27),
         uncovered: u32_at(statement, 29),
         rows: u16_at(statement, 33),
+        visits: u32_at(statement, 35),
     })
 }
 
@@ -108,8 +112,9 @@ mod tests {
     }
 
     fn statement() -> Vec<u8> {
-        let widths = [4, 1, 2, 2, 8, 8, 2, 4, 2];
-        let fields = [0x1020_3040, 95, 320, 750, 0x0102_0304_0506_0708, 0x1112_1314_1516_1718, 27, 0x2122_2324, 2];
+        let widths = [4, 1, 2, 2, 8, 8, 2, 4, 2, 4];
+        let fields =
+            [0x1020_3040, 95, 320, 750, 0x0102_0304_0506_0708, 0x1112_1314_1516_1718, 27, 0x2122_2324, 2, 0xa1a2_a3a4];
         let mut bytes = record(b"PS", &fields.into_iter().zip(widths).collect::<Vec<_>>());
         for id in [7, 0x0908] {
             let widths = [2, 4, 4, 4, 4, 4, 4, 4, 2, 4, 4];
@@ -131,6 +136,7 @@ mod tests {
             rounds: 27,
             uncovered: 0x2122_2324,
             rows: 2,
+            visits: 0xa1a2_a3a4,
         };
         assert_eq!(head(&statement()), Some(due));
         let line = |id| Line {

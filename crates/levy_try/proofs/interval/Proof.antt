@@ -17,7 +17,7 @@ array-write-caps-2 : tie.Need-array-write-caps-2
 array-write-caps-2 c = search needs
 
 shown-requires : tie.Need-shown-requires
-shown-requires c κs = fit-x _ _ _ _ _ _ (c .before .before .pre)
+shown-requires c κs = fit-x _ _ _ _ _ _ _ (c .before .before .pre)
 
 array-read-expect : tie.Need-array-read-expect
 array-read-expect c = search needs
@@ -35,13 +35,19 @@ array-read-expect-3 : tie.Need-array-read-expect-3
 array-read-expect-3 c = search needs
 
 expect-requires-3 : tie.Need-expect-requires-3
-expect-requires-3 c κs = let s = c .before .before in paid-at 1 _ _ _ _ (s .shown .ensures .1) (s .before .before .before .pre .made)
+expect-requires-3 c κs = let s = c .before .before in got-at 2 _ _ _ (s .shown .ensures .0) (s .before .before .before .pre .told)
 
 array-read-expect-4 : tie.Need-array-read-expect-4
 array-read-expect-4 c = search needs
 
 expect-requires-4 : tie.Need-expect-requires-4
-expect-requires-4 c κs = let s = c .before .before .before in paid-at 2 _ _ _ _ (s .shown .ensures .1) (s .before .before .before .pre .made)
+expect-requires-4 c κs = let s = c .before .before .before in paid-at 1 _ _ _ _ (s .shown .ensures .1) (s .before .before .before .pre .made)
+
+array-read-expect-5 : tie.Need-array-read-expect-5
+array-read-expect-5 c = search needs
+
+expect-requires-5 : tie.Need-expect-requires-5
+expect-requires-5 c κs = let s = c .before .before .before .before in paid-at 2 _ _ _ _ (s .shown .ensures .1) (s .before .before .before .pre .made)
 
 returns : tie.Need-returns
 returns c = search needs
@@ -63,4 +69,6 @@ interval-spec =
     expect-requires-3
     array-read-expect-4
     expect-requires-4
+    array-read-expect-5
+    expect-requires-5
     returns)

@@ -49,7 +49,13 @@ array-read-expect-2 : tie.Need-array-read-expect-2
 array-read-expect-2 c = search needs
 
 expect-requires-2 : tie.Need-expect-requires-2
-expect-requires-2 c κs = paid-at 2 _ _ _ _ (c .before .shown .ensures .1) four-paid
+expect-requires-2 c κs = got-at 1 _ _ _ (c .before .shown .ensures .0) four
+
+array-read-expect-3 : tie.Need-array-read-expect-3
+array-read-expect-3 c = search needs
+
+expect-requires-3 : tie.Need-expect-requires-3
+expect-requires-3 c κs = paid-at 2 _ _ _ _ (c .before .before .shown .ensures .1) four-paid
 
 returns : tie.Need-returns
 returns c = search needs
@@ -73,4 +79,6 @@ many-spec =
     expect-requires
     array-read-expect-2
     expect-requires-2
+    array-read-expect-3
+    expect-requires-3
     returns)

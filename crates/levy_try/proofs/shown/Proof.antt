@@ -16,23 +16,17 @@ shortfall-requires c κs = search needs
 payments-requires : tie.Need-payments-requires
 payments-requires c κs = search pay-asked
 
-cast-show : tie.Need-cast-show
-cast-show c = search needs
+cast-t15 : tie.Need-cast-t15
+cast-t15 c = search needs
 
-show-requires : tie.Need-show-requires
-show-requires c κs = search needs
+cast-t16 : tie.Need-cast-t16
+cast-t16 c = search needs
 
-show-requires-2 : tie.Need-show-requires-2
-show-requires-2 c κs = search needs
-
-end-line-requires : tie.Need-end-line-requires
-end-line-requires c κs = search needs
+show-outcome-requires : tie.Need-show-outcome-requires
+show-outcome-requires c κs = search needs
 
 show-line-requires : tie.Need-show-line-requires
 show-line-requires c κs = search needs
-
-cast-t14 : tie.Need-cast-t14
-cast-t14 c = search needs
 
 returns : tie.Need-returns
 returns c = (search told, search made)
@@ -45,10 +39,8 @@ shown-spec =
     rounds-requires
     shortfall-requires
     payments-requires
-    cast-show
-    show-requires
-    show-requires-2
-    end-line-requires
+    cast-t15
+    cast-t16
+    show-outcome-requires
     show-line-requires
-    cast-t14
     returns)

@@ -19,6 +19,9 @@ cast-t8 c = search needs
 cast-t9 : tie.Need-cast-t9
 cast-t9 c = search needs
 
+cast-t10 : tie.Need-cast-t10
+cast-t10 c = search (needs, c .struct-known6 .given)
+
 slice-aggregate-put-record : tie.Need-slice-aggregate-put-record
 slice-aggregate-put-record c = search needs
 
@@ -44,6 +47,7 @@ put-statement-head-spec =
     cast-t7
     cast-t8
     cast-t9
+    cast-t10
     slice-aggregate-put-record
     slice-aggregate-put-record-2
     put-record-requires

@@ -56,6 +56,12 @@ array-read-t44 c = search needs
 cast-t45 : tie.Need-cast-t45
 cast-t45 c = search needs
 
+array-read-t48 : tie.Need-array-read-t48
+array-read-t48 c = search needs
+
+cast-t49 : tie.Need-cast-t49
+cast-t49 c = search needs
+
 returns : tie.Need-returns
 unfolding statementHeadAt
 returns c = ap headOf (c .before .get-record .ensures .0)
@@ -81,4 +87,6 @@ statement-head-at-spec =
     cast-t40
     array-read-t44
     cast-t45
+    array-read-t48
+    cast-t49
     returns)

@@ -39,6 +39,7 @@ fn main() {
     println!("called bids above the price in {}", tally.outbid);
     println!("penalties in {}, a shortfall that they fill in {}", tally.penalised, tally.filled);
     println!("somebody cut all the same in {}, something returned in {}", tally.still_cut, tally.returned);
+    println!("payers visited again in {}, as many visits as there can be in {}", tally.revisited, tally.at_bound);
     println!("others than by the lower id: calls, payments, cuts, returned penalties in {:?}", tally.turned);
     println!("rows copied {}, files rewritten {}", tally.rows_copied, tally.rewritten);
 }

@@ -1,7 +1,7 @@
--- `levy::rounds` meets its contract: the walk starts where the definition starts, with nobody closed.
+-- `levy::rounds` meets its contract: the walk starts where the definition starts, with nobody closed, and visits are told by where it ends.
 use borrow.Author.Needs.{needs}
 use Rattle.columns.proofs.Table.{front-long}
-use Rattle.levy.proofs.Again.{weights-few, rounds-begin, rounds-end}
+use Rattle.levy.proofs.Again.{weights-few, rounds-begin, visits-asked, rounds-end}
 use Rattle.levy.proofs.closing.rounds.Statement.{statement}
 use Rattle.levy.proofs.closing.rounds.Tie as tie
 
@@ -14,17 +14,26 @@ total-of-requires c κs = search weights-few
 redistribute-requires : tie.Need-redistribute-requires
 redistribute-requires c κs = search rounds-begin
 
-array-read-t17 : tie.Need-array-read-t17
-array-read-t17 c = search needs
+array-read-count-visits : tie.Need-array-read-count-visits
+array-read-count-visits c = search needs
 
-array-read-t21 : tie.Need-array-read-t21
-array-read-t21 c = search needs
+cast-count-visits : tie.Need-cast-count-visits
+cast-count-visits c = search needs
 
-array-read-t24 : tie.Need-array-read-t24
-array-read-t24 c = search needs
+count-visits-requires : tie.Need-count-visits-requires
+count-visits-requires c κs = search visits-asked
 
-cast-t25 : tie.Need-cast-t25
-cast-t25 c = search needs
+array-read-t18 : tie.Need-array-read-t18
+array-read-t18 c = search needs
+
+array-read-t26 : tie.Need-array-read-t26
+array-read-t26 c = search needs
+
+array-read-t29 : tie.Need-array-read-t29
+array-read-t29 c = search needs
+
+cast-t30 : tie.Need-cast-t30
+cast-t30 c = search needs
 
 returns : tie.Need-returns
 returns c = search rounds-end
@@ -36,8 +45,11 @@ rounds-spec =
     slice-aggregate-total-of
     total-of-requires
     redistribute-requires
-    array-read-t17
-    array-read-t21
-    array-read-t24
-    cast-t25
+    array-read-count-visits
+    cast-count-visits
+    count-visits-requires
+    array-read-t18
+    array-read-t26
+    array-read-t29
+    cast-t30
     returns)

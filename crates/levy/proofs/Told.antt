@@ -1,0 +1,77 @@
+-- The loop that counts visits by the closing rounds: what holds after i of the n positions, in the words of the arrays that the code holds.
+--     weightless, still-open, has-closed     one position
+--     Told                    the loop's invariant
+--     told-none, told-on      before the first position, one position more
+--     told-fits               the sum fits
+--     told-end                after the last one it is `visitsTold`
+use Prim.Native.Nat.{ℕ, _+_, _^_, _≤_, _<_}
+use mathlib.Core.Path.{_≡_, refl, ap, sym, _∙_}
+use mathlib.Core.Bool.{Bool, true, false, cond}
+use mathlib.Core.List.{List}
+use native.Mathlib.Omega.{arith}
+use lib.Dec.{ltb, eqb}
+use lib.ListN.{length, take}
+use lib.Seq.{getD-take, length-take-le}
+use borrow.Author.Tests.{lt-ltb, le-ltb, eq-eqb, ne-eqb}
+use Rattle.columns.specs.Sum.{sumTo}
+use Rattle.columns.specs.Table.{at}
+use Rattle.columns.proofs.Sum.{sum-next, sum-bound}
+use Rattle.levy.specs.Rounds.{visitsAt, visitsTold}
+use Rattle.levy.specs.Asked.{Countable}
+
+pub weightless : (w a : ℕ) → w ≡ 0 → 0 ≡ cond (ltb 0 w) a 0
+weightless w a e = rw (le-ltb 0 w (omega arith))
+
+pub still-open : (w m a : ℕ) → (w ≡ 0 → ⊥) → m ≡ 0 → a ≡ cond (ltb 0 w) (cond (eqb m 0) a m) 0
+still-open w m a some e = rw (lt-ltb 0 w (omega arith), eq-eqb m 0 e)
+
+pub has-closed : (w m a : ℕ) → (w ≡ 0 → ⊥) → (m ≡ 0 → ⊥) → m ≡ cond (ltb 0 w) (cond (eqb m 0) a m) 0
+has-closed w m a some up = rw (lt-ltb 0 w (omega arith), ne-eqb m 0 up)
+
+pub record Told (n : ℕ) (weights marks : List ℕ) (rounds visits i : ℕ) : Type 0 where
+  pub within : i ≤ n
+  pub is : visits ≡ sumTo i (visitsAt (take n weights) (take n marks) rounds)
+
+module _ (n : ℕ) (weights marks : List ℕ) (rounds : ℕ) (asked : Countable n weights marks rounds) where
+  pub told-none : Told n weights marks rounds 0 0
+  told-none = record { within = omega arith; is = unfold sumTo in refl }
+
+  each-few : (i : ℕ) → visitsAt (take n weights) (take n marks) rounds i ≤ 257
+  unfolding visitsAt
+  each-few i = each (ltb 0 (at (take n weights) i)) (eqb (at (take n marks) i) 0) (at (take n marks) i) (asked .marks-le i)
+    where
+      each : (s t : Bool) (m : ℕ) → m ≤ rounds → cond s (cond t (rounds + 1) m) 0 ≤ 257
+      each true true m l = omega (arith, asked .early)
+      each true false m l = omega (arith, asked .early)
+      each false t m l = omega arith
+
+  module _ (visits i : ℕ) (told : Told n weights marks rounds visits i) where
+    module _ (l : i < n) (v : ℕ) (is : v ≡ cond (ltb 0 (at weights i)) (cond (eqb (at marks i) 0) (rounds + 1) (at marks i)) 0) where
+      v-is : v ≡ visitsAt (take n weights) (take n marks) rounds i
+      unfolding visitsAt
+      v-is = rw (getD-take n weights i 0 l, getD-take n marks i 0 l) is
+
+      pub told-fits : visits + v < 2 ^ 32
+      told-fits =
+          omega (
+            arith,
+            told .is,
+            told .within,
+            asked .few,
+            v-is,
+            each-few i,
+            sum-bound i 257 (visitsAt (take n weights) (take n marks) rounds) (λ k _. each-few k),
+          )
+
+      pub told-on : Told n weights marks rounds (visits + v) (i + 1)
+      told-on =
+          record {
+            within = omega arith;
+            is = omega (arith, told .is, v-is, sum-next i (visitsAt (take n weights) (take n marks) rounds));
+          }
+
+    pub told-end : n ≤ i → visits ≡ visitsTold (take n weights) (take n marks) rounds
+    unfolding visitsTold
+    told-end q =
+        let e : i ≡ length (take n weights) = omega (arith, told .within, length-take-le n weights (omega (arith, asked .few, asked .weights-long))) in
+        told .is ∙ ap (λ (m : ℕ). sumTo m (visitsAt (take n weights) (take n marks) rounds)) e
