@@ -5,6 +5,7 @@
 --     where-split     those that pass and those that do not make the whole
 --     where-sub       what passes p passes q: the sum over p is at most that over q
 --     where-whole     a sum over some positions is at most the sum over all
+--     where-bound     values of at most b: at most b for each position
 --     where-none      nobody passes: 0
 --     where-all       everybody passes: the sum of all
 --     where-zero      values of 0 add up to 0
@@ -20,7 +21,7 @@ use native.Mathlib.Nat.{le-refl}
 use native.Mathlib.Omega.{arith}
 use Rattle.columns.specs.Sum.{bit, sumTo, countTo, sumWhere}
 use Rattle.columns.specs.Table.{Below}
-use Rattle.columns.proofs.Sum.{sum-next, sum-same, sum-le, sum-add, sum-zero, term-le}
+use Rattle.columns.proofs.Sum.{sum-next, sum-same, sum-le, sum-add, sum-bound, sum-zero, term-le}
 
 pub where-next : (n : ℕ) (p : ℕ → Bool) (f : ℕ → ℕ) → sumWhere (n + 1) p f ≡ sumWhere n p f + cond (p n) (f n) 0
 unfolding sumWhere
@@ -57,6 +58,9 @@ where-sub n p q f h = sum-le n (λ k. cond (p k) (f k) 0) (λ k. cond (q k) (f k
 
 pub where-whole : (n : ℕ) (p : ℕ → Bool) (f : ℕ → ℕ) → sumWhere n p f ≤ sumTo n f
 where-whole n p f = omega (arith, where-split n p f)
+
+pub where-bound : (n b : ℕ) (p : ℕ → Bool) (f : ℕ → ℕ) → Below n (λ k. f k ≤ b) → sumWhere n p f ≤ b * n
+where-bound n b p f h = omega (arith, where-whole n p f, sum-bound n b f h)
 
 pub where-none : (n : ℕ) (p : ℕ → Bool) (f : ℕ → ℕ) → Below n (λ k. p k ≡ false) → sumWhere n p f ≡ 0
 unfolding sumWhere

@@ -5,7 +5,7 @@
 --     told-fits               the sum fits
 --     told-end                after the last one it is `visitsTold`
 use Prim.Native.Nat.{ℕ, _+_, _^_, _≤_, _<_}
-use mathlib.Core.Path.{_≡_, refl, ap, sym, _∙_}
+use mathlib.Core.Path.{_≡_, refl, ap, _∙_}
 use mathlib.Core.Bool.{Bool, true, false, cond}
 use mathlib.Core.List.{List}
 use native.Mathlib.Omega.{arith}
@@ -13,10 +13,10 @@ use lib.Dec.{ltb, eqb}
 use lib.ListN.{length, take}
 use lib.Seq.{getD-take, length-take-le}
 use borrow.Author.Tests.{lt-ltb, le-ltb, eq-eqb, ne-eqb}
-use Rattle.columns.specs.Sum.{sumTo}
+use Rattle.columns.specs.Sum.{sumTo, sumWhere}
 use Rattle.columns.specs.Table.{at}
-use Rattle.columns.proofs.Sum.{sum-next, sum-bound}
-use Rattle.levy.specs.Rounds.{visitsAt, visitsTold}
+use Rattle.columns.proofs.Mask.{where-next, where-bound}
+use Rattle.levy.specs.Rounds.{isPayer, looks, visitsTold}
 use Rattle.levy.specs.Asked.{Countable}
 
 pub weightless : (w a : ℕ) → w ≡ 0 → 0 ≡ cond (ltb 0 w) a 0
@@ -30,48 +30,43 @@ has-closed w m a some up = rw (lt-ltb 0 w (omega arith), ne-eqb m 0 up)
 
 pub record Told (n : ℕ) (weights marks : List ℕ) (rounds visits i : ℕ) : Type 0 where
   pub within : i ≤ n
-  pub is : visits ≡ sumTo i (visitsAt (take n weights) (take n marks) rounds)
+  pub is : visits ≡ sumWhere i (isPayer (take n weights)) (looks (take n marks) rounds)
 
 module _ (n : ℕ) (weights marks : List ℕ) (rounds : ℕ) (asked : Countable n weights marks rounds) where
   pub told-none : Told n weights marks rounds 0 0
-  told-none = record { within = omega arith; is = unfold sumTo in refl }
+  told-none = record { within = omega arith; is = unfold sumWhere sumTo in refl }
 
-  each-few : (i : ℕ) → visitsAt (take n weights) (take n marks) rounds i ≤ 257
-  unfolding visitsAt
-  each-few i = each (ltb 0 (at (take n weights) i)) (eqb (at (take n marks) i) 0) (at (take n marks) i) (asked .marks-le i)
+  looks-few : (i : ℕ) → looks (take n marks) rounds i ≤ 257
+  unfolding looks
+  looks-few i = each (eqb (at (take n marks) i) 0) (at (take n marks) i) (asked .marks-le i)
     where
-      each : (s t : Bool) (m : ℕ) → m ≤ rounds → cond s (cond t (rounds + 1) m) 0 ≤ 257
-      each true true m l = omega (arith, asked .early)
-      each true false m l = omega (arith, asked .early)
-      each false t m l = omega arith
+      each : (t : Bool) (m : ℕ) → m ≤ rounds → cond t (rounds + 1) m ≤ 257
+      each true m l = omega (arith, asked .early)
+      each false m l = omega (arith, asked .early)
 
   module _ (visits i : ℕ) (told : Told n weights marks rounds visits i) where
     module _ (l : i < n) (v : ℕ) (is : v ≡ cond (ltb 0 (at weights i)) (cond (eqb (at marks i) 0) (rounds + 1) (at marks i)) 0) where
-      v-is : v ≡ visitsAt (take n weights) (take n marks) rounds i
-      unfolding visitsAt
-      v-is = rw (getD-take n weights i 0 l, getD-take n marks i 0 l) is
+      next-is : visits + v ≡ sumWhere (i + 1) (isPayer (take n weights)) (looks (take n marks) rounds)
+      next-is = omega (arith, told .is, here, where-next i (isPayer (take n weights)) (looks (take n marks) rounds))
+        where
+          here : v ≡ cond (isPayer (take n weights) i) (looks (take n marks) rounds i) 0
+          here = unfold looks in rw (getD-take n weights i 0 l, getD-take n marks i 0 l) is
 
       pub told-fits : visits + v < 2 ^ 32
       told-fits =
           omega (
             arith,
-            told .is,
+            next-is,
             told .within,
             asked .few,
-            v-is,
-            each-few i,
-            sum-bound i 257 (visitsAt (take n weights) (take n marks) rounds) (λ k _. each-few k),
+            where-bound (i + 1) 257 (isPayer (take n weights)) (looks (take n marks) rounds) (λ k _. looks-few k),
           )
 
       pub told-on : Told n weights marks rounds (visits + v) (i + 1)
-      told-on =
-          record {
-            within = omega arith;
-            is = omega (arith, told .is, v-is, sum-next i (visitsAt (take n weights) (take n marks) rounds));
-          }
+      told-on = record { within = omega arith; is = next-is }
 
     pub told-end : n ≤ i → visits ≡ visitsTold (take n weights) (take n marks) rounds
     unfolding visitsTold
     told-end q =
         let e : i ≡ length (take n weights) = omega (arith, told .within, length-take-le n weights (omega (arith, asked .few, asked .weights-long))) in
-        told .is ∙ ap (λ (m : ℕ). sumTo m (visitsAt (take n weights) (take n marks) rounds)) e
+        told .is ∙ ap (λ (m : ℕ). sumWhere m (isPayer (take n weights)) (looks (take n marks) rounds)) e

@@ -17,10 +17,9 @@ use lib.Seq.{getD-take, length-take-le, drop-set-lt}
 use Rattle.columns.specs.Sum.{sumTo, sumWhere}
 use Rattle.columns.specs.Table.{at}
 use Rattle.columns.proofs.Product.{product}
-use Rattle.columns.proofs.Sum.{sum-bound}
 use Rattle.columns.proofs.Table.{table-is}
 use Rattle.columns.proofs.Fill.{Reached, reached-none, reached-next, reached-now}
-use Rattle.columns.proofs.Mask.{where-next}
+use Rattle.columns.proofs.Mask.{where-next, where-bound}
 use Rattle.levy.specs.Rounds.{Standing, closes, next}
 use Rattle.levy.specs.Asked.{standing, Round, Shut}
 use Rattle.levy.proofs.Step.{closed-is}
@@ -62,14 +61,6 @@ module _ (n : ℕ) (weights caps marks₀ : List ℕ) (money weight rounds : ℕ
     product 6400000000 550000000 (2 ^ 63) (asked .held .rich) (omega (arith, asked .held .light i, getD-take n weights i 0 l)) tt,
   )
 
-  where-small : (xs : List ℕ) (b i : ℕ) → ((k : ℕ) → at xs k ≤ b) → sumWhere i hit (at xs) ≤ b * i
-  unfolding sumWhere
-  where-small xs b i h = sum-bound i b (λ k. cond (hit k) (at xs k) 0) (λ k l. each (hit k) (at xs k) (h k))
-    where
-      each : (t : Bool) (x : ℕ) → x ≤ b → cond t x 0 ≤ b
-      each true x l = l
-      each false x l = omega arith
-
   module _ (marks : List ℕ) (p g i : ℕ) (turn : Turn n weights caps marks₀ money weight rounds marks p g i) (l : i < n) where
     still : at marks i ≡ at marks₀ i
     still = reached-now 0 (marksAfter n weights caps marks₀ money weight rounds) marks₀ marks i (turn .reached)
@@ -90,7 +81,7 @@ module _ (n : ℕ) (weights caps marks₀ : List ℕ) (money weight rounds : ℕ
           arith,
           turn .caps-are,
           asked .held .few,
-          where-small (take n caps) 44000000 i (asked .held .low),
+          where-bound i 44000000 hit (at (take n caps)) (λ k _. asked .held .low k),
           counted-le t (at caps i) r 44000000 (omega (arith, asked .held .low i, getD-take n caps i 0 l)) e,
         )
 
@@ -100,7 +91,7 @@ module _ (n : ℕ) (weights caps marks₀ : List ℕ) (money weight rounds : ℕ
           arith,
           turn .weights-are,
           asked .held .few,
-          where-small (take n weights) 550000000 i (asked .held .light),
+          where-bound i 550000000 hit (at (take n weights)) (λ k _. asked .held .light k),
           counted-le t (at weights i) r 550000000 (omega (arith, asked .held .light i, getD-take n weights i 0 l)) e,
         )
 

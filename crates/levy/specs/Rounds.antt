@@ -6,7 +6,7 @@ use mathlib.Core.Bool.{Bool, cond, _&&_}
 use mathlib.Core.List.{List}
 use lib.Dec.{leb, ltb, eqb}
 use lib.ListN.{length, replicate}
-use Rattle.columns.specs.Sum.{sumTo, whole, countTo}
+use Rattle.columns.specs.Sum.{sumTo, whole, countTo, sumWhere}
 use Rattle.columns.specs.Table.{at, table}
 use Rattle.share.specs.Share.{share, shares}
 
@@ -22,9 +22,13 @@ pub record Standing : Type 0 where
 abbrev pub isOpen : List ℕ → List ℕ → ℕ → Bool
 isOpen ws marks i = eqb (at marks i) 0 && ltb 0 (at ws i)
 
--- how many payers there are: positions with weight
+-- it is a payer: it has weight
+abbrev pub isPayer : List ℕ → ℕ → Bool
+isPayer ws i = ltb 0 (at ws i)
+
+-- how many payers there are
 unfoldable pub payers : List ℕ → ℕ
-payers ws = countTo (length ws) (λ i. ltb 0 (at ws i))
+payers ws = countTo (length ws) (isPayer ws)
 
 -- how many of them are open
 unfoldable pub opens : List ℕ → List ℕ → ℕ
@@ -78,11 +82,11 @@ visits total ws cs = visitsFrom (length ws) ws cs (opening total ws)
 
 -- the same told by the closing rounds (`visits-told`): a payer is looked at in every round up to the one that closes it, and one that
 -- never closes in all of them and in the last, quiet one
-unfoldable pub visitsAt : List ℕ → List ℕ → ℕ → ℕ → ℕ
-visitsAt ws marks rounds i = cond (ltb 0 (at ws i)) (cond (eqb (at marks i) 0) (rounds + 1) (at marks i)) 0
+unfoldable pub looks : List ℕ → ℕ → ℕ → ℕ
+looks marks rounds i = cond (eqb (at marks i) 0) (rounds + 1) (at marks i)
 
 unfoldable pub visitsTold : List ℕ → List ℕ → ℕ → ℕ
-visitsTold ws marks rounds = sumTo (length ws) (visitsAt ws marks rounds)
+visitsTold ws marks rounds = sumWhere (length ws) (isPayer ws) (looks marks rounds)
 
 -- the weights that are still open, by the marks
 unfoldable pub openWeights : List ℕ → List ℕ → List ℕ

@@ -35,7 +35,7 @@ use Rattle.statement.specs.Statement.{statementHeadBytes, statementHeadAt}
 use Rattle.settle.specs.Settlement.{firstTurn, compensationsOf, penaltiesOf, levied, figures}
 use Rattle.settle.specs.Statement.{statementHead, statementBytes}
 use Rattle.settle.specs.Answer.{dutiesIn, figuresOf, statementOf, settleOrder, answerOf, bufferAfter}
-use Rattle.settle.specs.Requests.{fileOf, settledThree, told, settledNone, settledReduced, visited, requestTable}
+use Rattle.settle.specs.Requests.{fileOf, settledThree, told, settledNone, settledReduced, visited, rungs, climbed, requestTable}
 use Rattle.settle.specs.Table.{intervalX, settledX, Entry, entry, figuresTable, same, allRight}
 
 all-right : (allRight figuresTable && allRight requestTable) ≡ true
@@ -46,7 +46,7 @@ unfolding sumTo countTo maxTo maxWhere findTo whole table numberAt numberBytes f
     width1 width2 energy1 energy2 credit1 credit2 payer weight cap dutiesOf cheaperIn cheaper group due called calls uncovered price
     opens closes closed next run opening final visitsFrom visits openWeights paid payments shortfall cuts returned firstTurn compensationsOf penaltiesOf levied figures
     statementHeadBytes statementHeadAt statementHead statementBytes
-    dutiesIn figuresOf statementOf settleOrder answerOf bufferAfter intervalX settledX figuresTable fileOf settledThree told settledNone settledReduced visited requestTable same allRight
+    dutiesIn figuresOf statementOf settleOrder answerOf bufferAfter intervalX settledX figuresTable fileOf settledThree told settledNone settledReduced visited rungs climbed requestTable same allRight
 all-right = refl
 
 same-is : (xs ys : List ℕ) → same xs ys ≡ true → xs ≡ ys

@@ -6,12 +6,18 @@ use lib.ListN.{length, replicate}
 use Rattle.records.specs.Record.{recordBytes, recordsBytes}
 use Rattle.records.specs.Sheet.{cell, columnOf}
 use Rattle.records.specs.declared.Field.{Field}
+use Rattle.columns.specs.Sum.{whole}
+use Rattle.columns.specs.Table.{at}
+use Rattle.units.specs.Measure.{thermalCap, renewableCap}
+use Rattle.units.specs.Load.{load}
 use Rattle.files.specs.Layout.{letterH, letterR, headWidths, rowWidths, rowCount}
 use Rattle.share.specs.Share.{shares}
 use Rattle.merit.specs.Band.{one}
 use Rattle.merit.specs.Call.{calls}
 use Rattle.merit.specs.Price.{price}
 use Rattle.pay.specs.Pay.{penalty}
+use Rattle.duties.specs.Duty.{thermalWeight}
+use Rattle.levy.specs.Rounds.{final, visits}
 use Rattle.statement.specs.Statement.{lineStart, statementHeadAt}
 use Rattle.statement.specs.Line as line
 use Rattle.settle.specs.Settlement.{firstTurn}
@@ -136,6 +142,35 @@ abbrev pub threePayers : ℕ → List ℕ
 threePayers tariff =
     fileOf 0 tariff 3000 (offering 1 9000 0 200 400 ∷ thermalRow 2 27500 ∷ windRow 3 5000 ∷ thermalRow 4 15000 ∷ [])
 
+-- the payers of the ladder of 27 rounds (rust/cases), in groups of rows alike from the first that close: how many, their capacity and
+-- metered energy. First thermal rows, then wind farms, at tariff 7777
+abbrev pub thermalRungs : List (List ℕ)
+thermalRungs =
+    (14 ∷ 1988 ∷ 543031 ∷ []) ∷ (23 ∷ 1997 ∷ 397953 ∷ []) ∷ (22 ∷ 1987 ∷ 373964 ∷ []) ∷ (17 ∷ 1995 ∷ 368208 ∷ []) ∷ (12 ∷ 1982 ∷ 362530 ∷ []) ∷
+    (8 ∷ 1920 ∷ 349468 ∷ []) ∷ (5 ∷ 1954 ∷ 354571 ∷ []) ∷ (3 ∷ 1781 ∷ 322520 ∷ []) ∷ (2 ∷ 1836 ∷ 331980 ∷ []) ∷ (1 ∷ 1676 ∷ 302742 ∷ []) ∷
+    (1 ∷ 1113 ∷ 200869 ∷ []) ∷ (1 ∷ 677 ∷ 122112 ∷ []) ∷ (1 ∷ 337 ∷ 60759 ∷ []) ∷ (1 ∷ 181 ∷ 32621 ∷ []) ∷ (3 ∷ 40 ∷ 7207 ∷ []) ∷
+    (2 ∷ 35 ∷ 6305 ∷ []) ∷ (1 ∷ 34 ∷ 6124 ∷ []) ∷ (1 ∷ 21 ∷ 3782 ∷ []) ∷ (1 ∷ 13 ∷ 2341 ∷ []) ∷ []
+
+abbrev pub windRungs : List (List ℕ)
+windRungs =
+    (33 ∷ 1 ∷ 11 ∷ []) ∷ (16 ∷ 1 ∷ 18 ∷ []) ∷ (8 ∷ 1 ∷ 19 ∷ []) ∷ (4 ∷ 1 ∷ 20 ∷ []) ∷
+    (2 ∷ 1 ∷ 21 ∷ []) ∷ (1 ∷ 1 ∷ 29 ∷ []) ∷ (1 ∷ 1 ∷ 15 ∷ []) ∷ (1 ∷ 1 ∷ 8 ∷ []) ∷ []
+
+-- a number for each payer of such groups
+unfoldable pub rungs : (ℕ → ℕ → ℕ) → List (List ℕ) → List ℕ
+rungs f [] = []
+rungs f (g ∷ gs) = replicate (at g 0) (f (at g 1) (at g 2)) ++ rungs f gs
+
+-- rounds and visits where the total is what their caps come to
+unfoldable pub climbed : List ℕ → List ℕ → List ℕ
+climbed ws cs = final (whole cs) ws cs .rounds ∷ visits (whole cs) ws cs ∷ []
+
+abbrev pub ladder : List ℕ
+ladder =
+    climbed
+    (rungs (λ c e. thermalWeight (load c 50) c e) thermalRungs ++ rungs (λ c e. e) windRungs)
+    (rungs (λ c e. thermalCap e 7777) thermalRungs ++ rungs (λ c e. renewableCap e 7777) windRungs)
+
 -- the figures, request by request
 unfoldable pub requestTable : List Entry
 requestTable =
@@ -236,4 +271,6 @@ requestTable =
     ∷ entry (visited (threePayers 100)) (1 ∷ 3 ∷ 0 ∷ 1 ∷ 1 ∷ 1 ∷ [])
     -- nothing is to pay: a cap of 0 is reached all the same, one of a fen is not
     ∷ entry (visited (fileOf 0 1 0 (windRow 1 199 ∷ windRow 2 200 ∷ []))) (1 ∷ 3 ∷ 1 ∷ 0 ∷ [])
+    -- the ladder of 27 rounds: 14 payers looked at once, 23 twice, and so on to the last, looked at in all 27
+    ∷ entry ladder (27 ∷ 1960 ∷ [])
     ∷ []
