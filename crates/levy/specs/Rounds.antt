@@ -18,13 +18,13 @@ pub record Standing : Type 0 where
   pub weight : ℕ
   pub rounds : ℕ
 
--- position i is an open payer: it has weight and has not closed
-abbrev pub isOpen : List ℕ → List ℕ → ℕ → Bool
-isOpen ws marks i = eqb (at marks i) 0 && ltb 0 (at ws i)
-
--- it is a payer: it has weight
+-- position i is a payer: it has weight
 abbrev pub isPayer : List ℕ → ℕ → Bool
 isPayer ws i = ltb 0 (at ws i)
+
+-- an open one: it has not closed
+abbrev pub isOpen : List ℕ → List ℕ → ℕ → Bool
+isOpen ws marks i = eqb (at marks i) 0 && isPayer ws i
 
 -- how many payers there are
 unfoldable pub payers : List ℕ → ℕ
