@@ -22,21 +22,27 @@ use Rattle.levy.specs.Asked.{Countable}
 pub weightless : (w a : ℕ) → w ≡ 0 → 0 ≡ cond (ltb 0 w) a 0
 weightless w a e = rw (le-ltb 0 w (omega arith))
 
-pub still-open : (w m a : ℕ) → (w ≡ 0 → ⊥) → m ≡ 0 → a ≡ cond (ltb 0 w) (cond (eqb m 0) a m) 0
-still-open w m a some e = rw (lt-ltb 0 w (omega arith), eq-eqb m 0 e)
+pub still-open : (w r m : ℕ) → (w ≡ 0 → ⊥) → m ≡ 0 → r + 1 ≡ cond (ltb 0 w) (looks r m) 0
+unfolding looks
+still-open w r m some e = rw (lt-ltb 0 w (omega arith), eq-eqb m 0 e)
 
-pub has-closed : (w m a : ℕ) → (w ≡ 0 → ⊥) → (m ≡ 0 → ⊥) → m ≡ cond (ltb 0 w) (cond (eqb m 0) a m) 0
-has-closed w m a some up = rw (lt-ltb 0 w (omega arith), ne-eqb m 0 up)
+pub has-closed : (w r m : ℕ) → (w ≡ 0 → ⊥) → (m ≡ 0 → ⊥) → m ≡ cond (ltb 0 w) (looks r m) 0
+unfolding looks
+has-closed w r m some up = rw (lt-ltb 0 w (omega arith), ne-eqb m 0 up)
+
+-- how often the payer at a position was looked at
+abbrev looksAt : ℕ → List ℕ → ℕ → ℕ → ℕ
+looksAt n marks rounds i = looks rounds (at (take n marks) i)
 
 pub record Told (n : ℕ) (weights marks : List ℕ) (rounds visits i : ℕ) : Type 0 where
   pub within : i ≤ n
-  pub is : visits ≡ sumWhere i (isPayer (take n weights)) (looks (take n marks) rounds)
+  pub is : visits ≡ sumWhere i (isPayer (take n weights)) (looksAt n marks rounds)
 
 module _ (n : ℕ) (weights marks : List ℕ) (rounds : ℕ) (asked : Countable n weights marks rounds) where
   pub told-none : Told n weights marks rounds 0 0
   told-none = record { within = omega arith; is = unfold sumWhere sumTo in refl }
 
-  looks-few : (i : ℕ) → looks (take n marks) rounds i ≤ 257
+  looks-few : (i : ℕ) → looksAt n marks rounds i ≤ 257
   unfolding looks
   looks-few i = each (eqb (at (take n marks) i) 0) (at (take n marks) i) (asked .marks-le i)
     where
@@ -45,12 +51,12 @@ module _ (n : ℕ) (weights marks : List ℕ) (rounds : ℕ) (asked : Countable 
       each false m l = omega (arith, asked .early)
 
   module _ (visits i : ℕ) (told : Told n weights marks rounds visits i) where
-    module _ (l : i < n) (v : ℕ) (is : v ≡ cond (ltb 0 (at weights i)) (cond (eqb (at marks i) 0) (rounds + 1) (at marks i)) 0) where
-      next-is : visits + v ≡ sumWhere (i + 1) (isPayer (take n weights)) (looks (take n marks) rounds)
-      next-is = omega (arith, told .is, here, where-next i (isPayer (take n weights)) (looks (take n marks) rounds))
+    module _ (l : i < n) (v : ℕ) (is : v ≡ cond (ltb 0 (at weights i)) (looks rounds (at marks i)) 0) where
+      next-is : visits + v ≡ sumWhere (i + 1) (isPayer (take n weights)) (looksAt n marks rounds)
+      next-is = omega (arith, told .is, here, where-next i (isPayer (take n weights)) (looksAt n marks rounds))
         where
-          here : v ≡ cond (isPayer (take n weights) i) (looks (take n marks) rounds i) 0
-          here = unfold looks in rw (getD-take n weights i 0 l, getD-take n marks i 0 l) is
+          here : v ≡ cond (isPayer (take n weights) i) (looksAt n marks rounds i) 0
+          here = rw (getD-take n weights i 0 l, getD-take n marks i 0 l) is
 
       pub told-fits : visits + v < 2 ^ 32
       told-fits =
@@ -59,7 +65,7 @@ module _ (n : ℕ) (weights marks : List ℕ) (rounds : ℕ) (asked : Countable 
             next-is,
             told .within,
             asked .few,
-            where-bound (i + 1) 257 (isPayer (take n weights)) (looks (take n marks) rounds) (λ k _. looks-few k),
+            where-bound (i + 1) 257 (isPayer (take n weights)) (looksAt n marks rounds) (λ k _. looks-few k),
           )
 
       pub told-on : Told n weights marks rounds (visits + v) (i + 1)
@@ -69,4 +75,4 @@ module _ (n : ℕ) (weights marks : List ℕ) (rounds : ℕ) (asked : Countable 
     unfolding visitsTold
     told-end q =
         let e : i ≡ length (take n weights) = omega (arith, told .within, length-take-le n weights (omega (arith, asked .few, asked .weights-long))) in
-        told .is ∙ ap (λ (m : ℕ). sumWhere m (isPayer (take n weights)) (looks (take n marks) rounds)) e
+        told .is ∙ ap (λ (m : ℕ). sumWhere m (isPayer (take n weights)) (looksAt n marks rounds)) e

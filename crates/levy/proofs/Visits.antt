@@ -25,25 +25,22 @@ use Rattle.levy.specs.Rounds.{Standing, isOpen, isPayer, payers, opens, 
 use Rattle.levy.proofs.Step.{mark-next, next-rounds, open-parts, opens-fall, opens-none, run-stop, run-more, run-enough, run-keeps, opens-le, opening-mark}
 use Rattle.levy.proofs.Count.{mark-stays, marks-rounds}
 
--- how often a payer has been looked at in all, by how things stand at the end
+-- how often the payer at a position has been looked at in all, by how things stand at the end
 abbrev looked : Standing → ℕ → ℕ
-looked end = looks (end .marks) (end .rounds)
+looked end i = looks (end .rounds) (at (end .marks) i)
 
-looks-open : (marks : List ℕ) (rounds i : ℕ) → eqb (at marks i) 0 ≡ true → looks marks rounds i ≡ rounds + 1
+looks-open : (rounds mark : ℕ) → eqb mark 0 ≡ true → looks rounds mark ≡ rounds + 1
 unfolding looks
-looks-open marks rounds i e = rw e
+looks-open rounds mark e = rw e
 
-looks-closed : (marks : List ℕ) (rounds i m : ℕ) → at marks i ≡ suc m → looks marks rounds i ≡ suc m
+looks-closed : (rounds mark m : ℕ) → mark ≡ suc m → looks rounds mark ≡ suc m
 unfolding looks
-looks-closed marks rounds i m e = rw (e, ne-eqb (suc m) 0 (omega arith))
+looks-closed rounds mark m e = rw (e, ne-eqb (suc m) 0 (omega arith))
 
-looks-some : (marks : List ℕ) (rounds i : ℕ) → 0 < looks marks rounds i
+looks-some : (rounds mark : ℕ) → 0 < looks rounds mark
 unfolding looks
-looks-some marks rounds i = each (at marks i)
-  where
-    each : (m : ℕ) → 0 < cond (eqb m 0) (rounds + 1) m
-    each zero = omega arith
-    each (suc m) = rw (ne-eqb (suc m) 0 (omega arith)) (omega arith)
+looks-some rounds zero = omega arith
+looks-some rounds (suc m) = rw (ne-eqb (suc m) 0 (omega arith)) (omega arith)
 
 -- k payers stay open and c close, and the k are visited v times from the next round on
 twice-next : (k c v : ℕ) → 0 < c → 2 * v ≤ k * (k + 1) → 2 * ((k + c) + v) ≤ (k + c) * ((k + c) + 1)
@@ -98,7 +95,7 @@ module _ (ws cs : List ℕ) where
         (omega (arith, opened, where-each (length ws) (st .rounds + 1) (isOpen ws (st .marks)) (looked st) unmarked))
       where
         unmarked : (i : ℕ) → i < length ws → isOpen ws (st .marks) i ≡ true → looked st i ≡ st .rounds + 1
-        unmarked i l e = looks-open (st .marks) (st .rounds) i (left-true (eqb (at (st .marks) i) 0) (ltb 0 (at ws i)) e)
+        unmarked i l e = looks-open (st .rounds) (at (st .marks) i) (left-true (eqb (at (st .marks) i) 0) (ltb 0 (at ws i)) e)
 
         opened : (st .rounds + 1) * opens ws (st .marks) ≡ (st .rounds + 1) * countTo (length ws) (isOpen ws (st .marks))
         opened = unfold opens in refl
@@ -123,7 +120,7 @@ module _ (ws cs : List ℕ) where
         -- whoever closes now has the mark of this round at the end
         marked : (i : ℕ) → i < length ws → closes ws cs st i ≡ true → looked (run f ws cs (next ws cs st)) i ≡ st .rounds + 1
         marked i l e =
-            looks-closed (run f ws cs (next ws cs st) .marks) (run f ws cs (next ws cs st) .rounds) i (st .rounds)
+            looks-closed (run f ws cs (next ws cs st) .rounds) (at (run f ws cs (next ws cs st) .marks) i) (st .rounds)
             (mark-kept f (next ws cs st) i (suc (st .rounds)) l (omega arith) (mark-next ws cs st i l ∙ rw e))
             ∙ omega arith
 
@@ -175,13 +172,13 @@ module _ (total : ℕ) (ws cs : List ℕ) where
   unfolding payers visitsTold
   visits-least =
       rw visits-told
-      (omega (arith, where-cross-lt (length ws) (isPayer ws) 0 1 (looked end) (looked end) (λ i l e. omega (arith, looks-some (end .marks) (end .rounds) i))))
+      (omega (arith, where-cross-lt (length ws) (isPayer ws) 0 1 (looked end) (looked end) (λ i l e. omega (arith, looks-some (end .rounds) (at (end .marks) i)))))
 
   pub visits-quiet : end .rounds ≡ 0 → visits total ws cs ≡ payers ws
   unfolding payers visitsTold
   visits-quiet none =
       visits-told
-      ∙ where-each (length ws) 1 (isPayer ws) (looked end) (λ i l e. looks-open (end .marks) (end .rounds) i (eq-eqb (at (end .marks) i) 0 (unmarked i)) ∙ omega arith)
+      ∙ where-each (length ws) 1 (isPayer ws) (looked end) (λ i l e. looks-open (end .rounds) (at (end .marks) i) (eq-eqb (at (end .marks) i) 0 (unmarked i)) ∙ omega arith)
       ∙ omega arith
     where
       unmarked : (i : ℕ) → at (end .marks) i ≡ 0

@@ -81,12 +81,12 @@ unfoldable pub visits : ℕ → List ℕ → List ℕ → ℕ
 visits total ws cs = visitsFrom (length ws) ws cs (opening total ws)
 
 -- the same told by the closing rounds (`visits-told`): a payer is looked at in every round up to the one that closes it, and one that
--- never closes in all of them and in the last, quiet one
-unfoldable pub looks : List ℕ → ℕ → ℕ → ℕ
-looks marks rounds i = cond (eqb (at marks i) 0) (rounds + 1) (at marks i)
+-- never closes, whose mark is 0, in all of them and in the last, quiet one
+unfoldable pub looks : ℕ → ℕ → ℕ
+looks rounds mark = cond (eqb mark 0) (rounds + 1) mark
 
 unfoldable pub visitsTold : List ℕ → List ℕ → ℕ → ℕ
-visitsTold ws marks rounds = sumWhere (length ws) (isPayer ws) (looks marks rounds)
+visitsTold ws marks rounds = sumWhere (length ws) (isPayer ws) (λ i. looks rounds (at marks i))
 
 -- the weights that are still open, by the marks
 unfoldable pub openWeights : List ℕ → List ℕ → List ℕ

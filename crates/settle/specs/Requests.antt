@@ -269,8 +269,8 @@ requestTable =
     ∷ entry (visited (threePayers 401)) (2 ∷ 5 ∷ 0 ∷ 1 ∷ 2 ∷ 2 ∷ [])
     ∷ entry (visited (threePayers 400)) (2 ∷ 4 ∷ 0 ∷ 1 ∷ 1 ∷ 2 ∷ [])
     ∷ entry (visited (threePayers 100)) (1 ∷ 3 ∷ 0 ∷ 1 ∷ 1 ∷ 1 ∷ [])
-    -- nothing is to pay: a cap of 0 is reached all the same, one of a fen is not
-    ∷ entry (visited (fileOf 0 1 0 (windRow 1 199 ∷ windRow 2 200 ∷ []))) (1 ∷ 3 ∷ 1 ∷ 0 ∷ [])
+    -- nothing is to pay: caps of 0 are reached all the same, both at once, and one of a fen is not
+    ∷ entry (visited (fileOf 0 1 0 (windRow 1 199 ∷ windRow 2 199 ∷ windRow 3 200 ∷ []))) (1 ∷ 4 ∷ 1 ∷ 1 ∷ 0 ∷ [])
     -- the ladder of 27 rounds: 14 payers looked at once, 23 twice, and so on to the last, looked at in all 27
     ∷ entry ladder (27 ∷ 1960 ∷ [])
     ∷ []
