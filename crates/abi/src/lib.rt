@@ -20,9 +20,9 @@ fn pack(number: usize, value: usize) -> u64
 
 // Settles an interval file with its correction (length 0: none) into a lent buffer.
 #[no_mangle]
-pub extern "C" fn wheatrudder_settle(
-    interval: &[u8],
-    correction: &[u8],
+pub extern "C" fn wheatrudder_settle<'a>(
+    interval: &'a [u8],
+    correction: &'a [u8],
     statement: &mut [u8],
 ) -> u64
     ensures { λ r. ⌜ r ≡ settled (now (interval .entry)) (now (correction .entry)) (length (now (statement .entry))) ⌝ }

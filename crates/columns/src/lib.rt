@@ -1,7 +1,8 @@
 // What several crates need to say about lists and numbers: definitions in specs/, laws in proofs/. A column is a slice of numbers, one
 // for each row.
 ghost use mathlib.Core.Path.{_≡_};
-ghost use Prim.Native.Nat.{_^_, _<_, _≤_};
+ghost use mathlib.Core.Bool.{cond};
+ghost use Prim.Native.Nat.{_+_, _-_, _/_, _^_, _<_, _≤_};
 ghost use lib.ListN.{length};
 ghost use Rattle.columns.specs.Sum.{whole};
 
@@ -10,6 +11,13 @@ pub fn wide(x: u32) -> u64
     ensures { λ r. ⌜ (r ≡ x) × (r < 2 ^ 32) ⌝ }
 {
     x as u64
+}
+
+// A column's number that counts if a test passed. A product, since a branch on what stands in a row is mispredicted.
+pub fn counted(t: bool, x: u32) -> u32
+    ensures { λ r. ⌜ r ≡ cond t x 0 ⌝ }
+{
+    x * (t as u32)
 }
 
 // The sum of a column.
@@ -24,4 +32,12 @@ pub fn total_of(column: &[u32]) -> u64
         i += 1;
     }
     sum
+}
+
+// A number inside a range, half way: for a search by halving.
+pub fn middle(lo: u64, hi: u64) -> u64
+    requires { ⌜ lo + 1 < hi ⌝ }
+    ensures { λ r. ⌜ (r ≡ lo + (hi - lo) / 2) × (lo < r) × (r < hi) ⌝ }
+{
+    lo + (hi - lo) / 2
 }

@@ -1,101 +1,66 @@
--- A row's figures as the code makes them, each lemma in the shape of one return.
---     width1-of, width2-of         a row that offers
---     energy1-of, energy2-of       a row that is paid for what it delivered
---     credit1-whole, credit2-whole     a row that owes nothing
---     credit1-of, credit2-of       a row that owes for what it did not deliver
---     pays-thermal                 who pays among thermal rows
---     weight-thermal, weight-other, cap-thermal, cap-other     by the energy that counts, which is 0 of a row that does not pay
---     duty-of                      all figures together
-use Prim.Native.Nat.{ℕ, _+_, _-_, _*_, _≤_, min, max}
+-- A row's figures as the code makes them, each lemma in the shape of what is asked.
+--     pays-is                  who pays, by tests that are joined and not one after the other
+--     weight-of, cap-of        by the energy that counts, which is 0 of a row that does not pay
+--     counted-le, caps-fit     that energy is at most the meter's; of the caps of both kinds one is 0
+--     duty-of                  all figures together
+use Prim.Native.Nat.{ℕ, _+_, _≤_}
 use mathlib.Core.Path.{_≡_, refl}
-use mathlib.Core.Bool.{Bool, true, false, cond, not, _&&_}
+use mathlib.Core.Bool.{Bool, true, false, cond, not, _&&_, _||_}
 use native.Mathlib.Omega.{arith}
 use lib.Dec.{leb, eqb}
-use borrow.Author.Tests.{eq-eqb, ne-eqb, not-true, not-false}
+use mir.Syntax.{w64}
+use mir.Val.{Fits}
 use Rattle.units.specs.Measure.{thermalCap, renewableCap}
 use Rattle.units.specs.declared.Kwh.{Kwh}
 use Rattle.units.specs.declared.Fen.{Fen}
 use Rattle.files.specs.declared.Row.{Row}
 use Rattle.files.specs.declared.Terms.{Terms}
 use Rattle.files.specs.Terms.{baseline}
-use Rattle.duties.specs.Duty.{foot, width1, width2, receives, energyIn1, energyIn2, energy1, energy2, liable, credit1, credit2}
-use Rattle.duties.specs.Duty.{sixty, seventy, payer, thermalWeight, weight, cap, dutyOf}
+use Rattle.duties.specs.Duty.{width1, width2, energy1, energy2, credit1, credit2, payer, thermalWeight, weight, cap, dutyOf}
 use Rattle.duties.specs.declared.Duty.{Duty}
 
-module _ (t : Terms) (r : Row) where
-  pub width1-of : (base low high w : ℕ) → r .offered ≡ 1 → base ≡ baseline t (r .capacity) → low ≡ foot (r .capacity)
-      → high ≡ max (r .minimum .0) low → w ≡ base - high → w ≡ width1 t r
-  unfolding width1
-  width1-of base low high w o b l m e = rw (eq-eqb (r .offered) 1 o, e, b, m, l)
+-- two tests, of which k says the one that counts
+joined : (k a b : Bool) → (k && a) || (not k && b) ≡ cond k a b
+joined true true b = refl
+joined true false b = refl
+joined false a b = refl
 
-  pub width2-of : (low w : ℕ) → r .offered ≡ 1 → low ≡ foot (r .capacity) → w ≡ low - r .minimum .0 → w ≡ width2 t r
-  unfolding width2
-  width2-of low w o l e = rw (eq-eqb (r .offered) 1 o, e, l)
-
-  module _ (b : Bool) (is : b ≡ receives r) (on : not b ≡ false) (base : ℕ) (at : base ≡ baseline t (r .capacity)) (e : ℕ) where
-    pub energy1-of : e ≡ energyIn1 base (r .capacity) (r .metered .0) → e ≡ energy1 t r
-    unfolding energy1
-    energy1-of h = rw (← is, not-false b on, h, at)
-
-    pub energy2-of : e ≡ energyIn2 base (r .capacity) (r .metered .0) → e ≡ energy2 t r
-    unfolding energy2
-    energy2-of h = rw (← is, not-false b on, h, at)
-
-  module _ (b : Bool) (is : b ≡ liable r) where
-    module _ (off : not b ≡ true) (w : ℕ) where
-      pub credit1-whole : w ≡ width1 t r → w ≡ credit1 t r
-      unfolding credit1
-      credit1-whole h = rw (← is, not-true b off, h)
-
-      pub credit2-whole : w ≡ width2 t r → w ≡ credit2 t r
-      unfolding credit2
-      credit2-whole h = rw (← is, not-true b off, h)
-
-    module _ (on : not b ≡ false) (base : ℕ) (at : base ≡ baseline t (r .capacity)) (e : ℕ) where
-      pub credit1-of : e ≡ energyIn1 base (r .capacity) (r .metered .0) → e ≡ credit1 t r
-      unfolding credit1
-      credit1-of h = rw (← is, not-false b on, h, at)
-
-      pub credit2-of : e ≡ energyIn2 base (r .capacity) (r .metered .0) → e ≡ credit2 t r
-      unfolding credit2
-      credit2-of h = rw (← is, not-false b on, h, at)
-
-  pub pays-thermal : (base : ℕ) → r .kind ≡ 1 → base ≡ baseline t (r .capacity)
-      → leb base (r .metered .0) && not (eqb (r .status) 3) ≡ payer t r
-  unfolding payer
-  pays-thermal base k b = rw (eq-eqb (r .kind) 1 k, b)
+pub pays-is : (t : Terms) (r : Row) (base : ℕ) → base ≡ baseline t (r .capacity)
+    → (eqb (r .kind) 1 && (leb base (r .metered .0) && not (eqb (r .status) 3))) || (not (eqb (r .kind) 1) && eqb (r .status) 0)
+    ≡ payer t r
+unfolding payer
+pays-is t r base b = rw b (joined (eqb (r .kind) 1) _ _)
 
 -- no energy weighs nothing
-weightless : (base s v : ℕ) → (min 0 s - base) + 2 * (min 0 v - s) + 3 * (0 - v) ≡ 0
-weightless base s v = omega arith
+weighed : (p k : Bool) (base c m : ℕ)
+    → cond k (thermalWeight base c (cond p m 0)) (cond p m 0) ≡ cond p (cond k (thermalWeight base c m) m) 0
+weighed true k base c m = refl
+weighed false true base c m = omega arith
+weighed false false base c m = refl
 
--- a figure that is 0 of no energy may be worked out from the energy that counts
-counts : (b : Bool) (f : ℕ → ℕ) (m : ℕ) → f 0 ≡ 0 → f (cond b m 0) ≡ cond b (f m) 0
-counts true f m z = refl
-counts false f m z = z
+-- and has cap 0
+capped : (p k : Bool) (tariff m : ℕ) → thermalCap (cond k (cond p m 0) 0) tariff + renewableCap (cond (not k) (cond p m 0) 0) tariff
+    ≡ cond p (cond k (thermalCap m tariff) (renewableCap m tariff)) 0
+capped true true tariff m = omega arith
+capped true false tariff m = omega arith
+capped false true tariff m = omega arith
+capped false false tariff m = omega arith
+
+pub caps-fit : (k : Bool) (tariff e a b x y : ℕ) → a ≡ cond k e 0 → b ≡ cond (not k) e 0 → x ≡ thermalCap a tariff
+    → y ≡ renewableCap b tariff → Fits w64 x → Fits w64 y → Fits w64 (x + y)
+caps-fit true tariff e a b x y f g h i fits small = rw (i, g) (omega arith)
+caps-fit false tariff e a b x y f g h i fits small = rw (h, f) (omega arith)
 
 module _ (t : Terms) (r : Row) (e : ℕ) (is : e ≡ cond (payer t r) (r .metered .0) 0) where
-  pub weight-thermal : (base w : ℕ) → r .kind ≡ 1 → base ≡ baseline t (r .capacity) → w ≡ thermalWeight base (r .capacity) e
-      → w ≡ weight t r
+  pub weight-of : (base w x : ℕ) → base ≡ baseline t (r .capacity) → w ≡ thermalWeight base (r .capacity) e
+      → x ≡ cond (eqb (r .kind) 1) w e → x ≡ weight t r
   unfolding weight
-  weight-thermal base w k b h =
-      rw (eq-eqb (r .kind) 1 k, h, b, is)
-      (counts (payer t r) (thermalWeight (baseline t (r .capacity)) (r .capacity)) (r .metered .0)
-      (weightless (baseline t (r .capacity)) (sixty (r .capacity)) (seventy (r .capacity))))
+  weight-of base w x b h p = rw (p, h, b, is) (weighed (payer t r) (eqb (r .kind) 1) (baseline t (r .capacity)) (r .capacity) (r .metered .0))
 
-  pub weight-other : (r .kind ≡ 1 → ⊥) → e ≡ weight t r
-  unfolding weight
-  weight-other k = rw (ne-eqb (r .kind) 1 k) is
-
-  pub cap-thermal : (tariff c : ℕ) → r .kind ≡ 1 → c ≡ thermalCap e tariff → c ≡ cap t tariff r
+  pub cap-of : (tariff a b x y : ℕ) → a ≡ cond (eqb (r .kind) 1) e 0 → b ≡ cond (not (eqb (r .kind) 1)) e 0
+      → x ≡ thermalCap a tariff → y ≡ renewableCap b tariff → x + y ≡ cap t tariff r
   unfolding cap
-  cap-thermal tariff c k h =
-      rw (eq-eqb (r .kind) 1 k, h, is) (counts (payer t r) (λ (x : ℕ). thermalCap x tariff) (r .metered .0) (omega arith))
-
-  pub cap-other : (tariff c : ℕ) → (r .kind ≡ 1 → ⊥) → c ≡ renewableCap e tariff → c ≡ cap t tariff r
-  unfolding cap
-  cap-other tariff c k h =
-      rw (ne-eqb (r .kind) 1 k, h, is) (counts (payer t r) (λ (x : ℕ). renewableCap x tariff) (r .metered .0) (omega arith))
+  cap-of tariff a b x y f g h i = rw (h, i, f, g, is) (capped (payer t r) (eqb (r .kind) 1) tariff (r .metered .0))
 
   pub counted-le : (m : ℕ) → r .metered .0 ≤ m → e ≤ m
   counted-le m h = rw is (go (payer t r))

@@ -12,18 +12,14 @@ ghost use Rattle.duties.specs.Duty.{width1, width2};
 pub fn width1(terms: Terms, row: Row) -> Kwh
     ensures { λ w. ⌜ w .0 ≡ width1 terms row ⌝ }
 {
-    if row.offered != 1 {
-        return Kwh(0);
-    }
-    baseline(terms, row.capacity).above(row.minimum.larger(load(row.capacity, FOOT)))
+    let width = baseline(terms, row.capacity).above(row.minimum.larger(load(row.capacity, FOOT)));
+    width.when(row.offered == 1)
 }
 
 // Tier 2: from 40 percent down to the minimum.
 pub fn width2(terms: Terms, row: Row) -> Kwh
     ensures { λ w. ⌜ w .0 ≡ width2 terms row ⌝ }
 {
-    if row.offered != 1 {
-        return Kwh(0);
-    }
     load(row.capacity, FOOT).above(row.minimum)
+        .when(row.offered == 1)
 }

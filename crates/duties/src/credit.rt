@@ -23,18 +23,14 @@ fn liable(row: Row) -> bool
 pub fn credit1(terms: Terms, row: Row) -> Kwh
     ensures { λ r. ⌜ r .0 ≡ credit1 terms row ⌝ }
 {
-    if !liable(row) {
-        return width1(terms, row);
-    }
-    energy_in1(baseline(terms, row.capacity), row.capacity, row.metered)
+    let delivered = energy_in1(baseline(terms, row.capacity), row.capacity, row.metered);
+    delivered.or(liable(row), width1(terms, row))
 }
 
 // The same in tier 2.
 pub fn credit2(terms: Terms, row: Row) -> Kwh
     ensures { λ r. ⌜ r .0 ≡ credit2 terms row ⌝ }
 {
-    if !liable(row) {
-        return width2(terms, row);
-    }
-    energy_in2(baseline(terms, row.capacity), row.capacity, row.metered)
+    let delivered = energy_in2(baseline(terms, row.capacity), row.capacity, row.metered);
+    delivered.or(liable(row), width2(terms, row))
 }

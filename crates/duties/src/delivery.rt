@@ -34,17 +34,11 @@ fn receives(row: Row) -> bool
 pub fn energy1(terms: Terms, row: Row) -> Kwh
     ensures { λ e. ⌜ e .0 ≡ energy1 terms row ⌝ }
 {
-    if !receives(row) {
-        return Kwh(0);
-    }
-    energy_in1(baseline(terms, row.capacity), row.capacity, row.metered)
+    energy_in1(baseline(terms, row.capacity), row.capacity, row.metered).when(receives(row))
 }
 
 pub fn energy2(terms: Terms, row: Row) -> Kwh
     ensures { λ e. ⌜ e .0 ≡ energy2 terms row ⌝ }
 {
-    if !receives(row) {
-        return Kwh(0);
-    }
-    energy_in2(baseline(terms, row.capacity), row.capacity, row.metered)
+    energy_in2(baseline(terms, row.capacity), row.capacity, row.metered).when(receives(row))
 }

@@ -24,20 +24,16 @@ const SEVENTY: u8 = 70;
 pub fn pays(terms: Terms, row: Row) -> bool
     ensures { λ b. ⌜ b ≡ payer terms row ⌝ }
 {
-    if row.kind == THERMAL {
-        return (baseline(terms, row.capacity).0 <= row.metered.0) & (row.status != ACCIDENT);
-    }
-    row.status == NORMAL
+    let thermal = row.kind == THERMAL;
+    let ran = (baseline(terms, row.capacity).0 <= row.metered.0) & (row.status != ACCIDENT);
+    (thermal & ran) | (!thermal & (row.status == NORMAL))
 }
 
 // The energy that counts: what a payer's meter says, nothing of a row that does not pay.
 fn counted(terms: Terms, row: Row) -> Kwh
     ensures { λ e. ⌜ e .0 ≡ cond (payer terms row) (row .metered .0) 0 ⌝ }
 {
-    if !pays(terms, row) {
-        return Kwh(0);
-    }
-    row.metered
+    row.metered.when(pays(terms, row))
 }
 
 // A thermal unit's energy above its baseline: once to 60 percent, twice to 70, three times above.
@@ -59,19 +55,19 @@ pub fn weight(terms: Terms, row: Row) -> Kwh
     ensures { λ w. ⌜ w .0 ≡ weight terms row ⌝ }
 {
     let energy = counted(terms, row);
-    if row.kind == THERMAL {
-        return thermal_weight(baseline(terms, row.capacity), row.capacity, energy);
-    }
-    energy
+    thermal_weight(baseline(terms, row.capacity), row.capacity, energy).or(
+        row.kind == THERMAL,
+        energy,
+    )
 }
 
-// The cap of a row, 0 for one that does not pay.
+// The cap of a row, 0 for one that does not pay: no energy has cap 0, so that of the caps by either kind one adds nothing.
 pub fn cap(terms: Terms, tariff: Hao, row: Row) -> Fen
     ensures { λ c. ⌜ c .0 ≡ cap terms (tariff .0) row ⌝ }
 {
     let energy = counted(terms, row);
-    if row.kind == THERMAL {
-        return energy.thermal_cap(tariff);
-    }
-    energy.renewable_cap(tariff)
+    let thermal = row.kind == THERMAL;
+    let unit = energy.when(thermal).thermal_cap(tariff);
+    let farm = energy.when(!thermal).renewable_cap(tariff);
+    Fen(unit.0 + farm.0)
 }

@@ -3,27 +3,30 @@
 --   theirs-of, own-of, under-none                 what a walk over an accepted pair asks for at its start
 --   named-theirs, named-own, named-none           the bytes of an id's row
 --   Sourced                                       how far the column of sources has come; sourced-none, -next, -ends: its steps
---   own-source, their-source, source-in           the row that counts, by its source
+--   part-row                                      a row is read from its bytes alone
+--   own-source, their-source, source-in           the bytes that count, by the row's source
 use mathlib.Core.Path.{_≡_, refl, sym, _∙_}
 use mathlib.Core.Logic.{_⊎_, inl, inr, ⊎-elim}
 use Prim.Native.Nat.{ℕ, _+_, _-_, _*_, _≤_, _<_}
 use mathlib.Core.Bool.{Bool, true, false, not, cond, _&&_}
 use mathlib.Core.List.{List, [], _∷_}
+use native.Mathlib.Nat.{add-zero}
 use native.Mathlib.Omega.{arith}
 use lib.Dec.{eqb, ltb}
-use lib.ListN.{length, take, drop, set}
+use lib.ListN.{length, take, drop, set, length-drop, take-append-drop}
+use lib.Seq.{length-take-le}
 use borrow.Author.Tests.{lt-ltb, le-ltb, ltb-true, not-false}
 use Rattle.columns.specs.Table.{table}
 use Rattle.records.specs.Buffer.{put}
 use Rattle.columns.proofs.Table.{table-length, table-next}
 use Rattle.records.proofs.Buffer.{put-length, put-none, put-put, set-put}
+use Rattle.records.proofs.Record.{record-drop, record-front}
 use Rattle.columns.proofs.First.{left-true}
 use Rattle.columns.proofs.Sum.{lt-or-le}
-use Rattle.files.specs.Layout.{headSize, rowSize, correctionHeadSize, rowAt, rowStart, correctionStart, rowCount, correctionCount}
+use Rattle.files.specs.Layout.{headSize, rowSize, correctionHeadSize, rowWidths, rowAt, rowStart, correctionStart, rowCount, correctionCount}
 use Rattle.files.specs.Walk.{idOf, findId, inCorrection, Rows, Under, Sought}
 use Rattle.files.specs.Order.{fileFault, verdictOf}
-use Rattle.files.specs.Counting.{part, named, countingBytes, sourceOf, countingRow}
-use Rattle.files.specs.declared.Row.{Row}
+use Rattle.files.specs.Counting.{part, named, countingBytes, sourceOf, countingRow, Shows}
 use Rattle.files.specs.declared.Verdict.{Verdict}
 use Rattle.files.specs.declared.Verdict.the-variants.{Accepted, Refused}
 use Rattle.files.proofs.Answer.{refused-of}
@@ -157,6 +160,13 @@ module _ (s k : List ℕ) (n m : ℕ) (out₀ out : List ℕ) (i j : ℕ) (t : S
 
 -- ---- the row that counts, by its source
 
+part-row : (s : List ℕ) (at : ℕ) → at + rowSize ≤ length s → Shows (part s at) (rowAt s at)
+unfolding rowAt
+part-row s at l =
+    let long : length (part s at) ≡ rowSize = length-take-le rowSize (drop at s) (omega (arith, length-drop at s)) in
+    let front = record-front rowWidths (part s at) (drop rowSize (drop at s)) 0 (omega arith) in
+    record { long = long; is = rw (← front, take-append-drop rowSize (drop at s), record-drop rowWidths s at 0, add-zero at) }
+
 module _ (s k : List ℕ) (i v : ℕ) (e : v ≡ sourceOf s k i) where
   abbrev j : ℕ
   j = inCorrection k (idOf s headSize i)
@@ -175,9 +185,11 @@ module _ (s k : List ℕ) (i v : ℕ) (e : v ≡ sourceOf s k i) where
     go true q = inr (q, e ∙ rw q)
     go false q = inl (q, e ∙ rw q)
 
-  pub own-source : (r : Row) → v ≡ 0 → r ≡ rowAt s (rowStart i) → r ≡ countingRow s k i
+  pub own-source : (n : ℕ) (p : List ℕ) → verdictOf s k ≡ Accepted n → i < n → v ≡ 0 → p ≡ part s (rowStart i) → Shows p (countingRow s k i)
   unfolding countingRow
-  own-source r z p = ⊎-elim (λ (w : Unnamed). rw (w .0) p) (λ (w : Named). absurd (omega (arith, w .1))) either
+  own-source n p h l z is =
+      ⊎-elim (λ (w : Unnamed). rw (w .0, is) (part-row s (rowStart i) (accepted-rows s k n h .inside i l)))
+      (λ (w : Named). absurd (omega (arith, w .1))) either
 
   module _ (named : v ≡ 0 → ⊥) where
     source-in : v - 1 < correctionCount k
@@ -187,11 +199,12 @@ module _ (s k : List ℕ) (i v : ℕ) (e : v ≡ sourceOf s k i) where
     pub their-in : (n : ℕ) → verdictOf s k ≡ Accepted n → correctionStart (v - 1) + rowSize ≤ length k
     their-in n h = accepted-corrected s k n h .rows .inside (v - 1) source-in
 
-    pub their-source : (r : Row) → r ≡ rowAt k (correctionStart (v - 1)) → r ≡ countingRow s k i
+    pub their-source : (n : ℕ) (p : List ℕ) → verdictOf s k ≡ Accepted n → p ≡ part k (correctionStart (v - 1)) → Shows p (countingRow s k i)
     unfolding countingRow
-    their-source r p =
+    their-source n p h is =
         ⊎-elim (λ (w : Unnamed). absurd (named (w .1)))
-        (λ (w : Named). let g : v - 1 ≡ j = omega (arith, w .1) in rw (w .0, ← g) p) either
+        (λ (w : Named). let g : v - 1 ≡ j = omega (arith, w .1) in
+        rw (w .0, ← g, is) (part-row k (correctionStart (v - 1)) (their-in n h))) either
 
 module _ (s k : List ℕ) (n i : ℕ) (h : verdictOf s k ≡ Accepted n) (l : i < n) where
   pub own-in : rowStart i + rowSize ≤ length s

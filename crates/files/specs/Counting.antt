@@ -1,9 +1,10 @@
 -- Which bytes count for a row, and the rows that count (01, The files).
 use Prim.Native.Nat.{ℕ, _+_}
+use mathlib.Core.Path.{_≡_}
 use mathlib.Core.Bool.{cond}
 use mathlib.Core.List.{List, []}
 use lib.Dec.{ltb}
-use lib.ListN.{take, drop}
+use lib.ListN.{length, take, drop}
 use Rattle.files.specs.Layout.{headSize, rowSize, rowStart, correctionStart, rowAt, rowCount, correctionCount}
 use Rattle.files.specs.Walk.{idOf, inInterval, inCorrection}
 use Rattle.files.specs.Order.{fileFault}
@@ -34,3 +35,8 @@ unfoldable pub countingRow : List ℕ → List ℕ → ℕ → Row
 countingRow s k i =
     let j = inCorrection k (idOf s headSize i) in
     cond (ltb j (correctionCount k)) (rowAt k (correctionStart j)) (rowAt s (rowStart i))
+
+-- bytes of a row alone, and the row that they say
+pub record Shows (p : List ℕ) (r : Row) : Type 0 where
+  pub long : length p ≡ rowSize
+  pub is : rowAt p 0 ≡ r

@@ -19,7 +19,7 @@ ghost use Rattle.records.specs.Buffer.{put};
 ghost use Rattle.files.specs.Layout.{rowSize, correctionHeadSize, correctionCount};
 ghost use Rattle.files.specs.Order.{verdictOf};
 ghost use Rattle.files.specs.Walk.{idOf, Rows};
-ghost use Rattle.files.specs.Counting.{part, named, countingBytes, sourceOf, countingRow};
+ghost use Rattle.files.specs.Counting.{part, named, countingBytes, sourceOf, countingRow, Shows};
 
 // How many rows a correction has that is sound or absent.
 fn named_rows(k: &[u8]) -> usize
@@ -108,15 +108,36 @@ pub fn sources(interval: &[u8], correction: &[u8], n: usize, out: &mut [u16; 256
     }
 }
 
-// The row that counts for row i of an accepted pair of n rows, by its source.
-pub fn counting_row(interval: &[u8], correction: &[u8], n: usize, i: usize, source: u16) -> Row
+// The bytes that count for row i of an accepted pair of n rows, by its source.
+fn counting_part<'a>(
+    interval: &'a [u8],
+    correction: &'a [u8],
+    n: usize,
+    i: usize,
+    source: u16,
+) -> &'a [u8]
+    requires { ⌜ verdictOf (now interval) (now correction) ≡ Verdict.Accepted n ⌝ }
+    requires { ⌜ (i < n) × (source ≡ sourceOf (now interval) (now correction) i) ⌝ }
+    ensures { λ r. ⌜ Shows (now r) (countingRow (now (interval .entry)) (now (correction .entry)) i) ⌝ }
+{
+    if source == 0 {
+        return part_at(interval, HEAD + i * ROW);
+    }
+    let j = (source as usize) - 1;
+    part_at(correction, CORRECTION_HEAD + j * ROW)
+}
+
+// The row that counts, read from one slice: of two rows already read the compiler chooses each byte by itself.
+pub fn counting_row<'a>(
+    interval: &'a [u8],
+    correction: &'a [u8],
+    n: usize,
+    i: usize,
+    source: u16,
+) -> Row
     requires { ⌜ verdictOf (now interval) (now correction) ≡ Verdict.Accepted n ⌝ }
     requires { ⌜ (i < n) × (source ≡ sourceOf (now interval) (now correction) i) ⌝ }
     ensures { λ r. ⌜ r ≡ countingRow (now (interval .entry)) (now (correction .entry)) i ⌝ }
 {
-    if source == 0 {
-        return row_at(interval, HEAD + i * ROW);
-    }
-    let j = (source as usize) - 1;
-    row_at(correction, CORRECTION_HEAD + j * ROW)
+    row_at(counting_part(interval, correction, n, i, source), 0)
 }

@@ -2,7 +2,6 @@
 -- orders as keys for both tiers (proofs/Groups.antt), with bids for one (proofs/Single.antt).
 --     before-next     what stands before the next key
 --     before-rise     what stands before a key rises with it
---     before-skip     nothing is added by keys at which no band has a width
 --     before-all      past every key stand all bands
 --     peers-..        the bands of one key: as many as rows; at each row its width if it is of that key, else 0
 --     shared-le       a band gets at most its width
@@ -46,13 +45,6 @@ cond-rise : (o j k w : ℕ) → j ≤ k → cond (ltb o j) w 0 ≤ cond (ltb o k
 cond-rise o j k w h =
     ⊎-elim (λ (l : o < j). rw (lt-ltb o j l, lt-ltb o k (omega arith)) (le-refl w))
     (λ (m : j ≤ o). rw (le-ltb o j m) zero-le) (lt-or-le o j)
-
--- keys from j on and below k make no difference where the width is 0
-pub cond-skip : (o j k w : ℕ) → j ≤ k → (j ≤ o → o < k → w ≡ 0) → cond (ltb o j) w 0 ≡ cond (ltb o k) w 0
-cond-skip o j k w h e =
-    ⊎-elim (λ (m : o < j). rw (lt-ltb o j m, lt-ltb o k (omega arith)))
-    (λ (m : j ≤ o). ⊎-elim (λ (l : o < k). rw (le-ltb o j m, lt-ltb o k l) (sym (e m l)))
-    (λ (l : k ≤ o). rw (le-ltb o j m, le-ltb o k l)) (lt-or-le o k)) (lt-or-le o j)
 
 module _ (n : ℕ) (key width : ℕ → ℕ) where
   -- the widths of the bands before key k, added up
@@ -107,16 +99,6 @@ module _ (n : ℕ) (key width : ℕ → ℕ) where
   unfolding before
   before-rise j k h =
       sum-le n (λ i. cond (ltb (key i) j) (width i) 0) (λ i. cond (ltb (key i) k) (width i) 0) (λ i l. cond-rise (key i) j k (width i) h)
-
-  -- no band with a width has a key from j on and below k
-  abbrev pub Empty : ℕ → ℕ → Type 0
-  Empty j k = (i : ℕ) → i < n → j ≤ key i → key i < k → width i ≡ 0
-
-  pub before-skip : (j k : ℕ) → j ≤ k → Empty j k → before j ≡ before k
-  unfolding before
-  before-skip j k h e =
-      sum-same n (λ i. cond (ltb (key i) j) (width i) 0) (λ i. cond (ltb (key i) k) (width i) 0)
-      (λ i l. cond-skip (key i) j k (width i) h (e i l))
 
   pub before-zero : before 0 ≡ 0
   unfolding before

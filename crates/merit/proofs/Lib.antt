@@ -4,5 +4,4 @@ pub mod Laws
 pub mod OneTier
 pub mod Apart
 pub mod Steps
-pub mod Next
 pub mod Walking

@@ -9,8 +9,8 @@ use mathlib.Core.Logic.{⊎-elim}
 use mathlib.Core.Bool.{cond}
 use mathlib.Core.List.{List}
 use native.Mathlib.Omega.{arith}
-use lib.Dec.{eqb}
-use lib.ListN.{length}
+use lib.Dec.{ltb, eqb}
+use lib.ListN.{length, List·getD-eq-default}
 use Rattle.columns.specs.Sum.{sumTo, whole}
 use Rattle.columns.specs.Table.{at}
 use Rattle.columns.proofs.Sum.{lt-or-le, sum-same}
@@ -19,13 +19,17 @@ use Rattle.share.specs.Share.{share}
 use Rattle.share.proofs.Laws.{shares-at, shares-length}
 use Rattle.merit.specs.OneTier.{under, equal, below, groupIn, dueIn, calledIn, tierCalls}
 use Rattle.merit.specs.Walk.{partsIn}
-use Rattle.merit.proofs.Keyed.{before, Empty, before-next, before-rise, before-skip, before-zero, before-le, before-all}
-use Rattle.merit.proofs.Keyed.{peers, portion, shared, shared-le, shared-past, shared-met, shared-part, shared-sum}
+use Rattle.merit.proofs.Keyed.{before, cond-le, before-next, before-rise, before-zero, before-le, before-all}
+use Rattle.merit.proofs.Keyed.{peers, portion, shared, shared-le, shared-past, shared-met, shared-full, shared-part, shared-sum}
 
 module _ (ws bs : List ℕ) where
   pub group-length : (k : ℕ) → length (groupIn ws bs k) ≡ length ws
   unfolding groupIn
   group-length k = table-length (length ws) (equal ws bs k)
+
+  pub under-past : (k i : ℕ) → length ws ≤ i → under ws bs k i ≡ 0
+  unfolding under
+  under-past k i l = omega (arith, cond-le (ltb (at bs i) k) (at ws i), List·getD-eq-default ws 0 l)
 
   pub below-next : (k : ℕ) → below ws bs (suc k) ≡ below ws bs k + whole (groupIn ws bs k)
   unfolding below under groupIn equal before peers
@@ -34,10 +38,6 @@ module _ (ws bs : List ℕ) where
   pub below-rise : (j k : ℕ) → j ≤ k → below ws bs j ≤ below ws bs k
   unfolding below under before
   below-rise j k h = before-rise (length ws) (at bs) (at ws) j k h
-
-  pub below-skip : (j k : ℕ) → j ≤ k → Empty (length ws) (at bs) (at ws) j k → below ws bs j ≡ below ws bs k
-  unfolding below under before
-  below-skip j k h e = before-skip (length ws) (at bs) (at ws) j k h e
 
   pub below-zero : below ws bs 0 ≡ 0
   unfolding below under before
@@ -67,6 +67,14 @@ module _ (need : ℕ) (ws bs : List ℕ) (first : ℕ) where
   pub called-met : (i : ℕ) → need ≤ below ws bs (at bs i) → calledIn need ws bs first i ≡ 0
   unfolding calledIn dueIn groupIn equal shared portion peers
   called-met i h = shared-met (length ws) (at bs) (at ws) left first i (omega arith)
+
+  pub called-full : (i : ℕ) → below ws bs (suc (at bs i)) ≤ need → calledIn need ws bs first i ≡ at ws i
+  called-full i h =
+      ⊎-elim
+      (λ (l : i < length ws).
+      let enough : whole (groupIn ws bs (at bs i)) ≤ left (at bs i) = omega (arith, below-next ws bs (at bs i)) in
+      unfold calledIn dueIn groupIn equal shared portion peers in shared-full (length ws) (at bs) (at ws) left first i l (unfold groupIn equal peers in enough))
+      (λ (l : length ws ≤ i). omega (arith, called-past i l, List·getD-eq-default ws 0 l)) (lt-or-le i (length ws))
 
   called-part : (k i : ℕ) → share (dueIn need ws bs k) (groupIn ws bs k) first i ≡ cond (eqb (at bs i) k) (calledIn need ws bs first i) 0
   unfolding calledIn dueIn groupIn equal shared portion peers

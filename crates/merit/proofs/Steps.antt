@@ -1,12 +1,13 @@
 -- What the small steps of the code come to, each lemma in the shape of one need.
-use Prim.Native.Nat.{ℕ, _+_, _*_, _≤_, _<_, min}
+use Prim.Native.Nat.{ℕ, _+_, _-_, _*_, _≤_, _<_, min}
 use mathlib.Core.Path.{_≡_, refl, ap, sym, _∙_}
+use mathlib.Core.Bool.{Bool, true, cond, _&&_}
 use mathlib.Core.List.{List}
-use native.Mathlib.Numerals.{add-one}
 use native.Mathlib.Omega.{arith}
-use lib.Dec.{eqb}
+use lib.Dec.{ltb, eqb}
 use lib.ListN.{length, set, take}
-use borrow.Author.Tests.{lt-ltb, le-ltb, eq-eqb, ne-eqb}
+use borrow.Author.Tests.{ltb-true}
+use Rattle.columns.proofs.First.{left-true, right-true}
 use Rattle.columns.specs.Sum.{sumTo, whole, maxTo, maxWhere}
 use Rattle.columns.specs.Table.{at, table}
 use Rattle.columns.proofs.Sum.{sum-next, sum-bound, max-where-next}
@@ -16,60 +17,21 @@ use Rattle.columns.proofs.Whole.{whole-table}
 use Rattle.share.specs.Share.{shares}
 use Rattle.share.specs.Split.{Splittable}
 use Rattle.share.proofs.Laws.{shares-are-weights}
-use Rattle.merit.specs.OneTier.{equal, groupIn}
+use Rattle.merit.specs.OneTier.{under, equal, below, groupIn}
 use Rattle.merit.specs.Price.{delivers, price}
 use Rattle.merit.specs.Ready.{Columns, Ready}
-use Rattle.merit.specs.Walk.{Room, Blank, sooner, nextIn, nextBid, partsIn, higher}
+use Rattle.merit.specs.Walk.{past, Margin, cheapIn, Room, Blank, partsIn, higher}
 use Rattle.merit.proofs.Keyed.{cond-le}
+use Rattle.merit.proofs.OneTier.{below-zero}
 
-module _ (k best w bid : ℕ) where
-  pub sooner-none : w ≡ 0 → best ≡ sooner k best w bid
-  unfolding sooner
-  sooner-none e = rw (eq-eqb w 0 e)
-
-  pub sooner-early : (w ≡ 0 → ⊥) → bid < k → best ≡ sooner k best w bid
-  unfolding sooner
-  sooner-early h l = rw (ne-eqb w 0 h, lt-ltb bid k l)
-
-  pub sooner-min : (w ≡ 0 → ⊥) → k ≤ bid → sooner k best w bid ≡ min best bid
-  unfolding sooner
-  sooner-min h l = rw (ne-eqb w 0 h, le-ltb bid k l)
-
-  pub sooner-it : (w ≡ 0 → ⊥) → k ≤ bid → bid < best → bid ≡ sooner k best w bid
-  sooner-it h l m = omega (arith, sooner-min h l)
-
-  pub sooner-not : (w ≡ 0 → ⊥) → k ≤ bid → best ≤ bid → best ≡ sooner k best w bid
-  sooner-not h l m = omega (arith, sooner-min h l)
-
-pub next-none : (k : ℕ) (ws bs : List ℕ) → 65536 ≡ nextIn k ws bs 0
-unfolding nextIn
-next-none k ws bs = refl
-
-pub next-more : (k : ℕ) (ws bs : List ℕ) (i next w bid r : ℕ) → next ≡ nextIn k ws bs i → w ≡ at ws i → bid ≡ at bs i
-    → r ≡ sooner k next w bid → r ≡ nextIn k ws bs (i + 1)
-unfolding nextIn
-next-more k ws bs i next w bid r e f g h = rw (add-one, h, e, f, g)
-
-pub next-all : (k : ℕ) (ws bs : List ℕ) (i next : ℕ) → next ≡ nextIn k ws bs i → i ≤ length ws → length ws ≤ i → next ≡ nextBid k ws bs
-unfolding nextBid
-next-all k ws bs i next e l m = let s : i ≡ length ws = omega arith in rw (← s) e
-
-module _ (top i : ℕ) (bs cs es : List ℕ) where
-  pub higher-uncalled : at cs i ≡ 0 → top ≡ higher top i bs cs es
+module _ (top i : ℕ) (bs cs es : List ℕ) (x bid : ℕ) (counts : x ≡ cond (delivers (at cs i) (at es i)) (at bs i) 0) (is : bid ≡ x) where
+  pub higher-it : top < bid → bid ≡ higher top i bs cs es
   unfolding higher
-  higher-uncalled e = rw (le-ltb 0 (at cs i) (omega arith)) (omega arith)
+  higher-it l = omega (arith, counts)
 
-  pub higher-undelivered : (at cs i ≡ 0 → ⊥) → at es i ≡ 0 → top ≡ higher top i bs cs es
+  pub higher-not : bid ≤ top → top ≡ higher top i bs cs es
   unfolding higher
-  higher-undelivered h e = rw (lt-ltb 0 (at cs i) (omega arith), le-ltb 0 (at es i) (omega arith)) (omega arith)
-
-  pub higher-it : (at cs i ≡ 0 → ⊥) → (at es i ≡ 0 → ⊥) → (bid : ℕ) → bid ≡ at bs i → top < bid → bid ≡ higher top i bs cs es
-  unfolding higher
-  higher-it h k bid e l = rw (lt-ltb 0 (at cs i) (omega arith), lt-ltb 0 (at es i) (omega arith)) (omega arith)
-
-  pub higher-not : (at cs i ≡ 0 → ⊥) → (at es i ≡ 0 → ⊥) → (bid : ℕ) → bid ≡ at bs i → bid ≤ top → top ≡ higher top i bs cs es
-  unfolding higher
-  higher-not h k bid e l = rw (lt-ltb 0 (at cs i) (omega arith), lt-ltb 0 (at es i) (omega arith)) (omega arith)
+  higher-not l = omega (arith, counts)
 
 -- the highest bid among the first n rows that deliver
 unfoldable pub highest : List ℕ → List ℕ → List ℕ → ℕ → ℕ
@@ -96,47 +58,114 @@ pub copied-all : (s start now : List ℕ) (i : ℕ) → Reached 0 (at s) start n
 copied-all s start now i r e l =
     reached-all 0 (at s) start now i r (omega (arith, r .room)) ∙ ap (λ (n : ℕ). table n (at s)) e ∙ sym (table-list 0 s)
 
-module _ (k : ℕ) (ws bs : List ℕ) where
-  pub member-it : (w own i : ℕ) → w ≡ at ws i → own ≡ at bs i → own ≡ k → w ≡ equal ws bs k i
+pub width-small : (ws bs : List ℕ) → Columns ws bs → (t : Bool) (i x : ℕ) → x ≡ cond t (at ws i) 0 → x ≤ 250000
+width-small ws bs r t i x e = omega (arith, cond-le t (at ws i), r .narrow i)
+
+module _ (ws bs : List ℕ) (k i x : ℕ) where
+  pub cheaper-is : x ≡ cond (ltb (at bs i) k) (at ws i) 0 → x ≡ under ws bs k i
+  unfolding under
+  cheaper-is e = e
+
+  pub member-is : x ≡ cond (eqb (at bs i) k) (at ws i) 0 → x ≡ equal ws bs k i
   unfolding equal
-  member-it w own i e f g = rw (eq-eqb (at bs i) k (sym f ∙ g)) e
+  member-is e = e
 
-  pub member-not : (own i : ℕ) → own ≡ at bs i → (own ≡ k → ⊥) → 0 ≡ equal ws bs k i
-  unfolding equal
-  member-not own i f g = rw (ne-eqb (at bs i) k (λ e. g (f ∙ e)))
+-- the guess is inside the range
+pub guessed : (lo hi : ℕ) → ltb lo 1024 && ltb 1024 hi ≡ true → (lo < 1024) × (1024 < hi)
+guessed lo hi e =
+    (ltb-true lo 1024 (left-true (ltb lo 1024) (ltb 1024 hi) e), ltb-true 1024 hi (right-true (ltb lo 1024) (ltb 1024 hi) e))
 
-  -- the bands of bid k before row i stand in their places, and `sum` is theirs
-  pub record Grouped (start now : List ℕ) (sum i : ℕ) : Type 0 where
-    pub within : i ≤ length ws
-    pub reached : Reached 0 (equal ws bs k) start now i
-    pub sum-is : sum ≡ sumTo i (equal ws bs k)
-    pub small : sum ≤ 250000 * i
+-- lower bids than lo do not pass the need, lower ones than hi do
+pub record Bracket (need : ℕ) (ws bs : List ℕ) (lo hi : ℕ) : Type 0 where
+  pub apart : lo < hi
+  pub inside : hi ≤ past
+  pub reached : below ws bs lo ≤ need
+  pub passed : need < below ws bs hi
 
-  pub grouped-none : (start : List ℕ) → Grouped start start 0 0
+module _ (need : ℕ) (ws bs : List ℕ) where
+  pub margin-past : (s : ℕ) → s ≡ below ws bs 65536 → s ≤ need → Margin need ws bs 65536
+  margin-past s e l = record { reached = omega arith; inside = omega arith; passed = λ m. absurd (omega arith) }
+
+  pub bracket-none : (s : ℕ) → s ≡ below ws bs 65536 → need < s → Bracket need ws bs 0 65536
+  bracket-none s e l = record { apart = omega arith; inside = omega arith; reached = omega (arith, below-zero ws bs); passed = omega arith }
+
+  module _ (lo hi : ℕ) (b : Bracket need ws bs lo hi) where
+    pub bracket-low : (mid s : ℕ) → mid < hi → s ≡ below ws bs mid → s ≤ need → Bracket need ws bs mid hi
+    bracket-low mid s l e h = record { apart = l; inside = b .inside; reached = omega arith; passed = b .passed }
+
+    pub bracket-high : (mid s : ℕ) → lo < mid → mid < hi → s ≡ below ws bs mid → need < s → Bracket need ws bs lo mid
+    bracket-high mid s l m e h = record { apart = l; inside = omega (arith, b .inside); reached = b .reached; passed = omega arith }
+
+    pub margin-last : hi - lo ≤ 1 → Margin need ws bs lo
+    margin-last l =
+        let e : hi ≡ lo + 1 = omega (arith, b .apart) in
+        record { reached = b .reached; inside = omega (arith, b .apart, b .inside); passed = λ m. rw (← e) (b .passed) }
+
+-- of the first i numbers of f the sum is known
+pub record Summed (f : ℕ → ℕ) (n sum i : ℕ) : Type 0 where
+  pub within : i ≤ n
+  pub sum-is : sum ≡ sumTo i f
+  pub small : sum ≤ 250000 * i
+
+module _ (f : ℕ → ℕ) (n : ℕ) where
+  pub summed-none : Summed f n 0 0
   unfolding sumTo
-  grouped-none start = record { within = omega arith; reached = reached-none 0 (equal ws bs k) start; sum-is = refl; small = omega arith }
+  summed-none = record { within = omega arith; sum-is = refl; small = omega arith }
 
-  pub grouped-next : (start now : List ℕ) (sum i v : ℕ) → Grouped start now sum i → length start ≡ length ws → i < length ws
-      → v ≡ equal ws bs k i → v ≤ 250000 → Grouped start (set now i v) (sum + v) (i + 1)
-  grouped-next start now sum i v r m l e h =
-      record {
-        within = omega arith;
-        reached = reached-next 0 (equal ws bs k) start now i v (r .reached) (omega (arith, r .reached .room)) e;
-        sum-is = omega (arith, r .sum-is, e, sum-next i (equal ws bs k));
-        small = omega (arith, r .small);
-      }
+  module _ (sum i : ℕ) (r : Summed f n sum i) where
+    pub summed-next : (v : ℕ) → i < n → v ≡ f i → v ≤ 250000 → Summed f n (sum + v) (i + 1)
+    summed-next v l e h =
+        record { within = omega arith; sum-is = omega (arith, r .sum-is, e, sum-next i f); small = omega (arith, r .small) }
 
-  module _ (start now : List ℕ) (sum i : ℕ) (r : Grouped start now sum i) (room : length start ≡ length ws) (end : length ws ≤ i) where
-    pub group-all : now ≡ groupIn ws bs k
+    pub summed-all : n ≤ i → sum ≡ sumTo n f
+    summed-all l = let s : i ≡ n = omega (arith, r .within) in rw (← s) (r .sum-is)
+
+-- f stands in the first i positions, and their sum is known
+pub record Grouped (f : ℕ → ℕ) (n : ℕ) (start now : List ℕ) (sum i : ℕ) : Type 0 where
+  pub reached : Reached 0 f start now i
+  pub summed : Summed f n sum i
+
+module _ (f : ℕ → ℕ) (n : ℕ) (start : List ℕ) where
+  pub grouped-none : Grouped f n start start 0 0
+  grouped-none = record { reached = reached-none 0 f start; summed = summed-none f n }
+
+  module _ (now : List ℕ) (sum i : ℕ) (r : Grouped f n start now sum i) (room : length start ≡ n) where
+    pub grouped-next : (v : ℕ) → i < n → v ≡ f i → v ≤ 250000 → Grouped f n start (set now i v) (sum + v) (i + 1)
+    grouped-next v l e h =
+        record {
+          reached = reached-next 0 f start now i v (r .reached) (omega (arith, r .reached .room)) e;
+          summed = summed-next f n sum i (r .summed) v l e h;
+        }
+
+    pub grouped-all : n ≤ i → now ≡ table n f
+    grouped-all l = reached-all 0 f start now i (r .reached) (omega (arith, r .reached .room)) ∙ ap (λ (m : ℕ). table m f) room
+
+    pub grouped-whole : n ≤ i → sum ≡ whole now
+    grouped-whole l = summed-all f n sum i (r .summed) l ∙ sym (ap whole (grouped-all l) ∙ whole-table n f)
+
+-- what the loops over the bands of a bid end with; the code holds the bid in 32 bits as k
+module _ (ws bs : List ℕ) (k bid : ℕ) (is : k ≡ bid) (start now : List ℕ) (sum i : ℕ) (end : length ws ≤ i) where
+  pub below-told : Summed (under ws bs k) (length ws) sum i → sum ≡ below ws bs bid
+  unfolding below
+  below-told r = rw (← is) (summed-all (under ws bs k) (length ws) sum i r end)
+
+  module _ (r : Grouped (under ws bs k) (length ws) start now sum i) (room : length start ≡ length ws) where
+    pub cheap-told : now ≡ cheapIn ws bs bid
+    unfolding cheapIn
+    cheap-told = rw (← is) (grouped-all (under ws bs k) (length ws) start now sum i r room end)
+
+    pub cheap-sum : sum ≡ below ws bs bid
+    cheap-sum = below-told (r .summed)
+
+  module _ (r : Grouped (equal ws bs k) (length ws) start now sum i) (room : length start ≡ length ws) where
+    pub group-told : now ≡ groupIn ws bs bid
     unfolding groupIn
-    group-all =
-        reached-all 0 (equal ws bs k) start now i (r .reached) (omega (arith, r .reached .room))
-        ∙ ap (λ (n : ℕ). table n (equal ws bs k)) room
+    group-told = rw (← is) (grouped-all (equal ws bs k) (length ws) start now sum i r room end)
 
-    pub group-whole : sum ≡ whole now
-    unfolding groupIn
-    group-whole = let s : i ≡ length ws = omega (arith, r .within) in rw (group-all, whole-table) (rw (← s) (r .sum-is))
+    pub group-sum : sum ≡ whole now
+    group-sum = grouped-whole (equal ws bs k) (length ws) start now sum i r room end
 
+module _ (k : ℕ) (ws bs : List ℕ) where
   group-small : Columns ws bs → whole (groupIn ws bs k) ≤ 250000 * length ws
   unfolding groupIn equal
   group-small r =
@@ -153,9 +182,6 @@ module _ (k : ℕ) (ws bs : List ℕ) where
         fits = omega (arith, r .few, group-small r);
         inside = rw long (m .inside);
       })
-
-pub narrow-width : (ws bs : List ℕ) → Columns ws bs → (i w : ℕ) → w ≡ at ws i → w ≤ 250000
-narrow-width ws bs r i w e = omega (arith, r .narrow i)
 
 module _ (left sum : ℕ) (g out : List ℕ) (first : ℕ) (is : sum ≡ whole g) where
   pub called-in-full : sum ≤ left → out ≡ g → out ≡ partsIn left g first

@@ -21,17 +21,16 @@ use lib.ListN.{length, set, length-set, List·getD-eq-default}
 use lib.Seq.{getD-set-same, getD-set-other}
 use borrow.Author.Tests.{lt-ltb, le-ltb, eqb-true, eqb-false}
 use Rattle.columns.specs.Sum.{sumTo, whole}
-use Rattle.columns.specs.Table.{at}
+use Rattle.columns.specs.Table.{at, table}
 use Rattle.columns.proofs.Sum.{lt-or-le, sum-next, sum-shorter}
 use Rattle.columns.proofs.Rank.{test-or}
-use Rattle.columns.proofs.Table.{table-is}
-use Rattle.merit.specs.OneTier.{below, groupIn, calledIn, tierCalls}
-use Rattle.merit.specs.Ready.{TierCalled}
-use Rattle.merit.specs.Walk.{Room, Blank, past, nextBid, partsIn}
-use Rattle.merit.proofs.Keyed.{cond-next, cond-le, cond-skip, Empty}
-use Rattle.merit.proofs.Next.{next-from, next-empty}
-use Rattle.merit.proofs.OneTier.{below-next, below-rise, below-skip, below-zero, below-le, below-all}
-use Rattle.merit.proofs.OneTier.{called-le, called-past, called-met, partsOf, parts-length, parts-at, parts-sum}
+use Rattle.columns.proofs.Table.{table-length, table-at, table-past, table-is}
+use Rattle.merit.specs.OneTier.{under, below, groupIn, calledIn, tierCalls}
+use Rattle.merit.specs.Ready.{Ready, TierCalled}
+use Rattle.merit.specs.Walk.{Margin, cheapIn, Room, Blank, Begun, past, partsIn}
+use Rattle.merit.proofs.Keyed.{cond-next, cond-le}
+use Rattle.merit.proofs.OneTier.{under-past, below-next, below-rise, below-zero, below-le, below-all}
+use Rattle.merit.proofs.OneTier.{called-le, called-full, called-met, partsOf, parts-length, parts-at, parts-sum}
 
 -- what row j is called for by the bands below bid k
 unfoldable pub done : ℕ → List ℕ → List ℕ → ℕ → ℕ → ℕ → ℕ
@@ -120,28 +119,13 @@ module _ (need : ℕ) (ws bs : List ℕ) (first : ℕ) where
   unfolding done
   done-next k j = rw (add-one k) (cond-next (at bs j) k (calledIn need ws bs first j))
 
-  done-skip : (k n j : ℕ) → k ≤ n → Empty (length ws) (at bs) (at ws) k n → done need ws bs first k j ≡ done need ws bs first n j
-  unfolding done
-  done-skip k n j h e = cond-skip (at bs j) k n (calledIn need ws bs first j) h none
-    where
-      none : k ≤ at bs j → at bs j < n → calledIn need ws bs first j ≡ 0
-      none m l =
-          ⊎-elim (λ (p : j < length ws). omega (arith, called-le need ws bs first j, e j p m l))
-          (λ (p : length ws ≤ j). called-past need ws bs first j p) (lt-or-le j (length ws))
-
-  walked-skip : (k n left : ℕ) (cs ps : List ℕ) → k ≤ past → n ≡ nextBid k ws bs → Walked need ws bs first k left cs ps
-      → Walked need ws bs first n left cs ps
-  walked-skip k n left cs ps h e w =
-      rw e
-      (record {
-        left-is = w .left-is ∙ ap (λ (x : ℕ). need - x) (below-skip ws bs k (nextBid k ws bs) from (next-empty k ws bs));
-        room = w .room;
-        parts-room = w .parts-room;
-        is = λ j. w .is j ∙ done-skip k (nextBid k ws bs) j from (next-empty k ws bs);
-      })
-    where
-      from : k ≤ nextBid k ws bs
-      from = next-from k ws bs h
+  -- where lower bids do not pass the need, bands below k are called in full
+  done-full : (k j : ℕ) → below ws bs k ≤ need → done need ws bs first k j ≡ under ws bs k j
+  unfolding done under
+  done-full k j h =
+      ⊎-elim (λ (l : at bs j < k). rw (lt-ltb (at bs j) k l)
+      (called-full need ws bs first j (rw (← add-one (at bs j)) (omega (arith, below-rise ws bs (at bs j + 1) k (omega arith))))))
+      (λ (l : k ≤ at bs j). rw (le-ltb (at bs j) k l)) (lt-or-le (at bs j) k)
 
   -- the walk may end before bid k if the bands from k up are called for nothing
   ended : (k left : ℕ) (cs ps : List ℕ) → Walked need ws bs first k left cs ps → ((j : ℕ) → k ≤ at bs j → calledIn need ws bs first j ≡ 0)
@@ -158,25 +142,55 @@ module _ (need : ℕ) (ws bs : List ℕ) (first : ℕ) where
           ⊎-elim (λ (m : at bs j < k). rw (lt-ltb (at bs j) k m)) (λ (m : k ≤ at bs j). rw (le-ltb (at bs j) k m) (sym (none j m)))
           (lt-or-le (at bs j) k)
 
-module _ (need : ℕ) (ws bs : List ℕ) (first : ℕ) (cs₀ ps₀ : List ℕ) (good : Blank ws bs first cs₀ ps₀) where
-  pub walked-first : (k : ℕ) → k ≡ nextBid 0 ws bs → Walked need ws bs first k need cs₀ ps₀
-  walked-first k e = walked-skip need ws bs first 0 k need cs₀ ps₀ (omega arith) e start
+-- a need of 0 is met before the walk
+pub ended-unneeded : (need : ℕ) (ws bs : List ℕ) (first : ℕ) (cs : List ℕ) → Ready ws bs first cs → need ≡ 0 → TierCalled need ws bs first need cs
+ended-unneeded need ws bs first cs r z =
+    record {
+      called =
+          unfold tierCalls in
+          table-is 0 cs (length ws) (calledIn need ws bs first) (r .room) (λ j l. r .blank j ∙ sym (called-met need ws bs first j (omega arith)));
+      beyond = omega arith;
+    }
+
+-- what lower bids leave, with what they took, is the need
+pub ended-whole : (need : ℕ) (ws bs : List ℕ) (first k s r : ℕ) (cs : List ℕ) → Margin need ws bs k → s ≡ below ws bs k
+    → TierCalled (need - s + below ws bs k) ws bs first r cs → TierCalled need ws bs first r cs
+ended-whole need ws bs first k s r cs m e t =
+    let all : need - s + below ws bs k ≡ need = omega (arith, m .reached) in rw (← all) t
+
+pub begun : (need : ℕ) (ws bs : List ℕ) (first k : ℕ) (cs₀ cs ps : List ℕ) → Blank ws bs first cs₀ ps → cs ≡ cheapIn ws bs k → Begun ws bs first k cs ps
+begun need ws bs first k cs₀ cs ps b e = record { columns = b .ready .columns; is = e; parts = b .parts }
+
+-- `left` at the start is what bands below k₀ leave of the need
+module _ (start : ℕ) (ws bs : List ℕ) (first k₀ : ℕ) (cs₀ ps₀ : List ℕ) (good : Begun ws bs first k₀ cs₀ ps₀) where
+  abbrev need : ℕ
+  need = start + below ws bs k₀
+
+  begun-long : length cs₀ ≡ length ws
+  unfolding cheapIn
+  begun-long = ap length (good .is) ∙ table-length (length ws) (under ws bs k₀)
+
+  pub walked-first : Walked need ws bs first k₀ start cs₀ ps₀
+  unfolding cheapIn
+  walked-first =
+      record {
+        left-is = omega arith;
+        room = begun-long;
+        parts-room = good .parts .room;
+        is = λ j. ap (λ (l : List ℕ). at l j) (good .is) ∙ stands j ∙ sym (done-full need ws bs first k₀ j (omega arith));
+      }
     where
-      start : Walked need ws bs first 0 need cs₀ ps₀
-      start =
-          record {
-            left-is = omega (arith, below-zero ws bs);
-            room = good .ready .room;
-            parts-room = good .parts .room;
-            is = λ j. unfold done in good .ready .blank j ∙ rw (le-ltb (at bs j) 0 (omega arith));
-          }
+      stands : (j : ℕ) → at (table (length ws) (under ws bs k₀)) j ≡ under ws bs k₀ j
+      stands j =
+          ⊎-elim (λ (l : j < length ws). table-at 0 (length ws) (under ws bs k₀) j l)
+          (λ (l : length ws ≤ j). table-past 0 (length ws) (under ws bs k₀) j l ∙ sym (under-past ws bs k₀ j l)) (lt-or-le j (length ws))
 
   module _ (k left : ℕ) (cs ps : List ℕ) (w : Walked need ws bs first k left cs ps) where
     pub walked-room : Room ws first ps
-    walked-room = record { room = w .parts-room; inside = good .ready .inside }
+    walked-room = record { room = w .parts-room; inside = good .parts .inside }
 
     pub walked-calls : length cs ≡ length cs₀
-    walked-calls = w .room ∙ sym (good .ready .room)
+    walked-calls = w .room ∙ sym begun-long
 
     pub walked-parts : length ps ≡ length ps₀
     walked-parts = w .parts-room ∙ sym (good .parts .room)
@@ -187,7 +201,7 @@ module _ (need : ℕ) (ws bs : List ℕ) (first : ℕ) (cs₀ ps₀ : List ℕ) 
         (w .left-is ∙ ap (λ (x : ℕ). need - x) (below-all ws bs k low))
       where
         low : (j : ℕ) → at bs j < k
-        low j = omega (arith, good .ready .columns .low j)
+        low j = omega (arith, good .columns .low j)
 
     ended-none : left ≡ 0 → TierCalled need ws bs first left cs
     ended-none z =
@@ -195,18 +209,18 @@ module _ (need : ℕ) (ws bs : List ℕ) (first : ℕ) (cs₀ ps₀ : List ℕ) 
         (λ j m. called-met need ws bs first j (omega (arith, w .left-is, below-rise ws bs k (at bs j) m)))
         (omega (arith, w .left-is, below-le ws bs k))
 
-  -- the turn of one bid, from the column cs₁, with `start` left
-  module _ (k start : ℕ) (cs₁ qs ps : List ℕ) (w : Walked need ws bs first k start cs₁ qs) (e : ps ≡ partsIn start (groupIn ws bs k) first) where
+  -- the turn of one bid, from the column cs₁, with `now` left
+  module _ (k now : ℕ) (cs₁ qs ps : List ℕ) (w : Walked need ws bs first k now cs₁ qs) (e : ps ≡ partsIn now (groupIn ws bs k) first) where
     parts-are : ps ≡ partsOf need ws bs first k
     parts-are = e ∙ ap (λ (x : ℕ). partsIn x (groupIn ws bs k) first) (w .left-is)
 
     parts-long : length ps ≡ length ws
     parts-long = ap length parts-are ∙ parts-length need ws bs first k
 
-    parts-total : sumTo (length ps) (at ps) ≡ min start (whole (groupIn ws bs k))
+    parts-total : sumTo (length ps) (at ps) ≡ min now (whole (groupIn ws bs k))
     parts-total =
         rw parts-long
-        (ap (λ (l : List ℕ). sumTo (length ws) (at l)) parts-are ∙ parts-sum need ws bs first (good .ready .inside) k
+        (ap (λ (l : List ℕ). sumTo (length ws) (at l)) parts-are ∙ parts-sum need ws bs first (good .parts .inside) k
         ∙ ap (λ (x : ℕ). min x (whole (groupIn ws bs k))) (sym (w .left-is)))
 
     -- what row j is called for below the next bid
@@ -214,13 +228,13 @@ module _ (need : ℕ) (ws bs : List ℕ) (first : ℕ) (cs₀ ps₀ : List ℕ) 
     called-next j =
         omega (arith, w .is j, ap (λ (l : List ℕ). at l j) parts-are, parts-at need ws bs first k j, done-next need ws bs first k j)
 
-    pub turned-first : Turned start cs₁ ps 0 start cs₁
+    pub turned-first : Turned now cs₁ ps 0 now cs₁
     unfolding sumTo
     turned-first =
         record {
-          few = omega (arith, parts-long, good .ready .columns .few);
+          few = omega (arith, parts-long, good .columns .few);
           level = w .room ∙ sym parts-long;
-          small = λ j. omega (arith, called-next j, done-le need ws bs first (k + 1) j, good .ready .columns .narrow j);
+          small = λ j. omega (arith, called-next j, done-le need ws bs first (k + 1) j, good .columns .narrow j);
           covered = omega (arith, parts-total);
           within = omega arith;
           room = refl;
@@ -228,31 +242,29 @@ module _ (need : ℕ) (ws bs : List ℕ) (first : ℕ) (cs₀ ps₀ : List ℕ) 
           is = λ j. rw (le-ltb j 0 (omega arith)) (omega arith);
         }
 
-    module _ (i left : ℕ) (cs : List ℕ) (t : Turned start cs₁ ps i left cs) where
+    module _ (i left : ℕ) (cs : List ℕ) (t : Turned now cs₁ ps i left cs) where
       turn-done : sumTo i (at ps) ≡ sumTo (length ps) (at ps) → Walked need ws bs first (k + 1) left cs ps
       turn-done all =
           record {
             left-is = rw (add-one k) (omega (arith, t .left-is, all, parts-total, w .left-is, below-next ws bs k));
             room = t .room ∙ w .room;
             parts-room = parts-long;
-            is = λ j. all-called start cs₁ ps i left cs t all j ∙ called-next j;
+            is = λ j. all-called now cs₁ ps i left cs t all j ∙ called-next j;
           }
 
-      pub walked-next : (n : ℕ) → k < past → length ps ≤ i → n ≡ nextBid (k + 1) ws bs → Walked need ws bs first n left cs ps
-      walked-next n h l f =
-          let all : i ≡ length ps = omega (arith, t .within) in
-          walked-skip need ws bs first (k + 1) n left cs ps (omega arith) f (turn-done (ap (λ (m : ℕ). sumTo m (at ps)) all))
+      pub walked-next : length ps ≤ i → Walked need ws bs first (k + 1) left cs ps
+      walked-next l = let all : i ≡ length ps = omega (arith, t .within) in turn-done (ap (λ (m : ℕ). sumTo m (at ps)) all)
 
       pub turned-calls : (x : ℕ) → length (set cs i x) ≡ length cs₀
-      turned-calls x = length-set cs i x ∙ t .room ∙ w .room ∙ sym (good .ready .room)
+      turned-calls x = length-set cs i x ∙ t .room ∙ w .room ∙ sym begun-long
 
       pub turned-parts : length ps ≡ length ps₀
       turned-parts = parts-long ∙ sym (good .parts .room)
 
-    pub ended-met : (i left : ℕ) (cs : List ℕ) → Turned start cs₁ ps i left cs → i < length ps → left - at ps i ≡ 0
+    pub ended-met : (i left : ℕ) (cs : List ℕ) → Turned now cs₁ ps i left cs → i < length ps → left - at ps i ≡ 0
         → TierCalled need ws bs first (left - at ps i) (set cs i (at cs i + at ps i))
     ended-met i left cs t l z =
-        let next : Turned start cs₁ ps (i + 1) (left - at ps i) (set cs i (at cs i + at ps i)) = turned-next start cs₁ ps i left cs t l in
+        let next : Turned now cs₁ ps (i + 1) (left - at ps i) (set cs i (at cs i + at ps i)) = turned-next now cs₁ ps i left cs t l in
         ended-none (k + 1) (left - at ps i) (set cs i (at cs i + at ps i)) ps
         (turn-done (i + 1) (left - at ps i) (set cs i (at cs i + at ps i)) next
         (omega (arith, next .left-is, next .covered, sum-shorter (i + 1) (length ps) (at ps) (omega arith)))) z

@@ -1,32 +1,29 @@
 -- What the steps of the walk come to, and those of the search for the price. No promise of a public function speaks of them.
-use Prim.Native.Nat.{ℕ, zero, suc, _<_, min, max}
+use Prim.Native.Nat.{ℕ, _+_, _≤_, _<_, min, max}
 use mathlib.Core.Path.{_≡_}
 use mathlib.Core.Bool.{cond}
 use mathlib.Core.List.{List}
-use lib.Dec.{ltb, eqb}
 use lib.ListN.{length}
 use Rattle.columns.specs.Sum.{whole}
-use Rattle.columns.specs.Table.{at}
+use Rattle.columns.specs.Table.{at, table}
 use Rattle.share.specs.Share.{shares}
+use Rattle.merit.specs.OneTier.{under, below}
 use Rattle.merit.specs.Price.{delivers}
-use Rattle.merit.specs.Ready.{Ready}
+use Rattle.merit.specs.Ready.{Columns, Ready}
 
 -- past every bid
 abbrev pub past : ℕ
 past = 65536
 
--- the lower of two bids, if the second is not below k and is that of a band with a width
-unfoldable pub sooner : ℕ → ℕ → ℕ → ℕ → ℕ
-sooner k best w bid = cond (eqb w 0) best (cond (ltb bid k) best (min best bid))
+-- the bid at which the need is passed: lower bids do not pass it, and with this bid it is passed; `past` if all bands do not pass it
+pub record Margin (need : ℕ) (ws bs : List ℕ) (k : ℕ) : Type 0 where
+  pub reached : below ws bs k ≤ need
+  pub inside : k ≤ past
+  pub passed : k < past → need < below ws bs (k + 1)
 
--- the lowest bid from k up among the first n bands, and `past` if there is none
-unfoldable pub nextIn : ℕ → List ℕ → List ℕ → ℕ → ℕ
-nextIn k ws bs zero = past
-nextIn k ws bs (suc n) = sooner k (nextIn k ws bs n) (at ws n) (at bs n)
-
--- the same among all bands
-unfoldable pub nextBid : ℕ → List ℕ → List ℕ → ℕ
-nextBid k ws bs = nextIn k ws bs (length ws)
+-- the bands that are bid below k: their widths, and 0 for every other row
+unfoldable pub cheapIn : List ℕ → List ℕ → ℕ → List ℕ
+cheapIn ws bs k = table (length ws) (under ws bs k)
 
 -- what of `left` each band of a group is called for
 unfoldable pub partsIn : ℕ → List ℕ → ℕ → List ℕ
@@ -37,7 +34,13 @@ pub record Room (ws : List ℕ) (first : ℕ) (out : List ℕ) : Type 0 where
   pub room : length out ≡ length ws
   pub inside : 0 < length ws → first < length ws
 
--- columns before the walk: nobody is called yet, and there is room for the parts of one bid
+-- columns at the start of the walk: the bands that are bid below k are called in full, and there is room for the parts of one bid
+pub record Begun (ws bs : List ℕ) (first k : ℕ) (cs ps : List ℕ) : Type 0 where
+  pub columns : Columns ws bs
+  pub is : cs ≡ cheapIn ws bs k
+  pub parts : Room ws first ps
+
+-- columns before the tier is called: nobody is called yet, and there is room for the parts of one bid
 pub record Blank (ws bs : List ℕ) (first : ℕ) (cs ps : List ℕ) : Type 0 where
   pub ready : Ready ws bs first cs
   pub parts : Room ws first ps

@@ -1,88 +1,115 @@
 // Merit order (01, Calls and prices; 02, request 1), one tier's columns at a time: the walk over its bids and bands, the calls it makes, the
 // clearing price. Columns hold bare numbers: widths, calls and energies in kWh, bids in li.
 ghost use mathlib.Core.Path.{_≡_};
-ghost use Prim.Native.Nat.{_<_, _≤_};
+ghost use Prim.Native.Nat.{_+_, _<_, _≤_};
 ghost use lib.ListN.{length};
 ghost use Rattle.columns.specs.Sum.{whole};
-ghost use Rattle.columns.specs.Table.{at};
 ghost use Rattle.share.specs.Split.{Splittable};
-ghost use Rattle.merit.specs.OneTier.{equal, groupIn};
+ghost use Rattle.merit.specs.OneTier.{under, equal, below, groupIn};
 ghost use Rattle.merit.specs.Price.{price};
 ghost use Rattle.merit.specs.Ready.{Columns, Ready, TierCalled, OneLength};
-ghost use Rattle.merit.specs.Walk.{Room, Blank, sooner, nextBid, partsIn, higher};
+ghost use Rattle.merit.specs.Walk.{past, Margin, cheapIn, Room, Blank, Begun, partsIn, higher};
+use columns::counted;
 use units::Kwh;
 use units::Li;
 
 // Past every bid: they are below 65,536.
 const PAST: u64 = 65536;
 
-// A row's band in the tier: its width and its bid.
-struct Offer {
-    width: Kwh,
-    bid: Li,
+// Above the bids of all terms so far. It decides nothing: the search looks there first.
+const HIGH: u64 = 1024;
+
+// The width of band i if its bid is below k, and 0 if not.
+fn cheaper(k: u32, i: usize, widths: &[u32], bids: &[u32]) -> Kwh
+    requires { ⌜ Columns (now widths) (now bids) × (i < length (now widths)) ⌝ }
+    ensures { λ r. ⌜ (r .0 ≡ under (now (widths .entry)) (now (bids .entry)) k i) × (r .0 ≤ 250000) ⌝ }
+{
+    Kwh(counted(bids[i] < k, widths[i]))
 }
 
-fn offer_at(i: usize, widths: &[u32], bids: &[u32]) -> Offer
-    requires { ⌜ (i < length (now widths)) × (length (now bids) ≡ length (now widths)) ⌝ }
-    ensures { λ r. ⌜ (r .width .0 ≡ at (now (widths .entry)) i) × (r .bid .0 ≡ at (now (bids .entry)) i) ⌝ }
+// Its width if its bid is k.
+fn member(k: u32, i: usize, widths: &[u32], bids: &[u32]) -> Kwh
+    requires { ⌜ Columns (now widths) (now bids) × (i < length (now widths)) ⌝ }
+    ensures { λ r. ⌜ (r .0 ≡ equal (now (widths .entry)) (now (bids .entry)) k i) × (r .0 ≤ 250000) ⌝ }
 {
-    Offer {
-        width: Kwh::from_column(widths[i]),
-        bid: Li::from_column(bids[i]),
-    }
+    Kwh(counted(bids[i] == k, widths[i]))
 }
 
-// The lower of two bids, if the second is not below `from` and is that of a band with a width.
-fn sooner(from: Li, best: Li, offer: Offer) -> Li
-    ensures { λ r. ⌜ r .0 ≡ sooner (from .0) (best .0) (offer .width .0) (offer .bid .0) ⌝ }
+// The widths of the bands that are bid below a bid, added up.
+fn below(bid: Li, widths: &[u32], bids: &[u32]) -> Kwh
+    requires { ⌜ Columns (now widths) (now bids) × (bid .0 ≤ past) ⌝ }
+    ensures { λ r. ⌜ r .0 ≡ below (now (widths .entry)) (now (bids .entry)) (bid .0) ⌝ }
 {
-    if offer.width.0 == 0 {
-        return best;
-    }
-    if offer.bid.0 < from.0 {
-        return best;
-    }
-    if offer.bid.0 < best.0 {
-        return offer.bid;
-    }
-    best
-}
-
-// The lowest bid from `from` up among the bands with a width, and PAST if there is none.
-fn next_bid(from: Li, widths: &[u32], bids: &[u32]) -> Li
-    requires { ⌜ length (now bids) ≡ length (now widths) ⌝ }
-    ensures { λ r. ⌜ r .0 ≡ nextBid (from .0) (now (widths .entry)) (now (bids .entry)) ⌝ }
-{
-    let mut next = Li(PAST);
+    let k = bid.column();
+    let mut sum = Kwh(0);
     let mut i = 0;
     while i < widths.len() {
-        next = sooner(from, next, offer_at(i, widths, bids));
+        sum = Kwh(sum.0 + cheaper(k, i, widths, bids).0);
         i += 1;
     }
-    next
+    sum
 }
 
-// The width of band i if it is of this bid, and 0 if not.
-fn member(bid: Li, i: usize, widths: &[u32], bids: &[u32]) -> Kwh
-    requires { ⌜ Columns (now widths) (now bids) × (i < length (now widths)) ⌝ }
-    ensures { λ r. ⌜ (r .0 ≡ equal (now (widths .entry)) (now (bids .entry)) (bid .0) i) × (r .0 ≤ 250000) ⌝ }
+// Where the search looks next.
+fn middle(lo: u64, hi: u64) -> Li
+    requires { ⌜ lo + 1 < hi ⌝ }
+    ensures { λ r. ⌜ (lo < r .0) × (r .0 < hi) ⌝ }
 {
-    let offer = offer_at(i, widths, bids);
-    if offer.bid.0 == bid.0 {
-        return offer.width;
+    if (lo < HIGH) & (HIGH < hi) {
+        return Li(HIGH);
     }
-    Kwh(0)
+    Li(columns::middle(lo, hi))
+}
+
+// The bid at which the need is passed, found by halving; past every bid if all bands do not pass it.
+fn margin(need: Kwh, widths: &[u32], bids: &[u32]) -> Li
+    requires { ⌜ Columns (now widths) (now bids) ⌝ }
+    ensures { λ r. ⌜ Margin (need .0) (now (widths .entry)) (now (bids .entry)) (r .0) ⌝ }
+{
+    if below(Li(PAST), widths, bids).0 <= need.0 {
+        return Li(PAST);
+    }
+    let mut lo: u64 = 0;
+    let mut hi: u64 = PAST;
+    while 1 < hi - lo {
+        let mid = middle(lo, hi);
+        if below(mid, widths, bids).0 <= need.0 {
+            lo = mid.0;
+        } else {
+            hi = mid.0;
+        }
+    }
+    Li(lo)
+}
+
+// Calls the bands that are bid below a bid, in full; answers the sum of their widths.
+fn call_below(bid: Li, widths: &[u32], bids: &[u32], called: &mut [u32]) -> Kwh
+    requires { ⌜ Columns (now widths) (now bids) × (bid .0 ≤ past) × (length (now called) ≡ length (now widths)) ⌝ }
+    ensures { λ r. ⌜ (now (called .exit) ≡ cheapIn (now (widths .entry)) (now (bids .entry)) (bid .0))
+        × (r .0 ≡ below (now (widths .entry)) (now (bids .entry)) (bid .0)) ⌝ }
+{
+    let k = bid.column();
+    let mut sum = Kwh(0);
+    let mut i = 0;
+    while i < widths.len() {
+        let width = cheaper(k, i, widths, bids);
+        called[i] = width.0;
+        sum = Kwh(sum.0 + width.0);
+        i += 1;
+    }
+    sum
 }
 
 // The bands of one bid, into `out`; answers the sum of their widths.
 fn group_of(bid: Li, widths: &[u32], bids: &[u32], out: &mut [u64]) -> Kwh
-    requires { ⌜ Columns (now widths) (now bids) × (length (now out) ≡ length (now widths)) ⌝ }
+    requires { ⌜ Columns (now widths) (now bids) × (bid .0 < past) × (length (now out) ≡ length (now widths)) ⌝ }
     ensures { λ r. ⌜ (now (out .exit) ≡ groupIn (now (widths .entry)) (now (bids .entry)) (bid .0)) × (r .0 ≡ whole (now (out .exit))) ⌝ }
 {
+    let k = bid.column();
     let mut sum = Kwh(0);
     let mut i = 0;
     while i < widths.len() {
-        let width = member(bid, i, widths, bids);
+        let width = member(k, i, widths, bids);
         out[i] = width.0 as u64;
         sum = Kwh(sum.0 + width.0);
         i += 1;
@@ -123,16 +150,17 @@ fn parts_in(
     group: &mut [u64],
     out: &mut [u64],
 )
-    requires { ⌜ Columns (now widths) (now bids) × Room (now widths) first (now out) × (length (now group) ≡ length (now widths)) ⌝ }
+    requires { ⌜ Columns (now widths) (now bids) × (bid .0 < past) × Room (now widths) first (now out) × (length (now group) ≡ length (now widths)) ⌝ }
     ensures { λ _. ⌜ now (out .exit) ≡ partsIn (left .0) (groupIn (now (widths .entry)) (now (bids .entry)) (bid .0)) first ⌝ }
 {
     let sum = group_of(bid, widths, bids, group);
     share_group(left, sum, group, first, out);
 }
 
-// The walk over bids and bands, by rising bid, from a column of 0; `group` is room for the bands of one bid, `parts` for what they are
-// called for. It is left as soon as the need is met.
+// The walk over bids and bands, by rising bid, from a bid below which all bands are called in full; `need` is what they leave of it.
+// `group` is room for the bands of one bid, `parts` for what they are called for. It is left as soon as the need is met.
 fn walk(
+    start: Li,
     need: Kwh,
     first: usize,
     widths: &[u32],
@@ -141,11 +169,12 @@ fn walk(
     group: &mut [u64],
     parts: &mut [u64],
 ) -> Kwh
-    requires { ⌜ Blank (now widths) (now bids) first (now called) (now parts) × (length (now group) ≡ length (now widths)) ⌝ }
-    ensures { λ r. ⌜ TierCalled (need .0) (now (widths .entry)) (now (bids .entry)) first (r .0) (now (called .exit)) ⌝ }
+    requires { ⌜ Begun (now widths) (now bids) first (start .0) (now called) (now parts) × (length (now group) ≡ length (now widths)) ⌝ }
+    ensures { λ r. ⌜ TierCalled (need .0 + below (now (widths .entry)) (now (bids .entry)) (start .0)) (now (widths .entry)) (now (bids .entry)) first
+        (r .0) (now (called .exit)) ⌝ }
 {
     let mut left = need;
-    let mut bid = next_bid(Li(0), widths, bids);
+    let mut bid = start;
     'walk: while bid.0 < PAST {
         parts_in(bid, left, first, widths, bids, group, parts);
         let mut i = 0;
@@ -158,9 +187,28 @@ fn walk(
             }
             i += 1;
         }
-        bid = next_bid(Li(bid.0 + 1), widths, bids);
+        bid = Li(bid.0 + 1);
     }
     left
+}
+
+// Finds the bid at which the need is passed, calls lower bids in full, and walks on from there.
+fn call_from(
+    need: Kwh,
+    first: usize,
+    widths: &[u32],
+    bids: &[u32],
+    called: &mut [u32],
+    group: &mut [u64],
+    parts: &mut [u64],
+) -> Kwh
+    requires { ⌜ Blank (now widths) (now bids) first (now called) (now parts) × (length (now group) ≡ length (now widths)) ⌝ }
+    ensures { λ r. ⌜ TierCalled (need .0) (now (widths .entry)) (now (bids .entry)) first (r .0) (now (called .exit)) ⌝ }
+{
+    let start = margin(need, widths, bids);
+    let sum = call_below(start, widths, bids, called);
+    let left = Kwh(need.0 - sum.0);
+    walk(start, left, first, widths, bids, called, group, parts)
 }
 
 // What each row is called for in one tier, from a column of 0; answers the need beyond all its bands.
@@ -168,10 +216,13 @@ pub fn call_tier(need: Kwh, first: usize, widths: &[u32], bids: &[u32], called: 
     requires { ⌜ Ready (now widths) (now bids) first (now called) ⌝ }
     ensures { λ r. ⌜ TierCalled (need .0) (now (widths .entry)) (now (bids .entry)) first (r .0) (now (called .exit)) ⌝ }
 {
+    if need.0 == 0 {
+        return need;
+    }
     let n = widths.len();
     let mut group = [0u64; 256];
     let mut parts = [0u64; 256];
-    walk(
+    call_from(
         need,
         first,
         widths,
@@ -187,13 +238,7 @@ fn higher(top: Li, i: usize, bids: &[u32], called: &[u32], energies: &[u32]) -> 
     requires { ⌜ (i < length (now bids)) × OneLength (now bids) (now called) (now energies) ⌝ }
     ensures { λ r. ⌜ r .0 ≡ higher (top .0) i (now (bids .entry)) (now (called .entry)) (now (energies .entry)) ⌝ }
 {
-    if called[i] == 0 {
-        return top;
-    }
-    if energies[i] == 0 {
-        return top;
-    }
-    let bid = Li::from_column(bids[i]);
+    let bid = Li::from_column(counted((0 < called[i]) & (0 < energies[i]), bids[i]));
     if top.0 < bid.0 {
         return bid;
     }

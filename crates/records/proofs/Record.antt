@@ -5,6 +5,7 @@
 --   fits-each, fits-at   that numbers fit their widths, from and to one order for each position
 --   fields-read, record-read     read after write: fields that fit their widths are read again, whatever stands around them
 --   record-drop, record-behind   reading from a part of a list is reading further on in it
+--   record-front     a record that ends within the first of two joined lists is read from it alone
 --   fields-write, record-write   write after read: bytes, read as fields, are written as the same bytes
 --   fields-fit       fields read from bytes fit their widths
 --   field-put        a number put at the place of field j is the record with that field changed
@@ -121,6 +122,15 @@ record-drop ws s n k = rw (add-assoc n k 2) (fields-drop ws s n (k + 2))
 
 pub record-behind : (ws a b : List ℕ) (n k : ℕ) → length a ≡ n → recordAt ws (a ++ b) (n + k) ≡ recordAt ws b k
 record-behind ws a b n k e = sym (record-drop ws (a ++ b) n k) ∙ ap (λ (s : List ℕ). recordAt ws s k) (drop-at a b n e)
+
+fields-front : (ws a b : List ℕ) (k : ℕ) → k + span ws ≤ length a → fieldsAt ws (a ++ b) k ≡ fieldsAt ws a k
+unfolding fieldsAt
+fields-front [] a b k l = refl
+fields-front (w ∷ ws) a b k l = rw (number-front w a b k (omega arith), fields-front ws a b (k + w) (omega arith))
+
+pub record-front : (ws a b : List ℕ) (k : ℕ) → k + recordSize ws ≤ length a → recordAt ws (a ++ b) k ≡ recordAt ws a k
+unfolding recordAt
+record-front ws a b k l = fields-front ws a b (k + 2) (omega arith)
 
 pub fields-write : (ws s : List ℕ) (k : ℕ) → ((i : ℕ) → getD s i 0 < 256) → k + span ws ≤ length s
     → fieldsBytes ws (fieldsAt ws s k) ≡ take (span ws) (drop k s)

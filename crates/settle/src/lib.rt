@@ -23,7 +23,7 @@ pub enum Answer {
 }
 
 // Settles any interval file with any correction (an empty one is none) into the lent buffer, or refuses and changes nothing.
-pub fn settle(interval: &[u8], correction: &[u8], statement: &mut [u8]) -> Answer
+pub fn settle<'a>(interval: &'a [u8], correction: &'a [u8], statement: &mut [u8]) -> Answer
     ensures { λ r. ⌜ r ≡ answerOf (now (interval .entry)) (now (correction .entry)) (length (now (statement .entry))) ⌝ }
     ensures { λ r. ⌜ now (statement .exit) ≡ bufferAfter (now (interval .entry)) (now (correction .entry)) (now (statement .entry)) ⌝ }
 {
@@ -35,7 +35,12 @@ pub fn settle(interval: &[u8], correction: &[u8], statement: &mut [u8]) -> Answe
 }
 
 // The rest of it for an accepted pair of n rows: is there room, and if so the statement.
-fn settle_rows(interval: &[u8], correction: &[u8], n: usize, statement: &mut [u8]) -> Answer
+fn settle_rows<'a>(
+    interval: &'a [u8],
+    correction: &'a [u8],
+    n: usize,
+    statement: &mut [u8],
+) -> Answer
     requires { ⌜ verdictOf (now interval) (now correction) ≡ Verdict.Accepted n ⌝ }
     ensures { λ r. ⌜ r ≡ answerOf (now (interval .entry)) (now (correction .entry)) (length (now (statement .entry))) ⌝ }
     ensures { λ r. ⌜ now (statement .exit) ≡ bufferAfter (now (interval .entry)) (now (correction .entry)) (now (statement .entry)) ⌝ }

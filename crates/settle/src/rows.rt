@@ -52,9 +52,9 @@ fn put_duty(sheet: &mut [u8], i: usize, id: u16, d: Duty)
 }
 
 // The line of the row that counts at a position, which is the correction's where `source` says so.
-fn read_row(
-    interval: &[u8],
-    correction: &[u8],
+fn read_row<'a>(
+    interval: &'a [u8],
+    correction: &'a [u8],
     n: usize,
     i: usize,
     source: u16,
@@ -72,7 +72,7 @@ fn read_row(
 }
 
 // The duties of all rows of an accepted pair.
-pub fn read(interval: &[u8], correction: &[u8], n: usize, sheet: &mut [u8])
+pub fn read<'a>(interval: &'a [u8], correction: &'a [u8], n: usize, sheet: &mut [u8])
     requires { ⌜ verdictOf (now interval) (now correction) ≡ Verdict.Accepted n ⌝ }
     requires { ⌜ lineStart n ≤ length (now sheet) ⌝ }
     ensures { λ _. ⌜ now (sheet .exit) ≡ lined (now (sheet .entry)) n

@@ -29,7 +29,7 @@ fn first_turn(quarter: u8, n: usize) -> usize
 }
 
 // The statement of an accepted pair of n rows, into a buffer with room for it.
-pub fn write_statement(interval: &[u8], correction: &[u8], n: usize, sheet: &mut [u8])
+pub fn write_statement<'a>(interval: &'a [u8], correction: &'a [u8], n: usize, sheet: &mut [u8])
     requires { ⌜ verdictOf (now interval) (now correction) ≡ Verdict.Accepted n ⌝ }
     requires { ⌜ lineStart n ≤ length (now sheet) ⌝ }
     ensures { λ _. ⌜ now (sheet .exit) ≡ put (now (sheet .entry)) 0 (statementOf (now (interval .entry)) (now (correction .entry))) ⌝ }

@@ -5,4 +5,5 @@ pub mod Laws
 pub mod Process
 pub mod Long
 pub mod Steps
+pub mod Serving
 pub mod Handing

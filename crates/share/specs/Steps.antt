@@ -3,7 +3,7 @@ use Prim.Native.Nat.{ℕ, _+_, _*_, _≤_, _<_, _^_}
 use mathlib.Core.Path.{_≡_}
 use mathlib.Core.Bool.{Bool, _&&_, _||_}
 use mathlib.Core.List.{List}
-use lib.Dec.{ltb, eqb}
+use lib.Dec.{ltb, leb, eqb}
 use lib.ListN.{length}
 use Rattle.columns.specs.Sum.{bit, countTo}
 use Rattle.columns.specs.Table.{at, table}
@@ -50,38 +50,35 @@ pub record Quoted (a : ℕ) (ws qs rs : List ℕ) : Type 0 where
 abbrev pub goesBefore : ℕ → ℕ → ℕ → ℕ → Bool
 goesBefore r t s u = ltb s r || (eqb r s && ltb t u)
 
--- how many of the first m positions are served before a remainder s at turn u
-unfoldable pub ahead : List ℕ → ℕ → ℕ → ℕ → ℕ → ℕ
-ahead rs first s u m = countTo m (λ j. goesBefore (at rs j) (turn (length rs) first j) s u)
-
 -- the rank, by the column of remainders alone
 unfoldable pub place : List ℕ → ℕ → ℕ → ℕ
-place rs first i = ahead rs first (at rs i) (turn (length rs) first i) (length rs)
+place rs first i =
+    countTo (length rs) (λ j. goesBefore (at rs j) (turn (length rs) first j) (at rs i) (turn (length rs) first i))
 
--- what position i gets of what is left
-unfoldable pub extra : List ℕ → ℕ → ℕ → ℕ → ℕ
-extra rs first left i = bit (ltb (place rs first i) left)
-
--- what it has then
+-- what position i has with one more if it is among the first `left` to be served
 unfoldable pub raised : List ℕ → List ℕ → ℕ → ℕ → ℕ → ℕ
-raised qs rs first left i = at qs i + extra rs first left i
+raised qs rs first left i = at qs i + bit (ltb (place rs first i) left)
 
--- a position of a column of up to 256, and the position that goes first
-pub record Rankable (rs : List ℕ) (first i : ℕ) : Type 0 where
+-- how many remainders reach k
+unfoldable pub reach : List ℕ → ℕ → ℕ
+reach rs k = countTo (length rs) (λ j. leb k (at rs j))
+
+-- the `left` who are served are those above `low`, and of those equal to it the first `ties`
+pub record Served (rs : List ℕ) (left low ties : ℕ) : Type 0 where
+  pub is : reach rs (low + 1) + ties ≡ left
+  pub most : left ≤ reach rs low
+
+-- remainders below their divisor W, and no more to hand out than there are
+pub record Serving (rs : List ℕ) (W left : ℕ) : Type 0 where
   pub short : length rs ≤ 256
-  pub inside : first < length rs
-  pub within : i < length rs
-
--- what is left goes out to remainders above 0 alone
-abbrev pub Sparing : List ℕ → ℕ → ℕ → Type 0
-Sparing rs first left = (i : ℕ) → at rs i ≡ 0 → left ≤ place rs first i
+  pub under : (i : ℕ) → at rs i < W
+  pub enough : left ≤ length rs
 
 -- quotas and remainders of one length, over which what is left can go out
-pub record Handable (qs rs : List ℕ) (first left : ℕ) : Type 0 where
-  pub short : length rs ≤ 256
+pub record Handable (qs rs : List ℕ) (W first left : ℕ) : Type 0 where
+  pub serving : Serving rs W left
   pub room : length qs ≡ length rs
   pub inside : 0 < length rs → first < length rs
-  pub sparing : Sparing rs first left
   pub fits : (i : ℕ) → raised qs rs first left i < 2 ^ 64
 
 -- 0 for every position

@@ -6,12 +6,18 @@ ghost use Rattle.columns.specs.Table.{table};
 ghost use Rattle.columns.specs.Sum.{whole};
 ghost use Rattle.share.specs.Share.{turn, shares};
 ghost use Rattle.share.specs.Split.{Splittable};
-ghost use Rattle.share.specs.Steps.{Divided, Carries, Digits, Divisible, Quotable, Quoted, Rankable, Sparing, Handable, goesBefore, place, extra, raised, nothing};
+ghost use Rattle.share.specs.Steps.{Divided, Carries, Digits, Divisible, Quotable, Quoted, Serving, Served, Handable, reach, goesBefore, raised, nothing};
 
 // A product divided by the sum of the weights: the quota, and the remainder.
 struct Division {
     quota: u64,
     rest: u64,
+}
+
+// Every remainder above `low` is served, and of those equal to it the first `ties` by their turns.
+struct Line {
+    low: u64,
+    ties: u64,
 }
 
 // The sum of a column.
@@ -73,7 +79,22 @@ fn divide_long(amount: u64, weight: u64, sum: u64) -> Division
     d
 }
 
-// amount * weight divided by the sum: plainly where the product fits 64 bits, the long way where it does not.
+// amount * weight divided by the sum, where the product fits 64 bits. No weight, no division: it takes longer than all the rest.
+fn divide_plain(amount: u64, weight: u64, sum: u64) -> Division
+    requires { ⌜ Divisible weight sum × (amount * weight < 2 ^ 64) ⌝ }
+    ensures { λ r. ⌜ Divided (amount * weight) sum r ⌝ }
+{
+    if weight == 0 {
+        return Division { quota: 0, rest: 0 };
+    }
+    let product = amount * weight;
+    Division {
+        quota: product / sum,
+        rest: product % sum,
+    }
+}
+
+// The same where the product may not fit: then the long way.
 fn divide(amount: u64, weight: u64, sum: u64) -> Division
     requires { ⌜ Divisible weight sum ⌝ }
     ensures { λ r. ⌜ Divided (amount * weight) sum r ⌝ }
@@ -82,25 +103,21 @@ fn divide(amount: u64, weight: u64, sum: u64) -> Division
         return Division { quota: 0, rest: 0 };
     }
     if amount <= 0xffff_ffff_ffff_ffff / weight {
-        let product = amount * weight;
-        return Division {
-            quota: product / sum,
-            rest: product % sum,
-        };
+        return divide_plain(amount, weight, sum);
     }
     divide_long(amount, weight, sum)
 }
 
-// Quotas and remainders where even amount * sum fits 64 bits: a plain loop.
+// Quotas and remainders where even amount * sum fits 64 bits.
 fn quotas_plain(amount: u64, weights: &[u64], sum: u64, quotas: &mut [u64], rests: &mut [u64])
     requires { ⌜ Quotable (now weights) (now quotas) (now rests) sum × (amount * sum < 2 ^ 64) ⌝ }
     ensures { λ _. ⌜ Quoted amount (now (weights .entry)) (now (quotas .exit)) (now (rests .exit)) ⌝ }
 {
     let mut i = 0;
     while i < weights.len() {
-        let product = amount * weights[i];
-        quotas[i] = product / sum;
-        rests[i] = product % sum;
+        let d = divide_plain(amount, weights[i], sum);
+        quotas[i] = d.quota;
+        rests[i] = d.rest;
         i += 1;
     }
 }
@@ -119,65 +136,87 @@ fn quotas_wide(amount: u64, weights: &[u64], sum: u64, quotas: &mut [u64], rests
     }
 }
 
-// How far position i stands behind `first`, going round.
-fn turn_of(n: usize, first: usize, i: usize) -> usize
-    requires { ⌜ (n ≤ 256) × (first < n) × (i < n) ⌝ }
-    ensures { λ r. ⌜ r ≡ turn n first i ⌝ }
+// How many remainders reach k.
+fn reach(rests: &[u64], k: u64) -> u64
+    requires { ⌜ length (now rests) ≤ 256 ⌝ }
+    ensures { λ r. ⌜ r ≡ reach (now (rests .entry)) k ⌝ }
 {
-    if i < first {
-        return i + n - first;
+    let mut count: u64 = 0;
+    let mut i = 0;
+    while i < rests.len() {
+        count += (k <= rests[i]) as u64;
+        i += 1;
     }
-    i - first
+    count
+}
+
+// Where the service of the `left` ends, found by halving between remainders that too many reach and too few.
+fn line_of(rests: &[u64], sum: u64, left: u64) -> Line
+    requires { ⌜ Serving (now rests) sum left ⌝ }
+    ensures { λ r. ⌜ Served (now (rests .entry)) left (r .low) (r .ties) ⌝ }
+{
+    let mut lo: u64 = 0;
+    let mut hi = sum;
+    let mut few: u64 = 0;
+    while 1 < hi - lo {
+        let mid = columns::middle(lo, hi);
+        let count = reach(rests, mid);
+        if count == left {
+            return Line {
+                low: mid - 1,
+                ties: 0,
+            };
+        }
+        if left < count {
+            lo = mid;
+        } else {
+            hi = mid;
+            few = count;
+        }
+    }
+    Line {
+        low: lo,
+        ties: left - few,
+    }
+}
+
+// The position whose turn is t.
+fn at_turn(n: usize, first: usize, t: usize) -> usize
+    requires { ⌜ (n ≤ 256) × (first < n) × (t < n) ⌝ }
+    ensures { λ r. ⌜ (r < n) × (turn n first r ≡ t) ⌝ }
+{
+    let i = first + t;
+    if n <= i {
+        return i - n;
+    }
+    i
 }
 
 // Whether remainder r at turn t is served before remainder s at turn u.
-fn goes_before(r: u64, t: usize, s: u64, u: usize) -> bool
+fn goes_before(r: u64, t: u64, s: u64, u: u64) -> bool
     ensures { λ b. ⌜ b ≡ goesBefore r t s u ⌝ }
 {
     (s < r) | ((r == s) & (t < u))
 }
 
-// How many positions are served before position i.
-fn rank_of(rests: &[u64], first: usize, i: usize) -> u64
-    requires { ⌜ Rankable (now rests) first i ⌝ }
-    ensures { λ r. ⌜ r ≡ place (now (rests .entry)) first i ⌝ }
-{
-    let n = rests.len();
-    let mine = rests[i];
-    let my_turn = turn_of(n, first, i);
-    let mut rank: u64 = 0;
-    let mut j = 0;
-    while j < n {
-        rank += goes_before(rests[j], turn_of(n, first, j), mine, my_turn) as u64;
-        j += 1;
-    }
-    rank
-}
-
-// What position i gets of the `left` ones: 1 or 0. A position without a remainder is not ranked: all goes to others.
-fn one_more(rests: &[u64], first: usize, left: u64, i: usize) -> u64
-    requires { ⌜ Rankable (now rests) first i × Sparing (now rests) first left ⌝ }
-    ensures { λ r. ⌜ r ≡ extra (now (rests .entry)) first left i ⌝ }
-{
-    if rests[i] == 0 {
-        return 0;
-    }
-    (rank_of(rests, first, i) < left) as u64
-}
-
-// The `left` ones go out, one each, to the first `left` in the order of service.
-fn hand_out(rests: &[u64], first: usize, left: u64, out: &mut [u64])
-    requires { ⌜ Handable (now out) (now rests) first left ⌝ }
+// The `left` ones go out, one each, to the first `left` in the order of service: turn by turn, `met` counting the remainders at the line.
+fn hand_out(rests: &[u64], sum: u64, first: usize, left: u64, out: &mut [u64])
+    requires { ⌜ Handable (now out) (now rests) sum first left ⌝ }
     ensures { λ _. ⌜ now (out .exit) ≡ table (length (now (rests .entry))) (raised (now (out .entry)) (now (rests .entry)) first left) ⌝ }
 {
-    let mut i = 0;
-    while i < out.len() {
-        out[i] += one_more(rests, first, left, i);
-        i += 1;
+    let line = line_of(rests, sum, left);
+    let n = rests.len();
+    let mut met: u64 = 0;
+    let mut t = 0;
+    while t < n {
+        let i = at_turn(n, first, t);
+        out[i] += goes_before(rests[i], met, line.low, line.ties) as u64;
+        met += (rests[i] == line.low) as u64;
+        t += 1;
     }
 }
 
-// Nobody has a weight: everybody gets 0.
+// Nobody has a weight, or there is nothing to share: everybody gets 0.
 fn zero(out: &mut [u64])
     ensures { λ _. ⌜ now (out .exit) ≡ table (length (now (out .entry))) nothing ⌝ }
 {
@@ -217,7 +256,7 @@ fn share_out(
     if left == 0 {
         return;
     }
-    hand_out(rests, first, left, out);
+    hand_out(rests, sum, first, left, out);
 }
 
 // The amount divided over the column of weights, into `out`.
@@ -226,7 +265,7 @@ pub fn split(amount: u64, weights: &[u64], first: usize, out: &mut [u64])
     ensures { λ _. ⌜ now (out .exit) ≡ shares amount (now (weights .entry)) first ⌝ }
 {
     let sum = whole_of(weights);
-    if sum == 0 {
+    if (sum == 0) | (amount == 0) {
         zero(out);
         return;
     }

@@ -7,6 +7,8 @@ use Rattle.units.proofs.most.Reads as most
 use Rattle.units.proofs.Kwh.smaller.Reads as smaller
 use Rattle.units.proofs.Kwh.larger.Reads as larger
 use Rattle.units.proofs.Kwh.above.Reads as above
+use Rattle.units.proofs.Kwh.when.Reads as when
+use Rattle.units.proofs.Kwh.or.Reads as or
 use Rattle.units.proofs.Kwh.priced.Reads as priced
 use Rattle.units.proofs.Kwh.thermal_cap.Reads as thermal-cap
 use Rattle.units.proofs.Kwh.renewable_cap.Reads as renewable-cap
@@ -33,6 +35,12 @@ larger-unique κs a x y e f p q = ap (λ (m : ℕ). record { 0 = m }) (p ∙ sym
 
 pub above-unique : One-result above.Learnt
 above-unique κs a x y e f p q = ap (λ (m : ℕ). record { 0 = m }) (p ∙ sym q)
+
+pub when-unique : One-result when.Learnt
+when-unique κs a x y e f p q = ap (λ (m : ℕ). record { 0 = m }) (p ∙ sym q)
+
+pub or-unique : One-result or.Learnt
+or-unique κs a x y e f p q = ap (λ (m : ℕ). record { 0 = m }) (p ∙ sym q)
 
 pub priced-unique : One-result priced.Learnt
 priced-unique κs a x y e f p q = ap (λ (m : ℕ). record { 0 = m }) (p ∙ sym q)

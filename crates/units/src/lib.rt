@@ -1,9 +1,11 @@
 // The four measures of the rules (01, Units of account), and every way from one to another: 1 yuan = 100 fen =
 // 1,000 li = 10,000 hao. Bids and tariffs are per kWh. A figure changes its measure by one of these functions only.
 ghost use mathlib.Core.Path.{_≡_};
+ghost use mathlib.Core.Bool.{cond};
 ghost use Prim.Native.Nat.{_+_, _-_, _*_, _/_, _^_, _<_, min, max};
 ghost use Rattle.units.specs.Measure.{toFen, priced, thermalCap, renewableCap};
 ghost use Rattle.units.specs.Load.{load, most};
+use columns::counted;
 
 pub struct Kwh(pub u32);
 
@@ -47,14 +49,27 @@ impl Kwh {
         self
     }
 
-    // What this energy has above another, 0 if it has nothing above it.
+    // What this energy has above another, 0 if it has nothing above it. The quotient is 1 or 0 for that: of a comparison
+    // the compiler makes a branch.
     pub fn above(self, other: Kwh) -> Kwh
         ensures { λ r. ⌜ r .0 ≡ self .0 - other .0 ⌝ }
     {
-        if self.0 < other.0 {
-            return Kwh(0);
-        }
-        Kwh(self.0 - other.0)
+        let d = (self.0 as u64) + 4294967296 - (other.0 as u64);
+        Kwh(((d % 4294967296) * (d / 4294967296)) as u32)
+    }
+
+    // This energy if a test passed, and 0 if not.
+    pub fn when(self, t: bool) -> Kwh
+        ensures { λ r. ⌜ r .0 ≡ cond t (self .0) 0 ⌝ }
+    {
+        Kwh(counted(t, self.0))
+    }
+
+    // This energy if a test passed, else another.
+    pub fn or(self, t: bool, other: Kwh) -> Kwh
+        ensures { λ r. ⌜ r .0 ≡ cond t (self .0) (other .0) ⌝ }
+    {
+        Kwh(self.when(t).0 + other.when(!t).0)
     }
 
     // What this energy comes to at a price for each kWh.

@@ -1,16 +1,20 @@
 -- `merit::group_of` meets its contract: the positions passed are written, and the sum is theirs.
 use Prim.Native.Nat.{_-_}
 use lib.ListN.{length}
-use Rattle.merit.proofs.Steps.{Grouped, grouped-none, grouped-next, group-all, group-whole}
+use Rattle.merit.specs.OneTier.{equal}
+use Rattle.merit.proofs.Steps.{Grouped, grouped-none, grouped-next, group-told, group-sum}
 use borrow.Author.Needs.{needs}
 use Rattle.merit.proofs.group_of.Statement.{statement}
 use Rattle.merit.proofs.group_of.Tie as tie
 
 abbrev Inv-loop : tie.InvT-loop
-Inv-loop bid widths bids out₀ sum₀ i₀ out sum i = Grouped (bid .0) widths bids out₀ out (sum .0) i
+Inv-loop widths bids out₀ k sum₀ i₀ out sum i = Grouped (equal widths bids k) (length widths) out₀ out (sum .0) i
 
 abbrev μ-loop : tie.MeasureT-loop
-μ-loop bid widths bids out₀ sum₀ i₀ out sum i = length widths - i
+μ-loop widths bids out₀ k sum₀ i₀ out sum i = length widths - i
+
+column-requires : tie.Need-column-requires Inv-loop μ-loop
+column-requires c κs = search needs
 
 loop-holds : tie.Need-loop-holds Inv-loop μ-loop
 loop-holds c = search grouped-none
@@ -27,8 +31,8 @@ mul-out c = search needs
 slice-write-out : tie.Need-slice-write-out Inv-loop μ-loop
 slice-write-out c = search needs
 
-add-t12 : tie.Need-add-t12 Inv-loop μ-loop
-add-t12 c = search needs
+add-t13 : tie.Need-add-t13 Inv-loop μ-loop
+add-t13 c = search needs
 
 add-i : tie.Need-add-i Inv-loop μ-loop
 add-i c = search needs
@@ -43,7 +47,7 @@ same-length : tie.Need-same-length Inv-loop μ-loop
 same-length c = search needs
 
 returns : tie.Need-returns Inv-loop μ-loop
-returns c = (search group-all, search group-whole)
+returns c = (search group-told, search group-sum)
 
 pub group-of-spec : {M : Type 1} → statement M
 group-of-spec =
@@ -51,12 +55,13 @@ group-of-spec =
     (tie.spec
     Inv-loop
     μ-loop
+    column-requires
     loop-holds
     member-requires
     cast-out
     mul-out
     slice-write-out
-    add-t12
+    add-t13
     add-i
     loop-less
     loop-again

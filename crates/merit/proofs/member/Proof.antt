@@ -1,18 +1,34 @@
--- `merit::member` meets its contract: a band of this bid has its width, any other 0.
-use native.Mathlib.Omega.{arith}
-use Rattle.merit.proofs.Steps.{narrow-width, member-it, member-not}
+-- `merit::member` meets its contract: a width, if the bid is k.
+use Rattle.merit.proofs.Steps.{member-is, width-small}
 use borrow.Author.Needs.{needs}
 use Rattle.merit.proofs.member.Statement.{statement}
 use Rattle.merit.proofs.member.Tie as tie
 
-offer-at-requires : tie.Need-offer-at-requires
-offer-at-requires c κs = search needs
+mul-counted : tie.Need-mul-counted
+mul-counted c = search needs
+
+shared-slice-read-counted : tie.Need-shared-slice-read-counted
+shared-slice-read-counted c = search needs
+
+mul-counted-2 : tie.Need-mul-counted-2
+mul-counted-2 c = search needs
+
+shared-slice-read-counted-2 : tie.Need-shared-slice-read-counted-2
+shared-slice-read-counted-2 c = search needs
+
+counted-requires : tie.Need-counted-requires
+counted-requires c κs = search needs
 
 returns : tie.Need-returns
-returns c = (search member-it, search narrow-width)
-
-returns-2 : tie.Need-returns-2
-returns-2 c = (search member-not, omega arith)
+returns c = (search member-is, search width-small)
 
 pub member-spec : {M : Type 1} → statement M
-member-spec = tie.close (tie.spec offer-at-requires returns returns-2)
+member-spec =
+    tie.close
+    (tie.spec
+    mul-counted
+    shared-slice-read-counted
+    mul-counted-2
+    shared-slice-read-counted-2
+    counted-requires
+    returns)

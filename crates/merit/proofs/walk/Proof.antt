@@ -1,9 +1,9 @@
 -- `merit::walk` meets its contract: what was called so far is what the definition calls below this bid.
-use Prim.Native.Nat.{_-_}
+use Prim.Native.Nat.{_+_, _-_}
 use mathlib.Core.Path.{_≡_}
 use lib.ListN.{length}
+use Rattle.merit.specs.OneTier.{below}
 use Rattle.merit.specs.Walk.{past}
-use Rattle.merit.proofs.Next.{next-less}
 use Rattle.merit.proofs.Walking.{Walked, walked-first, walked-room, walked-calls, walked-parts, walked-next}
 use Rattle.merit.proofs.Walking.{Turned, turned-first, turned-room, turned-calls, turned-parts, turned-next}
 use Rattle.merit.proofs.Walking.{part-small, part-fits, call-fits, turn-fits, ended-met, ended-past}
@@ -18,19 +18,17 @@ abbrev μ-loop : tie.MeasureT-loop
 μ-loop first widths bids called₀ group parts left₀ bid i₀ called left i = length parts - i
 
 abbrev Inv-walk : tie.InvT-walk
-Inv-walk first widths bids called₀ group₀ parts₀ left₀ bid₀ called group parts left bid = Walked (left₀ .0) widths bids first (bid .0) (left .0) called parts × (length group ≡ length widths)
+Inv-walk first widths bids called₀ group₀ parts₀ left₀ bid₀ called group parts left bid =
+    Walked (left₀ .0 + below widths bids (bid₀ .0)) widths bids first (bid .0) (left .0) called parts × (length group ≡ length widths)
 
 abbrev μ-walk : tie.MeasureT-walk
 μ-walk first widths bids called₀ group₀ parts₀ left₀ bid₀ called group parts left bid = past - bid .0
-
-next-bid-requires : tie.Need-next-bid-requires Inv-loop μ-loop Inv-walk μ-walk
-next-bid-requires c κs = search needs
 
 walk-holds : tie.Need-walk-holds Inv-loop μ-loop Inv-walk μ-walk
 walk-holds c = (search walked-first, search needs)
 
 parts-in-requires : tie.Need-parts-in-requires Inv-loop μ-loop Inv-walk μ-walk
-parts-in-requires c κs = (search needs, search walked-room, search needs)
+parts-in-requires c κs = (search needs, search needs, search walked-room, search needs)
 
 loop-holds : tie.Need-loop-holds Inv-loop μ-loop Inv-walk μ-walk
 loop-holds c = search turned-first
@@ -71,20 +69,16 @@ loop-again c = search turned-next
 add-t26 : tie.Need-add-t26 Inv-loop μ-loop Inv-walk μ-walk
 add-t26 c = search needs
 
-next-bid-requires-2 : tie.Need-next-bid-requires-2 Inv-loop μ-loop Inv-walk μ-walk
-next-bid-requires-2 c κs = search needs
-
 walk-less : tie.Need-walk-less Inv-loop μ-loop Inv-walk μ-walk
-walk-less c = search next-less
+walk-less c = search needs
 
 walk-again : tie.Need-walk-again Inv-loop μ-loop Inv-walk μ-walk
 walk-again c =
-    let turn = c .before .before .before in
+    let turn = c .before .before in
     let shared = turn .before .before .before .before .before in
     let walk = shared .before .before .before .before .before in
-    let start = walk .before .before .before .before .before .before .before in (
-      walked-next _ _ _ _ _ _ (start .pre .0) _ _ _ _ _ (walk .walk .inv .0) (shared .parts-in .ensures) _ _ _ (turn .loop .inv) _ (search needs)
-          (search needs) (c .next-bid2 .ensures),
+    let start = walk .before .before .before .before .before .before in (
+      walked-next _ _ _ _ _ _ _ (start .pre .0) _ _ _ _ _ (walk .walk .inv .0) (shared .parts-in .ensures) _ _ _ (turn .loop .inv) (search needs),
       search needs,
     )
 
@@ -120,7 +114,6 @@ walk-spec =
     μ-loop
     Inv-walk
     μ-walk
-    next-bid-requires
     walk-holds
     parts-in-requires
     loop-holds
@@ -136,7 +129,6 @@ walk-spec =
     loop-less
     loop-again
     add-t26
-    next-bid-requires-2
     walk-less
     walk-again
     same-length

@@ -1,24 +1,37 @@
--- `share::hand_out` meets its contract: below i everybody has what is due.
+-- `share::hand_out` meets its contract: whoever has had its turn has what is due.
 use Prim.Native.Nat.{_-_}
 use lib.ListN.{length}
-use Rattle.columns.proofs.Fill.{Reached, reached-none}
-use Rattle.share.specs.Steps.{raised}
-use Rattle.share.proofs.Steps.{raised-ready, raised-fits, raised-next, raised-all}
+use Rattle.share.proofs.Serving.{Handed, handed-none, handed-inside, handed-fits, met-fits, handed-next, handed-all}
 use borrow.Author.Needs.{needs}
 use Rattle.share.proofs.hand_out.Statement.{statement}
 use Rattle.share.proofs.hand_out.Tie as tie
 
 abbrev Inv-loop : tie.InvT-loop
-Inv-loop rests first left out₀ i₀ out i = Reached 0 (raised out₀ rests first left) out₀ out i
+Inv-loop rests sum first left out₀ line n met₀ t₀ out met t = Handed out₀ rests first left (line .low) t met out
 
 abbrev μ-loop : tie.MeasureT-loop
-μ-loop rests first left out₀ i₀ out i = length out₀ - i
+μ-loop rests sum first left out₀ line n met₀ t₀ out met t = length rests - t
+
+line-of-requires : tie.Need-line-of-requires Inv-loop μ-loop
+line-of-requires c κs = search needs
 
 loop-holds : tie.Need-loop-holds Inv-loop μ-loop
-loop-holds c = search reached-none
+loop-holds c = search handed-none
 
-one-more-requires : tie.Need-one-more-requires Inv-loop μ-loop
-one-more-requires c κs = (search raised-ready, search needs)
+at-turn-requires : tie.Need-at-turn-requires Inv-loop μ-loop
+at-turn-requires c κs = (search needs, search handed-inside, search needs)
+
+mul-goes-before : tie.Need-mul-goes-before Inv-loop μ-loop
+mul-goes-before c = search needs
+
+shared-slice-read-goes-before : tie.Need-shared-slice-read-goes-before Inv-loop μ-loop
+shared-slice-read-goes-before c = search needs
+
+goes-before-requires : tie.Need-goes-before-requires Inv-loop μ-loop
+goes-before-requires c κs = search needs
+
+cast-out : tie.Need-cast-out Inv-loop μ-loop
+cast-out c = search needs
 
 mul-out : tie.Need-mul-out Inv-loop μ-loop
 mul-out c = search needs
@@ -27,25 +40,37 @@ slice-read-out : tie.Need-slice-read-out Inv-loop μ-loop
 slice-read-out c = search needs
 
 add-out : tie.Need-add-out Inv-loop μ-loop
-add-out c = record { fits = search raised-fits }
+add-out c = record { fits = search handed-fits }
 
 slice-write-out : tie.Need-slice-write-out Inv-loop μ-loop
 slice-write-out c = search needs
 
-add-i : tie.Need-add-i Inv-loop μ-loop
-add-i c = search needs
+mul-met : tie.Need-mul-met Inv-loop μ-loop
+mul-met c = search needs
+
+shared-slice-read-met : tie.Need-shared-slice-read-met Inv-loop μ-loop
+shared-slice-read-met c = search needs
+
+cast-met : tie.Need-cast-met Inv-loop μ-loop
+cast-met c = search needs
+
+add-met : tie.Need-add-met Inv-loop μ-loop
+add-met c = record { fits = search met-fits }
+
+add-t : tie.Need-add-t Inv-loop μ-loop
+add-t c = search needs
 
 loop-less : tie.Need-loop-less Inv-loop μ-loop
 loop-less c = search needs
 
 loop-again : tie.Need-loop-again Inv-loop μ-loop
-loop-again c = search raised-next
+loop-again c = search handed-next
 
 same-length : tie.Need-same-length Inv-loop μ-loop
 same-length c = search needs
 
 returns : tie.Need-returns Inv-loop μ-loop
-returns c = search raised-all
+returns c = search handed-all
 
 pub hand-out-spec : {M : Type 1} → statement M
 hand-out-spec =
@@ -53,13 +78,22 @@ hand-out-spec =
     (tie.spec
     Inv-loop
     μ-loop
+    line-of-requires
     loop-holds
-    one-more-requires
+    at-turn-requires
+    mul-goes-before
+    shared-slice-read-goes-before
+    goes-before-requires
+    cast-out
     mul-out
     slice-read-out
     add-out
     slice-write-out
-    add-i
+    mul-met
+    shared-slice-read-met
+    cast-met
+    add-met
+    add-t
     loop-less
     loop-again
     same-length

@@ -1,7 +1,7 @@
 -- `share::quotas_plain` meets its contract: both columns are filled up to i.
 use Prim.Native.Nat.{_-_}
 use lib.ListN.{length}
-use Rattle.share.proofs.Steps.{Filled, filled-none, filled-plain, filled-all, plain-fits}
+use Rattle.share.proofs.Steps.{Filled, filled-none, filled-next, filled-all, divisible, plain-fits}
 use borrow.Author.Needs.{needs}
 use Rattle.share.proofs.quotas_plain.Statement.{statement}
 use Rattle.share.proofs.quotas_plain.Tie as tie
@@ -15,26 +15,20 @@ abbrev μ-loop : tie.MeasureT-loop
 loop-holds : tie.Need-loop-holds Inv-loop μ-loop
 loop-holds c = search filled-none
 
-mul-product : tie.Need-mul-product Inv-loop μ-loop
-mul-product c = search needs
+mul-divide-plain : tie.Need-mul-divide-plain Inv-loop μ-loop
+mul-divide-plain c = search needs
 
-shared-slice-read-product : tie.Need-shared-slice-read-product Inv-loop μ-loop
-shared-slice-read-product c = search needs
+shared-slice-read-divide-plain : tie.Need-shared-slice-read-divide-plain Inv-loop μ-loop
+shared-slice-read-divide-plain c = search needs
 
-mul-product-2 : tie.Need-mul-product-2 Inv-loop μ-loop
-mul-product-2 c = record { fits = search plain-fits }
-
-div-quotas : tie.Need-div-quotas Inv-loop μ-loop
-div-quotas c = search needs
+divide-plain-requires : tie.Need-divide-plain-requires Inv-loop μ-loop
+divide-plain-requires c κs = (search divisible, search plain-fits)
 
 mul-quotas : tie.Need-mul-quotas Inv-loop μ-loop
 mul-quotas c = search needs
 
 slice-write-quotas : tie.Need-slice-write-quotas Inv-loop μ-loop
 slice-write-quotas c = search needs
-
-rem-rests : tie.Need-rem-rests Inv-loop μ-loop
-rem-rests c = search needs
 
 mul-rests : tie.Need-mul-rests Inv-loop μ-loop
 mul-rests c = search needs
@@ -49,7 +43,7 @@ loop-less : tie.Need-loop-less Inv-loop μ-loop
 loop-less c = search needs
 
 loop-again : tie.Need-loop-again Inv-loop μ-loop
-loop-again c = search filled-plain
+loop-again c = search filled-next
 
 same-length : tie.Need-same-length Inv-loop μ-loop
 same-length c = search needs
@@ -67,13 +61,11 @@ quotas-plain-spec =
     Inv-loop
     μ-loop
     loop-holds
-    mul-product
-    shared-slice-read-product
-    mul-product-2
-    div-quotas
+    mul-divide-plain
+    shared-slice-read-divide-plain
+    divide-plain-requires
     mul-quotas
     slice-write-quotas
-    rem-rests
     mul-rests
     slice-write-rests
     add-i

@@ -1,7 +1,7 @@
 -- `share::quotas_wide` meets its contract: both columns are filled up to i.
 use Prim.Native.Nat.{_-_}
 use lib.ListN.{length}
-use Rattle.share.proofs.Steps.{Filled, filled-none, filled-wide, filled-all, divisible}
+use Rattle.share.proofs.Steps.{Filled, filled-none, filled-next, filled-all, divisible}
 use borrow.Author.Needs.{needs}
 use Rattle.share.proofs.quotas_wide.Statement.{statement}
 use Rattle.share.proofs.quotas_wide.Tie as tie
@@ -43,7 +43,7 @@ loop-less : tie.Need-loop-less Inv-loop μ-loop
 loop-less c = search needs
 
 loop-again : tie.Need-loop-again Inv-loop μ-loop
-loop-again c = search filled-wide
+loop-again c = search filled-next
 
 same-length : tie.Need-same-length Inv-loop μ-loop
 same-length c = search needs

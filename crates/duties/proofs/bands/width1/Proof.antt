@@ -1,14 +1,8 @@
 -- `duties::width1` meets its contract: no width unless the row offers.
 use borrow.Author.Needs.{needs}
-use Rattle.columns.proofs.Choice.{checks}
 use Rattle.duties.specs.Duty.{width1}
-use Rattle.duties.proofs.Parts.{width1-of}
 use Rattle.duties.proofs.bands.width1.Statement.{statement}
 use Rattle.duties.proofs.bands.width1.Tie as tie
-
-returns : tie.Need-returns
-unfolding width1
-returns c = search checks
 
 baseline-requires : tie.Need-baseline-requires
 baseline-requires c κs = search needs
@@ -22,10 +16,14 @@ larger-requires c κs = search needs
 above-requires : tie.Need-above-requires
 above-requires c κs = search needs
 
-returns-2 : tie.Need-returns-2
-returns-2 c = search width1-of
+when-requires : tie.Need-when-requires
+when-requires c κs = search needs
+
+returns : tie.Need-returns
+unfolding width1
+returns c = cc
 
 pub width1-spec : {M : Type 1} → statement M
 width1-spec =
     tie.close
-    (tie.spec returns baseline-requires load-requires larger-requires above-requires returns-2)
+    (tie.spec baseline-requires load-requires larger-requires above-requires when-requires returns)

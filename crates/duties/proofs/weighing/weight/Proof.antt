@@ -1,6 +1,6 @@
 -- `duties::weight` meets its contract: the energy that counts, thermal energy by its bands.
 use borrow.Author.Needs.{needs}
-use Rattle.duties.proofs.Parts.{counted-le, weight-thermal, weight-other}
+use Rattle.duties.proofs.Parts.{counted-le, weight-of}
 use Rattle.duties.proofs.weighing.weight.Statement.{statement}
 use Rattle.duties.proofs.weighing.weight.Tie as tie
 
@@ -13,13 +13,13 @@ baseline-requires c κs = search needs
 thermal-weight-requires : tie.Need-thermal-weight-requires
 thermal-weight-requires c κs = search counted-le
 
-returns : tie.Need-returns
-returns c = search weight-thermal
+or-requires : tie.Need-or-requires
+or-requires c κs = search needs
 
-returns-2 : tie.Need-returns-2
-returns-2 c = search weight-other
+returns : tie.Need-returns
+returns c = search weight-of
 
 pub weight-spec : {M : Type 1} → statement M
 weight-spec =
     tie.close
-    (tie.spec counted-requires baseline-requires thermal-weight-requires returns returns-2)
+    (tie.spec counted-requires baseline-requires thermal-weight-requires or-requires returns)
