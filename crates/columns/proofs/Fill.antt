@@ -2,6 +2,7 @@
 --     Reached          below i stands f, from i on what stood there at the start
 --     reached-none     the start
 --     reached-next     one store more
+--     reached-same     one position more, without a store: f is what stood there
 --     reached-now      at i still stands what stood there at the start
 --     reached-all      at the end the list is the table of f
 --     reached-front    and where only the first n positions are gone over, that table with the rest behind it
@@ -11,6 +12,7 @@ use mathlib.Core.Path.{_≡_, refl, sym, _∙_}
 use mathlib.Core.List.{List, _++_}
 use native.Mathlib.Nat.{le-refl}
 use native.Mathlib.Omega.{arith}
+use borrow.Author.Count.{below-more}
 use lib.ListN.{length, getD, set, take, drop, length-set, length-drop, take-append-drop}
 use lib.Seq.{getD-set-other, getD-take, getD-drop, length-take-le, ext-getD}
 use Rattle.columns.specs.Table.{table, Below}
@@ -34,6 +36,16 @@ module _ {A : Type 0} where
         room = length-set now i v ∙ r .room;
         done = fill-next d now i v f l e (r .done);
         kept = λ k m. getD-set-other now i k v d (omega arith) ∙ r .kept k (omega arith);
+      }
+
+  pub reached-same : (d : A) (f : ℕ → A) (start now : List A) (i : ℕ) → Reached d f start now i → i < length start → getD start i d ≡ f i
+      → Reached d f start now (i + 1)
+  reached-same d f start now i r l e =
+      record {
+        within = omega arith;
+        room = r .room;
+        done = below-more (λ (k : ℕ). getD now k d ≡ f k) i (r .done) (r .kept i (le-refl i) ∙ e);
+        kept = λ k m. r .kept k (omega arith);
       }
 
   pub reached-now : (d : A) (f : ℕ → A) (start now : List A) (i : ℕ) → Reached d f start now i → getD now i d ≡ getD start i d

@@ -12,6 +12,7 @@
 --     sum-same-le   where f ≤ g below n and the sums are equal, f and g agree
 --     bit-le        a test counts for at most 1
 --     count-next, count-same, count-le, count-none, count-all, count-sub, count-some, count-zero     the same of counts
+--     count-before  whoever passes counts for all that come after it
 --     max-next, max-term, max-bound, max-reached      the same of maxima
 --     max-where-next, max-where-term, max-where-bound, max-where-reached      the same over the positions that pass a test
 --     max-where-fewer      where fewer positions pass, the largest value is no larger
@@ -130,6 +131,11 @@ count-zero n p e k l = passes (p k) refl
     passes : (t : Bool) → p k ≡ t → p k ≡ false
     passes true f = absurd (omega (arith, count-some n p k l f))
     passes false f = f
+
+pub count-before : (p : ℕ → Bool) (k n : ℕ) → k < n → p k ≡ true → countTo k p < countTo n p
+unfolding countTo
+count-before p k n l e =
+    omega (arith, sum-next k (λ j. bit (p j)), ap bit e, sum-shorter (k + 1) n (λ j. bit (p j)) (omega arith))
 
 pub max-next : (n : ℕ) (f : ℕ → ℕ) → maxTo (n + 1) f ≡ max (maxTo n f) (f n)
 unfolding maxTo

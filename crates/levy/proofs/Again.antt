@@ -3,7 +3,7 @@
 --     round-asked            what the round asks
 --     caps-in, weights-in    what closes is at most what there is
 --     count-in               one round more fits
---     opens-less             fewer payers are open, if somebody closed
+--     left-less              fewer payers are open, if somebody closed
 --     ready-again            what the next call asks
 --     stopped                the answer, if nobody closed
 --     went-on                the answer, from the answer of the next call
@@ -13,7 +13,7 @@
 --     rounds-end             the answer of all rounds
 use Prim.Native.Nat.{ℕ, suc, _+_, _-_, _*_, _^_, _≤_, _<_}
 use mathlib.Core.Path.{_≡_, refl, ap, sym, _∙_, subst}
-use mathlib.Core.Bool.{cond}
+use mathlib.Core.Bool.{Bool, cond}
 use mathlib.Core.List.{List, [], _∷_}
 use native.Mathlib.Numerals.{add-one}
 use native.Mathlib.Omega.{arith}
@@ -21,13 +21,13 @@ use lib.ListN.{length, take, replicate}
 use lib.Seq.{length-take-le}
 use Rattle.columns.specs.Sum.{whole, countTo, sumWhere}
 use Rattle.columns.specs.Table.{at}
-use Rattle.columns.proofs.Sum.{sum-bound, count-zero}
+use Rattle.columns.proofs.Sum.{sum-bound, count-le, count-zero}
 use Rattle.columns.proofs.Table.{table-is}
-use Rattle.levy.specs.Rounds.{Standing, opens, closes, closed, next, run, opening, final, visitsTold}
+use Rattle.levy.specs.Rounds.{Standing, isPayer, isOpen, opens, closes, closed, next, run, opening, final, visitsTold}
 use Rattle.levy.specs.Capped.{hasClosed}
-use Rattle.levy.specs.Asked.{standing, Levyable, Round, Shut, Ready, Ended, Countable, Finished}
+use Rattle.levy.specs.Asked.{standing, Levyable, Lists, Listed, Round, Shut, Ready, Ended, Countable, Finished}
 use Rattle.levy.specs.declared.Closed.{Closed}
-use Rattle.levy.proofs.Arrays.{zeros-are, take-replicate, drop-replicate}
+use Rattle.levy.proofs.Arrays.{zeros-at, zeros-are, take-replicate, drop-replicate}
 use Rattle.levy.proofs.Step.{Sound, sound-weight, closed-nobody, closed-somebody, closed-caps-le, closed-weights-le, next-sound, opening-sound}
 use Rattle.levy.proofs.Step.{opens-fall, opens-le, run-stop, run-again, final-run}
 use Rattle.levy.proofs.Count.{marks-rounds}
@@ -40,8 +40,14 @@ same-marks ws cs st long e =
     sym (table-is 0 (st .marks) (length ws) (λ i. cond (closes ws cs st i) (suc (st .rounds)) (at (st .marks) i)) long
     (λ k l. rw (count-zero (length ws) (closes ws cs st) (closed-nobody ws cs st e) k l)))
 
-module _ (n : ℕ) (weights caps marks : List ℕ) (money weight rounds : ℕ)
-    (asked : Ready n weights caps marks money weight rounds) where
+-- as many are listed as are open
+listed-opens : (n : ℕ) (weights marks list : List ℕ) (m : ℕ) → length (take n weights) ≡ n → Listed n weights marks list m
+    → m ≡ opens (take n weights) (take n marks)
+unfolding opens
+listed-opens n weights marks list m wide listed = rw wide (listed .many)
+
+module _ (n : ℕ) (weights caps marks : List ℕ) (money weight rounds : ℕ) (list : List ℕ) (m : ℕ)
+    (asked : Ready n weights caps marks money weight rounds list m) where
   abbrev ws : List ℕ
   ws = take n weights
 
@@ -80,10 +86,10 @@ module _ (n : ℕ) (weights caps marks : List ℕ) (money weight rounds : ℕ)
       omega
       (arith, wide, asked .held .few, sound-weight total ws cs st sound, whole-le)
 
-  pub round-asked : Round n weights caps marks money weight rounds
-  round-asked = record { held = asked .held; heavy = heavy; early = omega (arith, asked .early) }
+  pub round-asked : Round n weights caps marks money weight rounds list m
+  round-asked = record { held = asked .held; heavy = heavy; early = omega (arith, asked .early); listed = asked .listed }
 
-  module _ (after : List ℕ) (r : Closed) (shut : Shut n weights caps marks (standing n marks money weight rounds) after r) where
+  module _ (after kept : List ℕ) (r : Closed) (shut : Shut n weights caps marks (standing n marks money weight rounds) after kept r) where
     pub caps-in : r .caps .0 ≤ money
     caps-in = omega (arith, shut .caps-are, closed-caps-le total ws cs st sound)
 
@@ -121,14 +127,15 @@ module _ (n : ℕ) (weights caps marks : List ℕ) (money weight rounds : ℕ)
       fewer : opens (take n weights) (take n after) < opens (take n weights) (take n marks)
       fewer = rw (shut .marks-are) (omega (arith, closing, opens-fall ws cs st))
 
-      pub opens-less : (m : ℕ) → opens (take n weights) (take n marks) ≡ m → opens (take n weights) (take n after) < m
-      opens-less m e = omega (arith, fewer)
+      pub left-less : (t : ℕ) → m ≡ t → r .left < t
+      left-less t e =
+          omega (arith, fewer, listed-opens n weights marks list m wide (asked .listed), listed-opens n weights after kept (r .left) wide (shut .listed))
 
       pub count-in : rounds + 1 < 2 ^ 32
       count-in = omega (arith, asked .early)
 
       -- whatever the money falls by
-      pub ready-again : (by : ℕ) → Ready n weights caps after (money - by) (weight - r .weights) (rounds + 1)
+      pub ready-again : (by : ℕ) → Ready n weights caps after (money - by) (weight - r .weights) (rounds + 1) kept (r .left)
       ready-again by =
           record {
             held =
@@ -144,7 +151,8 @@ module _ (n : ℕ) (weights caps marks : List ℕ) (money weight rounds : ℕ)
             weight-is = after-sound .weight-is;
             marks-le = after-sound .marks-le;
             payers = after-sound .payers;
-            early = omega (arith, asked .early, fewer);
+            early = omega (arith, asked .early, left-less m refl);
+            listed = shut .listed;
           }
 
       pub went-on : (end rest : List ℕ)
@@ -179,14 +187,19 @@ module _ (total n : ℕ) (weights caps marks : List ℕ) (asked : Levyable n wei
   begin-sound : Sound total (take n weights) (take n caps) (standing n marks total weight 0)
   begin-sound = subst (Sound total (take n weights) (take n caps)) (sym begin-is) (opening-sound total (take n weights) (take n caps))
 
-  pub rounds-begin : Ready n weights caps marks total weight 0
-  rounds-begin =
+  -- nobody has closed, so that every payer is open
+  all-open : (i : ℕ) → isOpen (take n weights) (take n marks) i ≡ isPayer (take n weights) i
+  all-open i = rw (zeros, take-replicate 256 n (asked .held .few), zeros-at n i)
+
+  pub rounds-begin : (list : List ℕ) (m : ℕ) → Lists n (isPayer (take n weights)) list m → Ready n weights caps marks total weight 0 list m
+  rounds-begin list m lists =
       record {
         held = asked .held;
         weight-is = begin-sound .weight-is;
         marks-le = begin-sound .marks-le;
         payers = begin-sound .payers;
-        early = omega (arith, opens-le (take n weights) (take n marks), asked .held .few, first-long);
+        early = omega (arith, lists .many, count-le n (isPayer (take n weights)), asked .held .few);
+        listed = subst (λ (test : ℕ → Bool). Lists n test list m) (λ j i. sym (all-open i) j) lists;
       }
 
   module _ (after rest : List ℕ) (ended : Ended n weights caps marks (standing n marks total weight 0) after rest) where

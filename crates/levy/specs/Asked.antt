@@ -2,14 +2,14 @@
 -- 256; the numbers are those of the ranges, with room for what later requests need.
 use Prim.Native.Nat.{ℕ, _+_, _-_, _^_, _≤_, _<_}
 use mathlib.Core.Path.{_≡_}
-use mathlib.Core.Bool.{cond}
+use mathlib.Core.Bool.{Bool, true, cond}
 use mathlib.Core.List.{List}
 use lib.Dec.{eqb}
 use lib.ListN.{length, take, drop, replicate}
-use Rattle.columns.specs.Sum.{whole, sumWhere}
-use Rattle.columns.specs.Table.{at}
+use Rattle.columns.specs.Sum.{whole, countTo, sumWhere}
+use Rattle.columns.specs.Table.{at, Below}
 use Rattle.share.specs.Share.{shares}
-use Rattle.levy.specs.Rounds.{Standing, opens, closed, next, run, final, visits, openWeights, paid, shortfall, toCut, toReturn}
+use Rattle.levy.specs.Rounds.{Standing, isOpen, opens, closed, next, run, final, visits, openWeights, paid, shortfall, toCut, toReturn}
 use Rattle.levy.specs.declared.Closed.{Closed}
 use Rattle.levy.specs.declared.Rest.{Rest}
 use Rattle.levy.specs.declared.Left.{Left}
@@ -41,28 +41,42 @@ pub record Levyable (n : ℕ) (weights caps marks : List ℕ) (total : ℕ) : Ty
   pub held : Held n weights caps marks total
   pub blank : (i : ℕ) → at marks i ≡ 0
 
+-- an array begins with the positions below n that pass a test, m of them in order: each stands at the place that is the number of
+-- those before it
+pub record Lists (n : ℕ) (test : ℕ → Bool) (list : List ℕ) (m : ℕ) : Type 0 where
+  pub long : length list ≡ 256
+  pub many : m ≡ countTo n test
+  pub places : Below n (λ i. test i ≡ true → at list (countTo i test) ≡ i)
+
+-- it begins with the open payers
+abbrev pub Listed : ℕ → List ℕ → List ℕ → List ℕ → ℕ → Type 0
+Listed n weights marks list m = Lists n (isOpen (take n weights) (take n marks)) list m
+
 -- asked by one round
-pub record Round (n : ℕ) (weights caps marks : List ℕ) (money weight rounds : ℕ) : Type 0 where
+pub record Round (n : ℕ) (weights caps marks : List ℕ) (money weight rounds : ℕ) (list : List ℕ) (m : ℕ) : Type 0 where
   pub held : Held n weights caps marks money
   pub heavy : weight ≤ 140800000000
   pub early : rounds ≤ 256
+  pub listed : Listed n weights marks list m
 
--- answered by one round: who closes has its mark, and nothing else changes
-pub record Shut (n : ℕ) (weights caps marks : List ℕ) (st : Standing) (after : List ℕ) (r : Closed) : Type 0 where
+-- answered by one round: who closes has its mark, who is left open is listed, and nothing else changes
+pub record Shut (n : ℕ) (weights caps marks : List ℕ) (st : Standing) (after list : List ℕ) (r : Closed) : Type 0 where
   pub marks-are : take n after ≡ next (take n weights) (take n caps) st .marks
   pub past : drop n after ≡ drop n marks
   pub long : length after ≡ 256
   pub caps-are : r .caps .0 ≡ closed (take n weights) (take n caps) st (take n caps)
   pub weights-are : r .weights ≡ closed (take n weights) (take n caps) st (take n weights)
+  pub listed : Listed n weights after list (r .left)
 
 -- asked where redistribution begins, and again at each round: the weight is that of those who have not closed, marks are
--- numbers of past rounds, only payers of weight above 0 have closed, and there are rounds enough for the open ones
-pub record Ready (n : ℕ) (weights caps marks : List ℕ) (money weight rounds : ℕ) : Type 0 where
+-- numbers of past rounds, only payers of weight above 0 have closed, and there are rounds enough for the open ones, who are listed
+pub record Ready (n : ℕ) (weights caps marks : List ℕ) (money weight rounds : ℕ) (list : List ℕ) (m : ℕ) : Type 0 where
   pub held : Held n weights caps marks money
   pub weight-is : weight ≡ sumWhere (length (take n weights)) (λ i. eqb (at (take n marks) i) 0) (at (take n weights))
   pub marks-le : (i : ℕ) → at (take n marks) i ≤ rounds
   pub payers : (i : ℕ) → 0 < at (take n marks) i → 0 < at (take n weights) i
-  pub early : rounds + opens (take n weights) (take n marks) ≤ 256
+  pub early : rounds + m ≤ 256
+  pub listed : Listed n weights marks list m
 
 -- answered by redistribution from any standing: however many rounds are allowed, if they are enough
 pub record Ended (n : ℕ) (weights caps marks : List ℕ) (st : Standing) (after rest : List ℕ) : Type 0 where

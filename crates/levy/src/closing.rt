@@ -1,89 +1,85 @@
-// Rounds until nobody closes (01, Rounds). A payer's mark is the round in which it closed, 0 before that.
+// Rounds until nobody closes (01, Rounds), each over the list of open payers. A payer's mark is the round in which it closed, 0
+// before that.
 use crate::Closed;
 use crate::Rest;
+use crate::listing::counted;
+use crate::listing::list_payers;
+use crate::listing::one_if;
+use crate::listing::position;
 use crate::visiting::count_visits;
 use units::Fen;
 ghost use mathlib.Core.Path.{_≡_};
-ghost use mathlib.Core.Bool.{cond, _&&_};
 ghost use Prim.Native.Nat.{_*_, _^_, _<_};
-ghost use lib.Dec.{leb, ltb, eqb};
+ghost use lib.Dec.{leb};
 ghost use Rattle.levy.specs.Asked.{standing, Levyable, Round, Shut, Ready, Ended, Finished, Short};
 
 // Whether an open payer owes its cap or more. Both sides are whole numbers: there is no division.
-fn closes_now(mark: u32, w: u32, c: u32, money: Fen, weight: u64) -> bool
+fn closes_now(w: u32, c: u32, money: Fen, weight: u64) -> bool
     requires { ⌜ (c * weight < 2 ^ 63) × (money .0 * w < 2 ^ 63) ⌝ }
-    ensures { λ t. ⌜ t ≡ (eqb mark 0 && ltb 0 w) && leb (c * weight) (money .0 * w) ⌝ }
+    ensures { λ t. ⌜ t ≡ leb (c * weight) (money .0 * w) ⌝ }
 {
-    (mark == 0) & (0 < w) & ((c as u64) * weight <= money.0 * (w as u64))
+    (c as u64) * weight <= money.0 * (w as u64)
 }
 
-// A figure that counts if the test passed.
-pub fn counted(t: bool, x: u32) -> u64
-    ensures { λ r. ⌜ (r ≡ cond t x 0) × (r < 2 ^ 32) ⌝ }
-{
-    if t {
-        return x as u64;
-    }
-    0
-}
-
-// The mark after a round.
-fn mark_after(t: bool, round: u32, mark: u32) -> u32
-    ensures { λ r. ⌜ r ≡ cond t round mark ⌝ }
-{
-    if t {
-        return round;
-    }
-    mark
-}
-
-// One round: whoever closes in it is marked with its number.
+// One round over the m open payers: whoever closes in it is marked with its number, and the others are the list that is left. An
+// open payer's mark is 0, so it is written in either case. The contract is about n rows; no line here reads that number.
 fn close_round(
     money: Fen,
     weight: u64,
     rounds: u32,
     n: usize,
+    m: usize,
     weights: &[u32; 256],
     caps: &[u32; 256],
     marks: &mut [u32; 256],
+    list: &mut [u8; 256],
 ) -> Closed
-    requires { ⌜ Round n (now weights) (now caps) (now marks) (money .0) weight rounds ⌝ }
+    requires { ⌜ Round n (now weights) (now caps) (now marks) (money .0) weight rounds (now list) m ⌝ }
     ensures { λ r. ⌜ Shut n (now (weights .entry)) (now (caps .entry)) (now (marks .entry))
-        (standing n (now (marks .entry)) (money .0) weight rounds) (now (marks .exit)) r ⌝ }
+        (standing n (now (marks .entry)) (money .0) weight rounds) (now (marks .exit)) (now (list .exit)) r ⌝ }
 {
+    let round = rounds + 1;
     let mut closed_caps: u64 = 0;
     let mut closed_weights: u64 = 0;
-    let mut i = 0;
-    while i < n {
-        let t = closes_now(marks[i], weights[i], caps[i], money, weight);
-        closed_caps += counted(t, caps[i]);
-        closed_weights += counted(t, weights[i]);
-        marks[i] = mark_after(t, rounds + 1, marks[i]);
-        i += 1;
+    let mut kept = 0;
+    let mut j = 0;
+    while j < m {
+        let i = list[j];
+        let at = position(i);
+        let t = closes_now(weights[at], caps[at], money, weight);
+        closed_caps += counted(t, caps[at]);
+        closed_weights += counted(t, weights[at]);
+        marks[at] = counted(t, round) as u32;
+        list[kept] = i;
+        kept += one_if(!t);
+        j += 1;
     }
     Closed {
         caps: Fen(closed_caps),
         weights: closed_weights,
+        left: kept,
     }
 }
 
-// A round, and the next one with the money and the weight that are left. Whoever closes has weight, so a closed weight of 0
-// says that nobody closed. The result goes out through an array, so that the call of itself compiles to a loop.
+// A round, and the next one with the money, the weight and the open payers that are left. Whoever closes has weight, so a closed
+// weight of 0 says that nobody closed. The result goes out through an array, so that the call of itself compiles to a loop.
 fn redistribute(
     money: Fen,
     weight: u64,
     rounds: u32,
     n: usize,
+    m: usize,
     weights: &[u32; 256],
     caps: &[u32; 256],
     marks: &mut [u32; 256],
+    list: &mut [u8; 256],
     rest: &mut [u64; 3],
 )
-    requires { ⌜ Ready n (now weights) (now caps) (now marks) (money .0) weight rounds ⌝ }
+    requires { ⌜ Ready n (now weights) (now caps) (now marks) (money .0) weight rounds (now list) m ⌝ }
     ensures { λ _. ⌜ Ended n (now (weights .entry)) (now (caps .entry)) (now (marks .entry))
         (standing n (now (marks .entry)) (money .0) weight rounds) (now (marks .exit)) (now (rest .exit)) ⌝ }
 {
-    let shut = close_round(money, weight, rounds, n, weights, caps, marks);
+    let shut = close_round(money, weight, rounds, n, m, weights, caps, marks, list);
     if shut.weights == 0 {
         *rest = [money.0, weight, rounds as u64];
         return;
@@ -93,9 +89,11 @@ fn redistribute(
         weight - shut.weights,
         rounds + 1,
         n,
+        shut.left,
         weights,
         caps,
         marks,
+        list,
         rest,
     )
 }
@@ -114,7 +112,20 @@ pub fn rounds(
     let column = &weights[..];
     let weight = columns::total_of(&column[..n]);
     let mut rest = [0u64; 3];
-    redistribute(total, weight, 0, n, weights, caps, marks, &mut rest);
+    let mut list = [0u8; 256];
+    let m = list_payers(n, weights, &mut list);
+    redistribute(
+        total,
+        weight,
+        0,
+        n,
+        m,
+        weights,
+        caps,
+        marks,
+        &mut list,
+        &mut rest,
+    );
     let visits = count_visits(n, rest[2] as u32, weights, marks);
     Rest {
         money: Fen(rest[0]),

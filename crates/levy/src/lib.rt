@@ -3,6 +3,7 @@
 // proportion: kWh today, thousandths of a kWh under request 10.
 mod closing;
 mod filling;
+mod listing;
 mod paying;
 mod visiting;
 
@@ -13,10 +14,11 @@ pub use filling::cover;
 pub use paying::payments;
 use units::Fen;
 
-// What closes in one round: the caps and the weights of those that close, added up.
+// What closes in one round: the caps and the weights of those that close, added up; and how many are left open.
 pub struct Closed {
     pub caps: Fen,
     pub weights: u64,
+    pub left: usize,
 }
 
 // What is left after the last round, in how many rounds a payer reached its cap, and how often a payer was looked at in all.

@@ -1,6 +1,6 @@
 // Payments once the rounds have ended (01, Rounds). The one sharing rule makes their fen.
 use crate::Rest;
-use crate::closing::counted;
+use crate::listing::counted;
 use units::Fen;
 ghost use mathlib.Core.Path.{_≡_};
 ghost use mathlib.Core.Bool.{cond};

@@ -1,11 +1,9 @@
 -- `levy::redistribute` meets its contract: each round leaves fewer open, and the rest is the same function of what it left.
 use Prim.Native.Nat.{ℕ, _<_}
 use borrow.Author.Needs.{needs}
-use lib.ListN.{take}
 use borrow.Fn.Kinds.{In}
 use borrow.Fn.PlainCycle.{Measures, is, falls, and}
-use Rattle.levy.specs.Rounds.{opens}
-use Rattle.levy.proofs.Again.{round-asked, caps-in, weights-in, count-in, opens-less, ready-again, stopped, went-on}
+use Rattle.levy.proofs.Again.{round-asked, caps-in, weights-in, count-in, left-less, ready-again, stopped, went-on}
 use Rattle.levy.proofs.closing.redistribute.Reads as redistribute
 use Rattle.levy.proofs.closing.redistribute.Kinds as redistribute-kinds
 use Rattle.levy.proofs.closing.+redistribute.Lts-redistribute as redistribute-lts
@@ -13,20 +11,19 @@ use Rattle.levy.proofs.closing.close_round.Reads as close-round-reads
 use Rattle.levy.proofs.closing.+redistribute.{statement}
 use Rattle.levy.proofs.closing.+redistribute.Tie.{close}
 
-abbrev μ-redistribute : Measures 4 redistribute-kinds.ps ℕ
-μ-redistribute κs a =
-    opens (take (a .1 .1 .1 .0) (a .1 .1 .1 .1 .0 .now)) (take (a .1 .1 .1 .0) (a .1 .1 .1 .1 .1 .1 .0 .now))
+abbrev μ-redistribute : Measures 5 redistribute-kinds.ps ℕ
+μ-redistribute κs a = a .1 .1 .1 .1 .0
 
-abbrev redistribute-at : ℕ → In 4 redistribute-kinds.ps
+abbrev redistribute-at : ℕ → In 5 redistribute-kinds.ps
 redistribute-at t =
-    and 4 redistribute-kinds.ps (is 4 redistribute-kinds.ps μ-redistribute t) redistribute.Pre
+    and 5 redistribute-kinds.ps (is 5 redistribute-kinds.ps μ-redistribute t) redistribute.Pre
 
-abbrev redistribute-below : ℕ → In 4 redistribute-kinds.ps
+abbrev redistribute-below : ℕ → In 5 redistribute-kinds.ps
 redistribute-below t =
     and
-    4
+    5
     redistribute-kinds.ps
-    (falls 4 redistribute-kinds.ps _<_ μ-redistribute t)
+    (falls 5 redistribute-kinds.ps _<_ μ-redistribute t)
     redistribute.Pre
 
 redistribute-close-round-requires : (t : ℕ) → redistribute-lts.Need-close-round-requires (
@@ -45,13 +42,13 @@ redistribute-returns : (t : ℕ) → redistribute-lts.Need-returns (
 ) (redistribute-at t) redistribute.Post
 redistribute-returns t c = search stopped
 
-redistribute-sub-t14 : (t : ℕ) → redistribute-lts.Need-sub-t14 (
+redistribute-sub-t17 : (t : ℕ) → redistribute-lts.Need-sub-t17 (
   close-round-reads.Asked,
   close-round-reads.Learnt,
   redistribute-below t,
   redistribute.Post,
 ) (redistribute-at t) redistribute.Post
-redistribute-sub-t14 t c = search (caps-in, needs)
+redistribute-sub-t17 t c = search (caps-in, needs)
 
 redistribute-sub-redistribute : (t : ℕ) → redistribute-lts.Need-sub-redistribute (
   close-round-reads.Asked,
@@ -75,7 +72,7 @@ redistribute-redistribute-requires : (t : ℕ) → redistribute-lts.Need-redistr
   redistribute-below t,
   redistribute.Post,
 ) (redistribute-at t) redistribute.Post
-redistribute-redistribute-requires t c κs = (search opens-less, search ready-again)
+redistribute-redistribute-requires t c κs = (search left-less, search ready-again)
 
 redistribute-returns-2 : (t : ℕ) → redistribute-lts.Need-returns-2 (
   close-round-reads.Asked,
@@ -96,7 +93,7 @@ pub +redistribute-spec : {M : Type 1} → statement M
     redistribute.Post
     (redistribute-close-round-requires t)
     (redistribute-returns t)
-    (redistribute-sub-t14 t)
+    (redistribute-sub-t17 t)
     (redistribute-sub-redistribute t)
     (redistribute-add-redistribute t)
     (redistribute-redistribute-requires t)

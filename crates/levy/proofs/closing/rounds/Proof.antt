@@ -11,6 +11,9 @@ slice-aggregate-total-of c = search front-long
 total-of-requires : tie.Need-total-of-requires
 total-of-requires c κs = search weights-few
 
+list-payers-requires : tie.Need-list-payers-requires
+list-payers-requires c κs = search needs
+
 redistribute-requires : tie.Need-redistribute-requires
 redistribute-requires c κs = search rounds-begin
 
@@ -23,17 +26,17 @@ cast-count-visits c = search needs
 count-visits-requires : tie.Need-count-visits-requires
 count-visits-requires c κs = search visits-asked
 
-array-read-t18 : tie.Need-array-read-t18
-array-read-t18 c = search needs
+array-read-t22 : tie.Need-array-read-t22
+array-read-t22 c = search needs
 
-array-read-t26 : tie.Need-array-read-t26
-array-read-t26 c = search needs
+array-read-t30 : tie.Need-array-read-t30
+array-read-t30 c = search needs
 
-array-read-t29 : tie.Need-array-read-t29
-array-read-t29 c = search needs
+array-read-t33 : tie.Need-array-read-t33
+array-read-t33 c = search needs
 
-cast-t30 : tie.Need-cast-t30
-cast-t30 c = search needs
+cast-t34 : tie.Need-cast-t34
+cast-t34 c = search needs
 
 returns : tie.Need-returns
 returns c = search rounds-end
@@ -44,12 +47,13 @@ rounds-spec =
     (tie.spec
     slice-aggregate-total-of
     total-of-requires
+    list-payers-requires
     redistribute-requires
     array-read-count-visits
     cast-count-visits
     count-visits-requires
-    array-read-t18
-    array-read-t26
-    array-read-t29
-    cast-t30
+    array-read-t22
+    array-read-t30
+    array-read-t33
+    cast-t34
     returns)
