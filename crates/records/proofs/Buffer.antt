@@ -13,6 +13,7 @@
 --   put-left, put-right   a run put within the first, or the second, of two joined lists
 --   put-within            a run put within a run that was put
 --   put-ahead             a run put right in front of one that was put
+--   put-apart             two runs that do not meet, in either order
 use mathlib.Core.Path.{_≡_, refl, sym, ap, _∙_}
 use mathlib.Core.List.{List, [], _∷_, _++_, append-assoc, append-nil}
 use Prim.Native.Nat.{ℕ, _+_, _-_, _≤_, _<_}
@@ -155,3 +156,16 @@ module _ {A : Type 0} where
         end,
       )
       (simp append-assoc)
+
+  -- two runs that do not meet may be put in either order
+  pub put-apart : (l : List A) (k m : ℕ) (vs ws : List A) → k + length vs ≤ m → m ≤ length l → put (put l k vs) m ws ≡ put (put l m ws) k vs
+  put-apart l k m vs ws before inside =
+      let a = take m l in
+      let b = drop m l in
+      let long : length a ≡ m = length-take-le m l inside in
+      let here : m + 0 ≡ m = add-zero m in
+      let low : (c : List A) → put (a ++ c) k vs ≡ put a k vs ++ c = λ c. put-left a c k vs (omega (arith, long)) in
+      let high : (c : List A) → length c ≡ m → put (c ++ b) m ws ≡ c ++ put b 0 ws = λ c e. rw here at (put-right c b m 0 ws e) in
+      ap (λ (x : List A). put (put x k vs) m ws) (sym (take-append-drop m l)) ∙ ap (λ (x : List A). put x m ws) (low b)
+      ∙ high (put a k vs) (put-length a k vs (omega (arith, long)) ∙ long) ∙ sym (low (put b 0 ws))
+      ∙ ap (λ (x : List A). put x k vs) (sym (high a long)) ∙ ap (λ (x : List A). put (put x m ws) k vs) (take-append-drop m l)

@@ -10,6 +10,7 @@
 --   sheet-same         lines that agree make the same sheet
 --   sheet-head         a run put in front of the sheet
 --   sheet-length, cell-length, column-length    the buffer keeps its length
+--   cells-apart        two cells apart, put in either order
 --   cell-later         a stage that goes from record to record leaves later records alone
 --   records-length, lines-length, records-joined      of records one after the other; lines-read: between any bytes
 --   upTo-done, upTo-left, upTo-full             what the first m records of a stage have, and the others
@@ -36,7 +37,7 @@ use Rattle.records.specs.Sheet.{fieldOf, cellAt, cell, columnOf, withCel
 use Rattle.records.specs.declared.Field.{Field}
 use Rattle.records.proofs.Number.{number-length, number-front}
 use Rattle.records.proofs.Reading.{number-same}
-use Rattle.records.proofs.Buffer.{put-length, put-none, put-put, put-left, put-right, put-within, put-ahead, put-inside, put-after}
+use Rattle.records.proofs.Buffer.{put-length, put-none, put-put, put-left, put-right, put-within, put-ahead, put-apart, put-inside, put-after}
 use Rattle.records.proofs.Record.{record-length, record-with, record-is, record-read, record-behind, field-at, number-behind, span-part}
 
 -- every record has as many fields as the table
@@ -313,3 +314,10 @@ cell-later f g n xs s (suc m) i start stride r le l =
     (λ k q. put-after before (cellAt f m) (numberBytes (f .width) (at xs m)) (cellAt g i + k) 0 (omega (arith, long, there))
     (omega (arith, far, start, most, r .inside, number-length (f .width) (at xs m))))
     ∙ cell-later f g n xs s m i start stride r (omega arith) l
+
+-- two cells, of which one ends before the other begins, may be put in either order
+pub cells-apart : (f g : Field) (i j x y : ℕ) (s : List ℕ) → cellAt g j + g .width ≤ cellAt f i → cellAt f i ≤ length s
+    → withCell f i x (withCell g j y s) ≡ withCell g j y (withCell f i x s)
+unfolding withCell
+cells-apart f g i j x y s before inside =
+    put-apart s (cellAt g j) (cellAt f i) (numberBytes (g .width) y) (numberBytes (f .width) x) (omega (arith, number-length (g .width) y)) inside

@@ -1,6 +1,7 @@
 pub mod Sizes
 pub mod Staged
 pub mod Lending
+pub mod LineByLine
 pub mod Tiers
 pub mod Trading
 pub mod Paying

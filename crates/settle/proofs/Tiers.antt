@@ -1,9 +1,10 @@
 -- A tier's stage, as its proofs ask for it.
 --   priced-by                     a price by energies that are read
---   widths-asked, bids-asked      widths and bids may be read
+--   widths-asked, bids-asked, lent-level     widths and bids may be read
 --   tier-ready                    the columns read are such as `call_tier` asks for
 --   columns-level, energies-asked, tier-cleared     and then such as `price_in` asks for, and what comes of both
 --   calls-lined, tier-called      the calls may be put, and what the stage leaves
+--   tier-unneeded                 what it leaves where nothing is needed, and the blank column is put
 --   front-offered, asked-front, lent-front, called-front     the same over fronts of fresh arrays
 use Prim.Native.Nat.{ℕ, _-_}
 use mathlib.Core.Path.{_≡_, refl, sym, ap, _∙_}
@@ -19,6 +20,9 @@ use Rattle.records.specs.declared.Field.{Field}
 use Rattle.merit.specs.OneTier.{tierCalls, calledIn}
 use Rattle.merit.specs.Price.{price}
 use Rattle.merit.specs.Ready.{Ready, TierCalled, OneLength}
+use Rattle.merit.proofs.Laws.{price-none}
+use Rattle.merit.proofs.Walking.{ended-unneeded}
+use Rattle.units.specs.declared.Kwh.{Kwh}
 use Rattle.settle.specs.Work.{Ruled, Offered, Lent, callsIn, ClearedIn, Called}
 use Rattle.settle.specs.declared.market.Cleared.{Cleared}
 use Rattle.settle.specs.declared.market.TierFields.{TierFields}
@@ -41,6 +45,9 @@ module _ (ws bs cs s : List ℕ) (first : ℕ) (p : TierFields) (offered : Offer
 
   pub bids-asked : Ruled (length bs) (p .bid) s
   bids-asked = rw (lent .bids-long) (offered .bids)
+
+  pub lent-level : length bs ≡ length ws
+  lent-level = lent .bids-long ∙ sym (lent .widths-long)
 
   module _ (ws1 bs1 : List ℕ) (widths-read : ws1 ≡ columnOf (p .width) (length ws) s) (bids-read : bs1 ≡ columnOf (p .bid) (length bs) s) where
     widths-are : ws1 ≡ columnOf (p .width) (length cs) s
@@ -109,6 +116,22 @@ module _ (n first : ℕ) (p : TierFields) (s : List ℕ) (offered : Offered n fi
         left = cleared .left;
         price = cleared .price;
       }
+
+module _ (ws bs cs s : List ℕ) (first : ℕ) (p : TierFields) (offered : Offered (length cs) first p s) (lent : Lent ws bs cs) where
+  -- nobody is called, as the columns would say if they were read, and nobody sets a price
+  unneeded : (need : ℕ) → need ≡ 0 → (r : Cleared) → r .left .0 ≡ need → r .price .0 ≡ 0 → ClearedIn need first (length cs) p s cs r
+  unneeded need z r is free =
+      let ws1 = columnOf (p .width) (length ws) s in
+      let bs1 = columnOf (p .bid) (length bs) s in
+      let called = ended-unneeded need ws1 bs1 first cs (tier-ready ws bs cs s first p offered lent ws1 bs1 refl refl) z in
+      tier-cleared ws bs cs s first p offered lent ws1 bs1 refl refl need need cs called r is
+      (free ∙ sym (price-none bs1 cs (columnOf (p .energy) (length ws1) s) (λ i d. omega (arith, lent .blank i, d .1))))
+
+  pub tier-unneeded : (need : Kwh) (t : List ℕ) → need .0 ≡ 0 → t ≡ withColumn (p .width) cs s
+      → Called (need .0) first (length cs) p s t (record { left = need; price = record { 0 = 0 } })
+  tier-unneeded need t z put =
+      let r : Cleared = record { left = need; price = record { 0 = 0 } } in
+      tier-called (length cs) first p s offered (need .0) cs r (unneeded (need .0) z r refl refl) t put
 
 -- ---- over fronts of fresh arrays
 

@@ -50,6 +50,11 @@ pub record Ruled (n : ℕ) (f : Field) (s : List ℕ) : Type 0 where
   pub lined : Lined f n s
   pub narrow : f .width ≤ 4
 
+-- two fields of the same lines
+pub record SameLines (f g : Field) : Type 0 where
+  pub start : f .start ≡ g .start
+  pub stride : f .stride ≡ g .stride
+
 -- the fields of tier 1 and of tier 2; tier 1 is 0 here
 abbrev pub tierOne : TierFields
 tierOne = record { width = line.called1; bid = line.closing; energy = line.compensation }
@@ -201,6 +206,11 @@ pub record Shareable (n first : ℕ) (what : Sharing) (s : List ℕ) : Type 0 wh
   pub sums : Ruled n (what .from) s
   pub parts : Ruled n (what .to) s
   pub covered : what .amount .0 ≤ whole (columnOf (what .from) n s)
+
+-- two columns of one length to work in, the second of them blank
+pub record LentParts (sums parts : List ℕ) : Type 0 where
+  pub long : length parts ≡ length sums
+  pub blank : (i : ℕ) → at parts i ≡ 0
 
 -- the shares stand in theirs
 abbrev pub sharedOut : ℕ → ℕ → Sharing → List ℕ → List ℕ

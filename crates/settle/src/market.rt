@@ -94,7 +94,8 @@ fn clear_in(
     Cleared { left, price }
 }
 
-// The same, with the calls put where the widths stood.
+// The same, with the calls put where the widths stood. Where nothing is needed nobody is called, as the column lent says, and nobody
+// sets a price.
 fn call_in(
     need: Kwh,
     first: usize,
@@ -107,6 +108,13 @@ fn call_in(
     requires { ⌜ Offered (length (now called)) first fields (now sheet) × Lent (now widths) (now bids) (now called) ⌝ }
     ensures { λ r. ⌜ Called (need .0) first (length (now (called .entry))) fields (now (sheet .entry)) (now (sheet .exit)) r ⌝ }
 {
+    if need.0 == 0 {
+        put_column(sheet, fields.width, called);
+        return Cleared {
+            left: need,
+            price: Li(0),
+        };
+    }
     let cleared = clear_in(need, first, fields, widths, bids, called, sheet);
     put_column(sheet, fields.width, called);
     cleared

@@ -3,6 +3,8 @@
 --     Halved, halved-none, halved-low, halved-high     the search for the line
 --     line-exact, line-last     its two ends
 --     before-line               to be served by the line is to be among the first `left` by the order of service
+--     liftable, lifted-all      where nobody at the line is served: one more to all above it
+--     lifted-fits, lifted-next, lifted-end     the loop that gives it
 --     turned-on, turned-round   the position of a turn
 --     Handed, handed-none, handed-inside, handed-fits, met-fits, handed-next, handed-all     the pass
 use Prim.Native.Nat.{ℕ, _+_, _-_, _^_, _≤_, _<_}
@@ -12,7 +14,7 @@ use mathlib.Core.Bool.{Bool, true, false, cond, _&&_, _||_}
 use mathlib.Core.List.{List}
 use native.Mathlib.Omega.{arith}
 use lib.Dec.{ltb, leb, eqb}
-use lib.ListN.{length, set, length-set}
+use lib.ListN.{length, set, length-set, List·getD-eq-default}
 use lib.Seq.{getD-set-same, getD-set-other}
 use borrow.Author.Tests.{lt-ltb, le-ltb, le-leb, lt-leb, leb-true, eq-eqb, ne-eqb, eqb-true, eqb-false}
 use mir.Val.{boolByte}
@@ -21,9 +23,10 @@ use Rattle.columns.specs.Table.{at, table}
 use Rattle.columns.proofs.Sum.{lt-or-le, sum-same, sum-add, sum-le, bit-le, count-next, count-le, count-none, count-all, count-sub, count-some}
 use Rattle.columns.proofs.Rank.{test-or, ltb-same, count-one}
 use Rattle.columns.proofs.First.{right-true}
-use Rattle.columns.proofs.Table.{table-is}
+use Rattle.columns.proofs.Fill.{Reached, reached-now, reached-next, reached-all}
+use Rattle.columns.proofs.Table.{table-same, table-is}
 use Rattle.share.specs.Share.{turn}
-use Rattle.share.specs.Steps.{goesBefore, place, raised, reach, Served, Serving, Handable}
+use Rattle.share.specs.Steps.{goesBefore, place, raised, lifted, reach, Served, Serving, Handable, Liftable}
 use Rattle.share.proofs.Order.{turn-early, turn-late, turn-lt, turn-apart}
 
 and-true : (b : Bool) → bit (b && true) ≡ bit b
@@ -176,6 +179,55 @@ module _ (rs : List ℕ) (first left low ties : ℕ) (line : Served rs left low 
       (ltb-same (passed rs first low (turn (length rs) first i)) ties (place rs first i) left
       (λ (o : passed rs first low (turn (length rs) first i) < ties). omega (arith, place-equal e, line .is))
       (λ (o : place rs first i < left). omega (arith, place-equal e, line .is)))) (lt-or-le (at rs i) low)) (lt-or-le low (at rs i))
+
+-- ---- where nobody at the line is served
+
+-- then to be served is to be above it
+lifted-raised : (qs rs : List ℕ) (first left low : ℕ) → Served rs left low 0 → (i : ℕ) → i < length rs
+    → lifted qs rs low i ≡ raised qs rs first left i
+unfolding lifted raised
+lifted-raised qs rs first left low line i l =
+    ap (λ (b : Bool). at qs i + bit b)
+    (above (ltb low (at rs i)) (eqb (at rs i) low) (passed rs first low (turn (length rs) first i)) ∙ before-line rs first left low 0 line i l)
+  where
+    above : (b c : Bool) (t : ℕ) → b ≡ (b || (c && ltb t 0))
+    above true c t = refl
+    above false true t = sym (le-ltb t 0 (omega arith))
+    above false false t = refl
+
+module _ (qs rs : List ℕ) (W first left low ties : ℕ) (line : Served rs left low ties) (none : ties ≡ 0) where
+  exact : Served rs left low 0
+  exact = rw none at line
+
+  pub liftable : Handable qs rs W first left → Liftable qs rs low
+  unfolding lifted
+  liftable h =
+      record {
+        room = h .room;
+        fits =
+            λ i. ⊎-elim (λ (l : i < length rs). rw (lifted-raised qs rs first left low exact i l) (h .fits i))
+            (λ (l : length rs ≤ i). let end : length qs ≤ i = omega (arith, h .room) in
+            omega (arith, List·getD-eq-default qs 0 end, bit-le (ltb low (at rs i)))) (lt-or-le i (length rs));
+      }
+
+  pub lifted-all : (xs : List ℕ) → xs ≡ table (length rs) (lifted qs rs low) → xs ≡ table (length rs) (raised qs rs first left)
+  lifted-all xs e = e ∙ table-same (length rs) (lifted qs rs low) (raised qs rs first left) (λ i l. lifted-raised qs rs first left low exact i l)
+
+module _ (qs rs : List ℕ) (low : ℕ) (xs : List ℕ) (i : ℕ) (good : Liftable qs rs low) (r : Reached 0 (lifted qs rs low) qs xs i) where
+  lifted-now : at xs i + boolByte (ltb low (at rs i)) ≡ lifted qs rs low i
+  unfolding lifted
+  lifted-now = omega (arith, byte-bit (ltb low (at rs i)), reached-now 0 (lifted qs rs low) qs xs i r)
+
+  pub lifted-fits : at xs i + boolByte (ltb low (at rs i)) < 2 ^ 64
+  lifted-fits = omega (arith, lifted-now, good .fits i)
+
+  pub lifted-next : i < length rs → Reached 0 (lifted qs rs low) qs (set xs i (at xs i + boolByte (ltb low (at rs i)))) (i + 1)
+  lifted-next l =
+      reached-next 0 (lifted qs rs low) qs xs i (at xs i + boolByte (ltb low (at rs i))) r (omega (arith, r .room, good .room)) lifted-now
+
+  pub lifted-end : length rs ≤ i → xs ≡ table (length rs) (lifted qs rs low)
+  lifted-end l =
+      reached-all 0 (lifted qs rs low) qs xs i r (omega (arith, r .room, good .room)) ∙ ap (λ (n : ℕ). table n (lifted qs rs low)) (good .room)
 
 -- ---- the pass over turns
 

@@ -81,6 +81,15 @@ pub record Handable (qs rs : List ℕ) (W first left : ℕ) : Type 0 where
   pub inside : 0 < length rs → first < length rs
   pub fits : (i : ℕ) → raised qs rs first left i < 2 ^ 64
 
+-- what position i has with one more if its remainder is above `low`
+unfoldable pub lifted : List ℕ → List ℕ → ℕ → ℕ → ℕ
+lifted qs rs low i = at qs i + bit (ltb low (at rs i))
+
+-- quotas and remainders of one length, over which it can go out
+pub record Liftable (qs rs : List ℕ) (low : ℕ) : Type 0 where
+  pub room : length qs ≡ length rs
+  pub fits : (i : ℕ) → lifted qs rs low i < 2 ^ 64
+
 -- 0 for every position
 unfoldable pub nothing : ℕ → ℕ
 nothing i = 0

@@ -6,7 +6,7 @@ ghost use Rattle.columns.specs.Table.{table};
 ghost use Rattle.columns.specs.Sum.{whole};
 ghost use Rattle.share.specs.Share.{turn, shares};
 ghost use Rattle.share.specs.Split.{Splittable};
-ghost use Rattle.share.specs.Steps.{Divided, Carries, Digits, Divisible, Quotable, Quoted, Serving, Served, Handable, reach, goesBefore, raised, nothing};
+ghost use Rattle.share.specs.Steps.{Divided, Carries, Digits, Divisible, Quotable, Quoted, Serving, Served, Handable, Liftable, reach, goesBefore, raised, lifted, nothing};
 
 // A product divided by the sum of the weights: the quota, and the remainder.
 struct Division {
@@ -199,12 +199,23 @@ fn goes_before(r: u64, t: u64, s: u64, u: u64) -> bool
     (s < r) | ((r == s) & (t < u))
 }
 
-// The `left` ones go out, one each, to the first `left` in the order of service: turn by turn, `met` counting the remainders at the line.
-fn hand_out(rests: &[u64], sum: u64, first: usize, left: u64, out: &mut [u64])
-    requires { ⌜ Handable (now out) (now rests) sum first left ⌝ }
+// One more to every remainder above `low`, where none at it is served.
+fn serve_above(rests: &[u64], low: u64, out: &mut [u64])
+    requires { ⌜ Liftable (now out) (now rests) low ⌝ }
+    ensures { λ _. ⌜ now (out .exit) ≡ table (length (now (rests .entry))) (lifted (now (out .entry)) (now (rests .entry)) low) ⌝ }
+{
+    let mut i = 0;
+    while i < rests.len() {
+        out[i] += (low < rests[i]) as u64;
+        i += 1;
+    }
+}
+
+// One more to every remainder above the line, and to the first so many at it: turn by turn, `met` counting those at it.
+fn serve_in_turn(rests: &[u64], line: Line, sum: u64, first: usize, left: u64, out: &mut [u64])
+    requires { ⌜ Handable (now out) (now rests) sum first left × Served (now rests) left (line .low) (line .ties) ⌝ }
     ensures { λ _. ⌜ now (out .exit) ≡ table (length (now (rests .entry))) (raised (now (out .entry)) (now (rests .entry)) first left) ⌝ }
 {
-    let line = line_of(rests, sum, left);
     let n = rests.len();
     let mut met: u64 = 0;
     let mut t = 0;
@@ -214,6 +225,19 @@ fn hand_out(rests: &[u64], sum: u64, first: usize, left: u64, out: &mut [u64])
         met += (rests[i] == line.low) as u64;
         t += 1;
     }
+}
+
+// The `left` ones go out, one each, to the first `left` in the order of service. Turns matter only if the line passes through equal ones.
+fn hand_out(rests: &[u64], sum: u64, first: usize, left: u64, out: &mut [u64])
+    requires { ⌜ Handable (now out) (now rests) sum first left ⌝ }
+    ensures { λ _. ⌜ now (out .exit) ≡ table (length (now (rests .entry))) (raised (now (out .entry)) (now (rests .entry)) first left) ⌝ }
+{
+    let line = line_of(rests, sum, left);
+    if line.ties == 0 {
+        serve_above(rests, line.low, out);
+        return;
+    }
+    serve_in_turn(rests, line, sum, first, left, out);
 }
 
 // Nobody has a weight, or there is nothing to share: everybody gets 0.

@@ -1,100 +1,38 @@
--- `share::hand_out` meets its contract: whoever has had its turn has what is due.
-use Prim.Native.Nat.{_-_}
-use lib.ListN.{length}
-use Rattle.share.proofs.Serving.{Handed, handed-none, handed-inside, handed-fits, met-fits, handed-next, handed-all}
+-- `share::hand_out` meets its contract: where nobody at the line is served, those above it are all; else they are served in turn.
+use Rattle.share.proofs.Serving.{liftable, lifted-all}
 use borrow.Author.Needs.{needs}
 use Rattle.share.proofs.hand_out.Statement.{statement}
 use Rattle.share.proofs.hand_out.Tie as tie
 
-abbrev Inv-loop : tie.InvT-loop
-Inv-loop rests sum first left out₀ line n met₀ t₀ out met t = Handed out₀ rests first left (line .low) t met out
-
-abbrev μ-loop : tie.MeasureT-loop
-μ-loop rests sum first left out₀ line n met₀ t₀ out met t = length rests - t
-
-line-of-requires : tie.Need-line-of-requires Inv-loop μ-loop
+line-of-requires : tie.Need-line-of-requires
 line-of-requires c κs = search needs
 
-loop-holds : tie.Need-loop-holds Inv-loop μ-loop
-loop-holds c = search handed-none
+serve-above-requires : tie.Need-serve-above-requires
+serve-above-requires c κs = search liftable
 
-at-turn-requires : tie.Need-at-turn-requires Inv-loop μ-loop
-at-turn-requires c κs = (search needs, search handed-inside, search needs)
-
-mul-goes-before : tie.Need-mul-goes-before Inv-loop μ-loop
-mul-goes-before c = search needs
-
-shared-slice-read-goes-before : tie.Need-shared-slice-read-goes-before Inv-loop μ-loop
-shared-slice-read-goes-before c = search needs
-
-goes-before-requires : tie.Need-goes-before-requires Inv-loop μ-loop
-goes-before-requires c κs = search needs
-
-cast-out : tie.Need-cast-out Inv-loop μ-loop
-cast-out c = search needs
-
-mul-out : tie.Need-mul-out Inv-loop μ-loop
-mul-out c = search needs
-
-slice-read-out : tie.Need-slice-read-out Inv-loop μ-loop
-slice-read-out c = search needs
-
-add-out : tie.Need-add-out Inv-loop μ-loop
-add-out c = record { fits = search handed-fits }
-
-slice-write-out : tie.Need-slice-write-out Inv-loop μ-loop
-slice-write-out c = search needs
-
-mul-met : tie.Need-mul-met Inv-loop μ-loop
-mul-met c = search needs
-
-shared-slice-read-met : tie.Need-shared-slice-read-met Inv-loop μ-loop
-shared-slice-read-met c = search needs
-
-cast-met : tie.Need-cast-met Inv-loop μ-loop
-cast-met c = search needs
-
-add-met : tie.Need-add-met Inv-loop μ-loop
-add-met c = record { fits = search met-fits }
-
-add-t : tie.Need-add-t Inv-loop μ-loop
-add-t c = search needs
-
-loop-less : tie.Need-loop-less Inv-loop μ-loop
-loop-less c = search needs
-
-loop-again : tie.Need-loop-again Inv-loop μ-loop
-loop-again c = search handed-next
-
-same-length : tie.Need-same-length Inv-loop μ-loop
+same-length : tie.Need-same-length
 same-length c = search needs
 
-returns : tie.Need-returns Inv-loop μ-loop
-returns c = search handed-all
+returns : tie.Need-returns
+returns c = search lifted-all
+
+serve-in-turn-requires : tie.Need-serve-in-turn-requires
+serve-in-turn-requires c κs = search needs
+
+same-length-2 : tie.Need-same-length-2
+same-length-2 c = search needs
+
+returns-2 : tie.Need-returns-2
+returns-2 c = search needs
 
 pub hand-out-spec : {M : Type 1} → statement M
 hand-out-spec =
     tie.close
     (tie.spec
-    Inv-loop
-    μ-loop
     line-of-requires
-    loop-holds
-    at-turn-requires
-    mul-goes-before
-    shared-slice-read-goes-before
-    goes-before-requires
-    cast-out
-    mul-out
-    slice-read-out
-    add-out
-    slice-write-out
-    mul-met
-    shared-slice-read-met
-    cast-met
-    add-met
-    add-t
-    loop-less
-    loop-again
+    serve-above-requires
     same-length
-    returns)
+    returns
+    serve-in-turn-requires
+    same-length-2
+    returns-2)

@@ -1,11 +1,11 @@
 -- `settle::market::clear_in` meets its contract: the columns read are the fields'.
-use Rattle.settle.proofs.Tiers.{widths-asked, bids-asked, tier-ready, columns-level, energies-asked, tier-cleared}
+use Rattle.settle.proofs.Tiers.{widths-asked, bids-asked, lent-level, tier-ready, columns-level, energies-asked, tier-cleared}
 use borrow.Author.Needs.{needs}
 use Rattle.settle.proofs.market.clear_in.Statement.{statement}
 use Rattle.settle.proofs.market.clear_in.Tie as tie
 
 get-pair-requires : tie.Need-get-pair-requires
-get-pair-requires c κs = search (widths-asked, bids-asked)
+get-pair-requires c κs = search (widths-asked, bids-asked, lent-level)
 
 call-tier-requires : tie.Need-call-tier-requires
 call-tier-requires c κs = search tier-ready

@@ -1,6 +1,7 @@
 -- `settle::payers::collect` meets its contract: it lends columns, and puts payments and closing rounds into their fields.
-use Rattle.settle.proofs.Levying.{front-leviable, weights-asked, caps-asked, rounds-asked, paid-count, marks-count, paid-asked, marks-asked, levied}
+use Rattle.settle.proofs.Levying.{front-leviable, weights-asked, caps-asked, rounds-asked, paid-count, marks-count, paid-asked, marks-asked, counts-level, levied}
 use borrow.Author.Needs.{needs}
+use mathlib.Core.Path.{refl}
 use Rattle.settle.proofs.payers.collect.Statement.{statement}
 use Rattle.settle.proofs.payers.collect.Tie as tie
 
@@ -54,8 +55,14 @@ put-pair-requires c κs =
     let l = c .before .before .before in
     let got = before-levy-on l in
     let asked = got .before .before .before .before .before .pre in (
-      paid-asked _ _ _ _ asked _ _ (got .get-pair .ensures .0) (got .get-pair .ensures .1) _ _ _ (l .levy-on .ensures),
-      marks-asked _ _ _ _ asked _ _ (got .get-pair .ensures .0) (got .get-pair .ensures .1) _ _ _ (l .levy-on .ensures),
+      (
+        paid-asked _ _ _ _ asked _ _ (got .get-pair .ensures .0) (got .get-pair .ensures .1) _ _ _ (l .levy-on .ensures),
+        marks-asked _ _ _ _ asked _ _ (got .get-pair .ensures .0) (got .get-pair .ensures .1) _ _ _ (l .levy-on .ensures),
+      ),
+      (
+        counts-level _ _ _ _ asked _ _ (got .get-pair .ensures .0) (got .get-pair .ensures .1) _ _ _ (l .levy-on .ensures),
+        record { start = refl; stride = refl },
+      ),
     )
 
 same-length : tie.Need-same-length

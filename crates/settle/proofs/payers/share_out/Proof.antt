@@ -1,5 +1,5 @@
 -- `settle::payers::share_out` meets its contract: it only lends columns.
-use Rattle.settle.proofs.Levying.{front-shareable, share-front, share-there}
+use Rattle.settle.proofs.Levying.{front-shareable, share-front, parts-front, share-there}
 use borrow.Author.Needs.{needs}
 use Rattle.settle.proofs.payers.share_out.Statement.{statement}
 use Rattle.settle.proofs.payers.share_out.Tie as tie
@@ -17,7 +17,7 @@ slice-aggregate-share-in-2 : tie.Need-slice-aggregate-share-in-2
 slice-aggregate-share-in-2 c = search front-shareable
 
 share-in-requires : tie.Need-share-in-requires
-share-in-requires c κs = search share-front
+share-in-requires c κs = search (share-front, parts-front)
 
 same-length : tie.Need-same-length
 same-length c = search needs
