@@ -2,10 +2,13 @@
 //! that have landed, without a look at the definitions or the engine.
 //!
 //! It is what both are compared with: byte for byte in the differential tests, and in speed in the benchmark.
+//! For the benchmark it is written as an ordinary program is for speed: a `Desk` holds all lists and takes memory once.
 //! Products stay in `u64`: with every field in its range the largest, that of the penalties together and one of
 //! them, is below 2^58.
 
+mod accounts;
 mod calls;
+mod desk;
 mod files;
 mod money;
 mod rounds;
@@ -13,38 +16,30 @@ mod share;
 mod statement;
 
 pub use calls::{Calls, call};
-pub use files::{CORRECTION_HEAD, INTERVAL_HEAD, Interval, MAX_ROWS, ROW, Refusal, Row, read_interval, write_interval};
+pub use desk::Desk;
+pub use files::{
+    CORRECTION_HEAD, INTERVAL_HEAD, Interval, MAX_ROWS, ROW, Refusal, Row, read_interval, rewrite, write_interval,
+};
 pub use money::{compensation, fen, paid_energy, penalty, solar_or_wind_cap, thermal_cap, thermal_weight};
-pub use rounds::{Payer, Rounds, redistribute};
 pub use share::{Sharer, Turns, share};
 pub use statement::{LINE, STATEMENT_HEAD, lines_of_text};
 
 /// One byte more than the longest interval file: reading further cannot change what `tell` prints.
 pub const TELL_READS: usize = INTERVAL_HEAD + ROW * MAX_ROWS + 1;
 
-/// Settles the quarter and writes its statement. The answer is the number of bytes written;
-/// a refusal is a number from 1 to 11 with a place, and leaves the buffer as it was.
+/// Settles one quarter at a desk of its own; see `Desk::settle`.
 pub fn settle(interval: &[u8], correction: &[u8], statement: &mut [u8]) -> Result<usize, Refusal> {
-    let contents = files::read_pair(interval, correction)?;
-    let length = STATEMENT_HEAD + LINE * contents.rows.len();
-    let written = statement.get_mut(..length).ok_or((11, 0))?;
-    statement::write(&contents, written);
-    Ok(length)
+    Desk::new().settle(interval, correction, statement)
 }
 
 /// The 21 bytes that count for a row: the correction's where it names the row, else the interval's.
 /// Empty if neither names it, or if the pair of files is refused by one of the checks 1 to 10.
 pub fn counting_row<'a>(interval: &'a [u8], correction: &'a [u8], id: u16) -> &'a [u8] {
-    if files::read_pair(interval, correction).is_err() {
+    if files::read_pair(interval, correction, &mut Vec::new(), &mut Vec::new()).is_err() {
         return &[];
     }
     let corrected = correction.get(CORRECTION_HEAD..).unwrap_or_default();
     files::row_bytes(corrected, id).or_else(|| files::row_bytes(&interval[INTERVAL_HEAD..], id)).unwrap_or_default()
-}
-
-/// Reads an interval file and writes its contents out again.
-pub fn rewrite(interval: &[u8], out: &mut [u8]) -> Result<usize, Refusal> {
-    write_interval(&read_interval(interval)?, out)
 }
 
 /// What the program `tell` prints for an interval file without correction.

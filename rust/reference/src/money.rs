@@ -1,6 +1,6 @@
 //! What one row is paid for, what it weighs among the payers, and the most it pays.
 
-use crate::files::Row;
+use crate::files::{AT_40, AT_50, AT_60, AT_70, Row};
 
 /// Li brought to fen, half a fen upward.
 pub fn fen(li: u64) -> u64 {
@@ -9,8 +9,8 @@ pub fn fen(li: u64) -> u64 {
 
 /// The energy below half load that is paid for in each tier.
 pub fn paid_energy(row: &Row) -> [u32; 2] {
-    let two_fifths = row.at_load(40);
-    [row.at_load(50).saturating_sub(row.metered.max(two_fifths)), two_fifths.saturating_sub(row.metered)]
+    let two_fifths = row.at_load(AT_40);
+    [row.at_load(AT_50).saturating_sub(row.metered.max(two_fifths)), two_fifths.saturating_sub(row.metered)]
 }
 
 /// What a row receives in fen before any cut, given its calls and the clearing prices in li.
@@ -19,9 +19,8 @@ pub fn compensation(row: &Row, called: [u32; 2], prices: [u16; 2]) -> u64 {
         return 0;
     }
     let energy = paid_energy(row);
-    let li =
-        (0..2).filter(|&tier| called[tier] > 0).map(|tier| u64::from(energy[tier]) * u64::from(prices[tier])).sum();
-    fen(li)
+    let li = |tier: usize| if called[tier] > 0 { u64::from(energy[tier]) * u64::from(prices[tier]) } else { 0 };
+    fen(li(0) + li(1))
 }
 
 /// What a thermal row of status 2 owes in fen for the energy that it was called for and did not deliver, tier by tier at
@@ -37,13 +36,13 @@ pub fn penalty(row: &Row, called: [u32; 2], prices: [u16; 2]) -> u64 {
 
 /// Whether a row shares in the payment, perhaps with a weight of 0.
 pub(crate) fn pays(row: &Row) -> bool {
-    if row.is_thermal() { row.status != 3 && row.metered >= row.at_load(50) } else { row.status == 0 }
+    if row.is_thermal() { row.status != 3 && row.metered >= row.at_load(AT_50) } else { row.status == 0 }
 }
 
 /// Corrected energy of a thermal row: single from 50 percent, double from 60, threefold from 70.
 /// Each further step adds the energy above it once more.
-pub fn thermal_weight(row: &Row) -> u64 {
-    [50, 60, 70].into_iter().map(|percent| u64::from(row.metered.saturating_sub(row.at_load(percent)))).sum()
+pub fn thermal_weight(row: &Row) -> u32 {
+    [AT_50, AT_60, AT_70].into_iter().map(|load| row.metered.saturating_sub(row.at_load(load))).sum()
 }
 
 pub fn thermal_cap(kwh: u32, tariff: u16) -> u64 {

@@ -1,7 +1,7 @@
 //! The figures of document 01, P1 to P11 and those that are only run, and those worked out for the requests of document 02.
 
 use reference::{
-    Calls, Interval, Row, Sharer, Turns, call, fen, paid_energy, penalty, settle, share, tell, thermal_cap,
+    Calls, Desk, Interval, Row, Sharer, Turns, call, fen, paid_energy, penalty, settle, share, tell, thermal_cap,
     thermal_weight,
 };
 
@@ -160,6 +160,22 @@ fn a_refusal_leaves_the_buffer() {
     let mut statement = [7; 164];
     assert_eq!(settle(&bytes(&x(1300)), &[], &mut statement), Err((11, 0)));
     assert_eq!(statement, [7; 164]);
+}
+
+#[test]
+fn a_desk_keeps_nothing_from_quarter_to_quarter() {
+    // More rows, fewer, none, and a file refused at its last row: at one desk as each by itself.
+    let mut refused = x(1300);
+    refused.rows[2].capacity = 0;
+    let empty = Interval { rows: Vec::new(), ..x(1300) };
+    let quarters =
+        [tied_cuts(1), x(1000), refused, empty, tied_payments(2), reduced(1300, 9_000), x(3545), tied_calls(1)];
+    let mut desk = Desk::new();
+    for interval in quarters.iter().chain(quarters.iter().rev()).map(bytes) {
+        let [mut at_desk, mut alone] = [[7; 300]; 2];
+        assert_eq!(desk.settle(&interval, &[], &mut at_desk), settle(&interval, &[], &mut alone));
+        assert_eq!(at_desk, alone);
+    }
 }
 
 /// Interval X at tariff 1300 with row 1 at another meter reading.

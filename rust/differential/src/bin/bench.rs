@@ -1,7 +1,7 @@
-//! The engine's time beside the reference's, in one run: a day of 96 quarters, by rows and by rounds.
+//! The engine's time beside the reference's, in one run: a day of 96 quarters, by rows and by rounds, and a month of such days.
 //!
 //! Every figure is the median of the repetitions with the least and the greatest. A repetition is the best of a few passes over
-//! the same day for each of the two, the one that goes first in turn, so that other work on the machine does not count as theirs.
+//! the same files for each of the two, the one that goes first in turn, so that other work on the machine does not count as theirs.
 
 use std::hint::black_box;
 use std::time::Instant;
@@ -10,88 +10,136 @@ use cases::accepted::{self, Shape};
 use cases::file::{Interval, LINE, STATEMENT_HEAD};
 use cases::ladder::{MOST, filled, ladder};
 use cases::random::Random;
+use reference::Desk;
 
 const QUARTERS: usize = 96;
+const DAYS: usize = 31;
 const REPETITIONS: usize = 20;
+const MONTH_REPETITIONS: usize = 10;
 const PASSES: usize = 5;
 const ROWS: usize = 256;
 
-type Work = fn(&[u8], &mut [u8]) -> bool;
+/// An interval file and its correction, empty where there is none.
+type Pair = (Vec<u8>, Vec<u8>);
+
+type Work = Box<dyn FnMut(&[u8], &[u8], &mut [u8]) -> bool>;
 
 /// The same work by the engine and by the reference.
 type Both = [Work; 2];
 
-const SETTLE: Both = [
-    |interval, out| wheatrudder::settle(interval, &[], out).is_ok(),
-    |interval, out| reference::settle(interval, &[], out).is_ok(),
-];
+fn settle() -> Both {
+    let mut desk = Desk::new();
+    [
+        Box::new(|interval, correction, out| wheatrudder::settle(interval, correction, out).is_ok()),
+        Box::new(move |interval, correction, out| desk.settle(interval, correction, out).is_ok()),
+    ]
+}
 
-const REWRITE: Both = [
-    |interval, out| wheatrudder::rewrite(interval, out).is_ok(),
-    |interval, out| reference::rewrite(interval, out).is_ok(),
-];
+fn rewrite() -> Both {
+    [
+        Box::new(|interval, _, out| wheatrudder::rewrite(interval, out).is_ok()),
+        Box::new(|interval, _, out| reference::rewrite(interval, out).is_ok()),
+    ]
+}
 
-/// Microseconds a quarter, in the best of a few passes.
-fn time(work: Work, intervals: &[Vec<u8>], out: &mut [u8]) -> f64 {
+/// Microseconds for all pairs, in the best of a few passes.
+fn time(work: &mut Work, pairs: &[Pair]) -> f64 {
+    let mut out = vec![0; STATEMENT_HEAD + LINE * ROWS];
     let pass = |_| {
         let start = Instant::now();
-        for interval in intervals {
-            assert!(black_box(work(black_box(interval), out)));
+        for (interval, correction) in pairs {
+            assert!(black_box(work(black_box(interval), black_box(correction), &mut out)));
         }
-        start.elapsed().as_secs_f64() * 1e6 / intervals.len() as f64
+        start.elapsed().as_secs_f64() * 1e6
     };
     (0..PASSES).map(pass).fold(f64::INFINITY, f64::min)
 }
 
-/// Median, least and greatest.
-fn spread(mut times: Vec<f64>) -> [f64; 3] {
-    times.sort_by(f64::total_cmp);
-    [(times[times.len() / 2 - 1] + times[times.len() / 2]) / 2.0, times[0], times[times.len() - 1]]
-}
-
-fn measure(name: &str, [engine, reference]: Both, intervals: &[Vec<u8>]) {
-    let mut out = vec![0; STATEMENT_HEAD + LINE * ROWS];
-    let (mut ours, mut theirs, mut ratios) = (Vec::new(), Vec::new(), Vec::new());
-    time(engine, intervals, &mut out);
-    time(reference, intervals, &mut out);
-    for repetition in 0..REPETITIONS {
-        let [first, second] = if repetition % 2 == 0 { [engine, reference] } else { [reference, engine] };
-        let mut times = [first, second].map(|work| time(work, intervals, &mut out));
-        if repetition % 2 == 1 {
-            times.reverse();
+/// What both take, once to warm up and then in so many repetitions.
+fn repeat<T>(repetitions: usize, [engine, reference]: &mut Both, take: impl Fn(&mut Work) -> T) -> Vec<[T; 2]> {
+    let mut repetition = |number| {
+        if number % 2 == 0 {
+            let first = take(engine);
+            [first, take(reference)]
+        } else {
+            let first = take(reference);
+            [take(engine), first]
         }
-        ours.push(times[0]);
-        theirs.push(times[1]);
-        ratios.push(times[0] / times[1]);
-    }
-    let cell = |[median, least, greatest]: [f64; 3], places| {
-        format!("{median:.places$} ({least:.places$} to {greatest:.places$})")
     };
-    println!("| {name} | {} | {} | {} |", cell(spread(ours), 1), cell(spread(theirs), 1), cell(spread(ratios), 2));
+    repetition(0);
+    (0..repetitions).map(repetition).collect()
 }
 
-fn day(mut quarter: impl FnMut() -> Interval) -> Vec<Vec<u8>> {
-    (0..QUARTERS).map(|_| quarter().bytes()).collect()
+/// The median, the least and the greatest.
+fn spread(times: impl Iterator<Item = f64>) -> String {
+    let mut times: Vec<f64> = times.collect();
+    times.sort_by(f64::total_cmp);
+    let median = (times[times.len() / 2 - 1] + times[times.len() / 2]) / 2.0;
+    format!("{median:.2} ({:.2} to {:.2})", times[0], times[times.len() - 1])
+}
+
+/// A line of a table: microseconds a quarter.
+fn measure(name: &str, both: &mut Both, pairs: &[Pair]) {
+    let times = repeat(REPETITIONS, both, |work| time(work, pairs) / pairs.len() as f64);
+    let [engine, reference] = [0, 1].map(|which| spread(times.iter().map(|times| times[which])));
+    let ratio = spread(times.iter().map(|[engine, reference]| engine / reference));
+    println!("| {name} | {engine} | {reference} | {ratio} |");
+}
+
+/// A whole table: milliseconds for the first day of a month and for all of it.
+fn measure_month(both: &mut Both, month: &[Pair]) {
+    let times =
+        repeat(MONTH_REPETITIONS, both, |work| [&month[..QUARTERS], month].map(|pairs| time(work, pairs) / 1e3));
+    println!("\n| a month of {DAYS} days, 256 rows | a day, ms | the month, ms | month / day |\n|---|---|---|---|");
+    for (which, name) in ["engine", "reference"].into_iter().enumerate() {
+        let [day, all] = [0, 1].map(|span| spread(times.iter().map(|times| times[which][span])));
+        let ratio = spread(times.iter().map(|times| times[which][1] / times[which][0]));
+        println!("| {name} | {day} | {all} | {ratio} |");
+    }
+    let [day, all] = [0, 1].map(|span| spread(times.iter().map(|times| times[0][span] / times[1][span])));
+    println!("| engine / reference | {day} | {all} | |");
+}
+
+fn day(mut quarter: impl FnMut() -> Interval) -> Vec<Pair> {
+    (0..QUARTERS).map(|_| (quarter().bytes(), Vec::new())).collect()
+}
+
+/// All quarters of a month, mixed, one in three with a correction.
+fn month(random: &mut Random) -> Vec<Pair> {
+    let pair = |number: usize| {
+        let (day, quarter) = ((number / QUARTERS) as u32, (number % QUARTERS) as u8);
+        let interval = Interval { day, quarter, ..accepted::interval_of(random, Shape::Mixed, ROWS as u32) };
+        if random.once_in(3) {
+            let (interval, correction) = accepted::spoil(random, interval);
+            (interval.bytes(), correction.bytes())
+        } else {
+            (interval.bytes(), Vec::new())
+        }
+    };
+    (0..DAYS * QUARTERS).map(pair).collect()
 }
 
 fn main() {
     let mut random = Random::from_seed(1);
+    let (mut settle, mut rewrite) = (settle(), rewrite());
     let head =
         |what| println!("\n| {what} | engine, µs a quarter | reference | engine / reference |\n|---|---|---|---|");
     head("a day of 96 quarters, 256 rows");
     for shape in [Shape::Mixed, Shape::Edges, Shape::TiedBids, Shape::TiedRemainders, Shape::AllCapped] {
-        measure(&format!("{shape:?}"), SETTLE, &day(|| accepted::interval_of(&mut random, shape, ROWS as u32)));
+        let day = day(|| accepted::interval_of(&mut random, shape, ROWS as u32));
+        measure(&format!("{shape:?}"), &mut settle, &day);
     }
     head("rows, mixed");
     for rows in [16, 64, 256] {
-        measure(&rows.to_string(), SETTLE, &day(|| accepted::interval_of(&mut random, Shape::Mixed, rows)));
+        measure(&rows.to_string(), &mut settle, &day(|| accepted::interval_of(&mut random, Shape::Mixed, rows)));
     }
     head("rounds, 256 rows");
     for rounds in [2, 4, 8, 12, 16, 20, 25, MOST] {
-        measure(&rounds.to_string(), SETTLE, &day(|| filled(ladder(&mut random, rounds).interval, ROWS)));
+        measure(&rounds.to_string(), &mut settle, &day(|| filled(ladder(&mut random, rounds).interval, ROWS)));
     }
     head("a file rewritten, rows");
     for rows in [16, 64, 256] {
-        measure(&rows.to_string(), REWRITE, &day(|| accepted::interval_of(&mut random, Shape::Mixed, rows)));
+        measure(&rows.to_string(), &mut rewrite, &day(|| accepted::interval_of(&mut random, Shape::Mixed, rows)));
     }
+    measure_month(&mut settle, &month(&mut random));
 }

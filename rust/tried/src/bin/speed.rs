@@ -6,6 +6,7 @@ use std::time::{Duration, Instant};
 use cases::accepted::{self, Shape};
 use cases::file::{INTERVAL_HEAD, LINE, ROW, STATEMENT_HEAD};
 use cases::random::Random;
+use reference::Desk;
 
 const QUARTERS: u32 = 96;
 const ROWS: u32 = 256;
@@ -19,23 +20,24 @@ fn day(shape: Shape, seed: u64) -> Vec<Vec<u8>> {
     (0..QUARTERS).map(interval).collect()
 }
 
-fn settle_all(intervals: &[Vec<u8>], statement: &mut [u8]) -> Duration {
+fn settle_all(desk: &mut Desk, intervals: &[Vec<u8>], statement: &mut [u8]) -> Duration {
     let start = Instant::now();
     for interval in intervals {
-        let answer = reference::settle(black_box(interval), &[], statement);
+        let answer = desk.settle(black_box(interval), &[], statement);
         assert!(black_box(answer).is_ok());
     }
     start.elapsed()
 }
 
 fn main() {
+    let mut desk = Desk::new();
     let mut statement = vec![0; STATEMENT_HEAD + LINE * ROWS as usize];
     for shape in
         [Shape::Full, Shape::Edges, Shape::TiedBids, Shape::TiedRemainders, Shape::AllCapped, Shape::ManyRounds]
     {
         let intervals = day(shape, 1);
         let rows: usize = intervals.iter().map(|interval| (interval.len() - INTERVAL_HEAD) / ROW).sum();
-        let best = (0..200).map(|_| settle_all(&intervals, &mut statement)).min().expect("many rounds");
+        let best = (0..200).map(|_| settle_all(&mut desk, &intervals, &mut statement)).min().expect("many rounds");
         let quarter = best.as_nanos() as f64 / f64::from(QUARTERS) / 1_000.0;
         println!("{shape:?}: {quarter:.1} µs a quarter of {} rows on average", rows / QUARTERS as usize);
     }

@@ -1,0 +1,190 @@
+//! A whole run: every file is read once, then every quarter settled from those bytes.
+
+use std::io::{self, Write};
+
+use crate::calendar::Quarter;
+use crate::folder::{self, Found, Listing, MOST};
+use crate::pairing::{Belongs, Month, Source, belongs};
+use crate::progress::Bar;
+use crate::settling::{Outcome, alone, settle};
+use crate::statements::Statements;
+use crate::tally::{Kept, Tally};
+
+/// A list of plant names may lie in the folder; it labels rows for people and is no file to settle.
+const PLANTS: &str = "plants.csv";
+
+pub struct Run<W> {
+    out: W,
+    bar: Bar,
+    tally: Tally,
+    statements: Option<Statements>,
+    /// Where the engine writes; the only statement held.
+    buffer: [u8; MOST],
+}
+
+impl<W: Write> Run<W> {
+    pub fn new(out: W, statements: Option<Statements>) -> Run<W> {
+        let tally = Tally { statements: statements.as_ref().map(|_| Kept::default()), ..Tally::default() };
+        Run { out, bar: Bar::new(), tally, statements, buffer: [0; MOST] }
+    }
+
+    /// Reads and settles what was listed, and prints what is to be said. It fails only where printing does.
+    pub fn all(mut self, listing: Listing) -> io::Result<Tally> {
+        let month = self.read_all(listing)?;
+        self.settle_all(&month)?;
+        self.withdraw_missing(&month)?;
+        self.count_others()?;
+        self.say(&self.tally.days())?;
+        self.say(&self.tally.to_string())?;
+        self.out.flush()?;
+        Ok(self.tally)
+    }
+
+    fn say(&mut self, line: &str) -> io::Result<()> {
+        self.bar.hide();
+        writeln!(self.out, "{line}")
+    }
+
+    fn read_all(&mut self, listing: Listing) -> io::Result<Month> {
+        for (name, reason) in listing.unread {
+            self.not_read(&name, &reason)?;
+        }
+        let (mut month, all) = (Month::default(), listing.files.len());
+        for (done, file) in listing.files.into_iter().enumerate() {
+            self.bar.show("reading", done, all);
+            self.read(&mut month, file)?;
+        }
+        Ok(month)
+    }
+
+    fn not_read(&mut self, name: &str, reason: &str) -> io::Result<()> {
+        self.tally.unread += 1;
+        self.say(&format!("{name}: not read: {reason}"))
+    }
+
+    /// Reads a file and puts it where it belongs.
+    fn read(&mut self, month: &mut Month, Found { name, path }: Found) -> io::Result<()> {
+        let content = match folder::read(&path) {
+            Ok(content) => content,
+            Err(reason) => return self.not_read(&name, &reason.to_string()),
+        };
+        let copy = match belongs(&content.bytes) {
+            Belongs::Interval(quarter) => month.add_interval(quarter, Source { name: name.clone(), content }),
+            Belongs::Correction(quarter) => month.add_correction(quarter, Source { name: name.clone(), content }),
+            Belongs::Statement => return self.pass_over(),
+            Belongs::Nowhere if name == PLANTS => return self.pass_over(),
+            Belongs::Nowhere => return self.name_alone(&name, &content.bytes),
+        };
+        match copy {
+            Some(first) => {
+                self.tally.passed += 1;
+                self.say(&format!("{name}: the same bytes as {first}, counted once"))
+            }
+            None => Ok(()),
+        }
+    }
+
+    fn pass_over(&mut self) -> io::Result<()> {
+        self.tally.passed += 1;
+        Ok(())
+    }
+
+    fn name_alone(&mut self, name: &str, bytes: &[u8]) -> io::Result<()> {
+        self.tally.nowhere += 1;
+        let said = alone(bytes, &mut self.buffer);
+        self.say(&format!("{name}: {said}"))
+    }
+
+    fn settle_all(&mut self, month: &Month) -> io::Result<()> {
+        for (done, (&quarter, held)) in month.quarters.iter().enumerate() {
+            self.bar.show("settling", done, month.quarters.len());
+            let outcome = settle(quarter, held, &mut self.buffer);
+            let day = self.tally.days.entry(quarter.day).or_default();
+            day.arrived += usize::from(!held.intervals.is_empty());
+            day.settled += usize::from(matches!(outcome, Outcome::Settled { .. }));
+            self.conclude(quarter, outcome)?;
+        }
+        Ok(())
+    }
+
+    fn conclude(&mut self, quarter: Quarter, outcome: Outcome) -> io::Result<()> {
+        match outcome {
+            Outcome::Settled { length, corrected } => {
+                self.tally.settled += 1;
+                self.tally.corrected += usize::from(corrected);
+                return self.write(quarter, length);
+            }
+            Outcome::Refused(line) => {
+                self.tally.refused += 1;
+                self.say(&line)?;
+            }
+            Outcome::Hindered(lines) => {
+                self.tally.hindered += 1;
+                for line in lines {
+                    self.say(&line)?;
+                }
+            }
+        }
+        self.withdraw(quarter, "not settled now")
+    }
+
+    /// Writes the statement in the buffer. Where that fails, an older one may not stay in its place.
+    fn write(&mut self, quarter: Quarter, length: usize) -> io::Result<()> {
+        let (Some(statements), Some(kept)) = (&self.statements, &mut self.tally.statements) else { return Ok(()) };
+        match statements.write(quarter, &self.buffer[..length]) {
+            Ok(()) => {
+                kept.written += 1;
+                Ok(())
+            }
+            Err(reason) => {
+                kept.failed += 1;
+                self.say(&format!("{quarter}: settled, but its statement could not be written: {reason}"))?;
+                self.withdraw(quarter, "not written now")
+            }
+        }
+    }
+
+    /// Removes a statement of an earlier run, so that nobody takes it for one of now.
+    fn withdraw(&mut self, quarter: Quarter, why: &str) -> io::Result<()> {
+        let (Some(statements), Some(kept)) = (&self.statements, &mut self.tally.statements) else { return Ok(()) };
+        match statements.remove(quarter) {
+            Ok(false) => Ok(()),
+            Ok(true) => {
+                kept.removed += 1;
+                self.say(&format!("{quarter}: {why}: the statement of an earlier run was removed"))
+            }
+            Err(reason) => {
+                kept.failed += 1;
+                self.say(&format!("{quarter}: {why}: the statement of an earlier run could not be removed: {reason}"))
+            }
+        }
+    }
+
+    /// Withdraws the statements of quarters that no file names any more, on days of which another quarter was settled. Other days
+    /// may be another month's, or named by one damaged head: they are left alone.
+    fn withdraw_missing(&mut self, month: &Month) -> io::Result<()> {
+        let days: Vec<u32> = self.tally.days.iter().filter(|(_, day)| day.settled > 0).map(|(&day, _)| day).collect();
+        for quarter in days.into_iter().flat_map(Quarter::all) {
+            if !month.quarters.contains_key(&quarter) {
+                self.withdraw(quarter, "no file now")?;
+            }
+        }
+        Ok(())
+    }
+
+    /// Says how many statements lie beside those of this run.
+    fn count_others(&mut self) -> io::Result<()> {
+        let (Some(statements), Some(kept)) = (&self.statements, &mut self.tally.statements) else { return Ok(()) };
+        match statements.count() {
+            Ok(count) if count > kept.written => {
+                let others = count - kept.written;
+                self.say(&format!("other statements in the folder, left as they are: {others}"))
+            }
+            Ok(_) => Ok(()),
+            Err(reason) => {
+                kept.failed += 1;
+                self.say(&format!("the folder of statements could not be read: {reason}"))
+            }
+        }
+    }
+}
