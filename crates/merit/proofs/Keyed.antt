@@ -9,7 +9,7 @@
 --     shared-sum      the bands of one key together get what is left there, at most their widths
 --     shared-full     a band gets its width if enough is left for all of its key
 --     shared-alike    of two bands of one key and width the one whose turn comes first gets as much as the other, or one more
-use Prim.Native.Nat.{ℕ, suc, _+_, _-_, _≤_, _<_, min, zero-le}
+use Prim.Native.Nat.{ℕ, suc, _+_, _≤_, _<_, min, zero-le}
 use mathlib.Core.Path.{_≡_, refl, ap, sym, _∙_}
 use mathlib.Core.Logic.{⊎-elim}
 use mathlib.Core.Bool.{Bool, true, false, cond}

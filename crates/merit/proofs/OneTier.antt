@@ -73,7 +73,8 @@ module _ (need : ℕ) (ws bs : List ℕ) (first : ℕ) where
       ⊎-elim
       (λ (l : i < length ws).
       let enough : whole (groupIn ws bs (at bs i)) ≤ left (at bs i) = omega (arith, below-next ws bs (at bs i)) in
-      unfold calledIn dueIn groupIn equal shared portion peers in shared-full (length ws) (at bs) (at ws) left first i l (unfold groupIn equal peers in enough))
+      unfold calledIn dueIn groupIn equal shared portion peers in
+      shared-full (length ws) (at bs) (at ws) left first i l (unfold groupIn equal peers in enough))
       (λ (l : length ws ≤ i). omega (arith, called-past i l, List·getD-eq-default ws 0 l)) (lt-or-le i (length ws))
 
   called-part : (k i : ℕ) → share (dueIn need ws bs k) (groupIn ws bs k) first i ≡ cond (eqb (at bs i) k) (calledIn need ws bs first i) 0

@@ -27,9 +27,9 @@ use Rattle.columns.proofs.Rank.{test-or}
 use Rattle.columns.proofs.Table.{table-length, table-at, table-past, table-is}
 use Rattle.merit.specs.OneTier.{under, below, groupIn, calledIn, tierCalls}
 use Rattle.merit.specs.Ready.{Ready, TierCalled}
-use Rattle.merit.specs.Walk.{Margin, cheapIn, Room, Blank, Begun, past, partsIn}
+use Rattle.merit.specs.Walk.{Margin, cheapIn, Room, Begun, past, partsIn}
 use Rattle.merit.proofs.Keyed.{cond-next, cond-le}
-use Rattle.merit.proofs.OneTier.{under-past, below-next, below-rise, below-zero, below-le, below-all}
+use Rattle.merit.proofs.OneTier.{under-past, below-next, below-rise, below-le, below-all}
 use Rattle.merit.proofs.OneTier.{called-le, called-full, called-met, partsOf, parts-length, parts-at, parts-sum}
 
 -- what row j is called for by the bands below bid k
@@ -158,10 +158,7 @@ pub ended-whole : (need : ℕ) (ws bs : List ℕ) (first k s r : ℕ) (cs : List
 ended-whole need ws bs first k s r cs m e t =
     let all : need - s + below ws bs k ≡ need = omega (arith, m .reached) in rw (← all) t
 
-pub begun : (need : ℕ) (ws bs : List ℕ) (first k : ℕ) (cs₀ cs ps : List ℕ) → Blank ws bs first cs₀ ps → cs ≡ cheapIn ws bs k → Begun ws bs first k cs ps
-begun need ws bs first k cs₀ cs ps b e = record { columns = b .ready .columns; is = e; parts = b .parts }
-
--- `left` at the start is what bands below k₀ leave of the need
+-- the walk from bid k₀ on, with `start` left by the bands below it
 module _ (start : ℕ) (ws bs : List ℕ) (first k₀ : ℕ) (cs₀ ps₀ : List ℕ) (good : Begun ws bs first k₀ cs₀ ps₀) where
   abbrev need : ℕ
   need = start + below ws bs k₀

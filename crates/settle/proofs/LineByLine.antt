@@ -4,7 +4,7 @@
 --   WrittenTo          how far the writing loop has come; written-none, written-inside, written-one-room, written-two-room, written-next,
 --                      written-all: the same of it
 use Prim.Native.Nat.{ℕ, zero, suc, _+_, _*_, _≤_, _<_}
-use mathlib.Core.Path.{_≡_, refl, sym, ap, _∙_}
+use mathlib.Core.Path.{_≡_, refl, ap, _∙_}
 use mathlib.Core.List.{List}
 use native.Mathlib.Nat.{mul-le-mul-right}
 use native.Mathlib.Numerals.{add-one}

@@ -103,7 +103,9 @@ module _ (a : ℕ) (ws qs rs qs₀ rs₀ : List ℕ) (W s : ℕ) where
             record {
               short = rw (rests-long a ws qs rs q) (p .short);
               under = λ i. omega (arith, rest-at a ws qs rs q i, rest-lt a ws (some a ws qs rs q qs₀ rs₀ W c) i, c .is);
-              enough = rw (rests-long a ws qs rs q) (omega (arith, left-now a ws qs rs q qs₀ rs₀ W c s e, left-le a ws (some a ws qs rs q qs₀ rs₀ W c)));
+              enough =
+                  rw (rests-long a ws qs rs q)
+                  (omega (arith, left-now a ws qs rs q qs₀ rs₀ W c s e, left-le a ws (some a ws qs rs q qs₀ rs₀ W c)));
             };
         room = quotas-long a ws qs rs q ∙ sym (rests-long a ws qs rs q);
         inside = rw (rests-long a ws qs rs q) (p .inside);

@@ -151,7 +151,14 @@ module _ (rs : List ℕ) (first left low ties : ℕ) (line : Served rs left low 
       each j =
           ⊎-elim
           (λ (e : eqb j i ≡ true). let same : j ≡ i = eqb-true j i e in
-          rw (same, eq-eqb i i refl, le-ltb (at rs i) (at rs i) (omega arith), eq-eqb (at rs i) (at rs i) refl, le-ltb (turn (length rs) first i) (turn (length rs) first i) (omega arith), le-leb (at rs i) (at rs i) (omega arith))
+          rw (
+            same,
+            eq-eqb i i refl,
+            le-ltb (at rs i) (at rs i) (omega arith),
+            eq-eqb (at rs i) (at rs i) refl,
+            le-ltb (turn (length rs) first i) (turn (length rs) first i) (omega arith),
+            le-leb (at rs i) (at rs i) (omega arith),
+          )
           (omega arith))
           (λ (e : eqb j i ≡ false). rw e (⊎-elim
           (λ (l : at rs j < at rs i). rw (le-ltb (at rs i) (at rs j) (omega arith), ne-eqb (at rs j) (at rs i) (omega arith)) (omega arith))
@@ -261,7 +268,8 @@ passed-next rs first k t i inside l e =
     there =
         unfold countTo in
         count-there (length rs) (λ j. eqb (at rs j) k && eqb (turn (length rs) first j) t) i l
-        (λ j m o. turn-apart (length rs) first inside j i m l (eqb-true (turn (length rs) first j) t (right-true (eqb (at rs j) k) (eqb (turn (length rs) first j) t) o) ∙ sym e))
+        (λ j m o. turn-apart (length rs) first inside j i m l
+        (eqb-true (turn (length rs) first j) t (right-true (eqb (at rs j) k) (eqb (turn (length rs) first j) t) o) ∙ sym e))
         ∙ rw (e, eq-eqb t t refl) (and-true (eqb (at rs i) k))
 
 -- before turn t: whoever has had its turn has what is due, and `met` equal remainders were met
@@ -278,7 +286,9 @@ module _ (qs rs : List ℕ) (W first left low ties : ℕ) (good : Handable qs rs
       record {
         within = omega arith;
         room = good .room;
-        met-is = sym (count-none (length rs) (λ j. eqb (at rs j) low && ltb (turn (length rs) first j) 0) (λ j l. none (eqb (at rs j) low) (turn (length rs) first j)));
+        met-is =
+            sym (count-none (length rs) (λ j. eqb (at rs j) low && ltb (turn (length rs) first j) 0)
+            (λ j l. none (eqb (at rs j) low) (turn (length rs) first j)));
         is = λ i l. rw (le-ltb (turn (length rs) first i) 0 (omega arith)) (omega arith);
       }
     where
@@ -293,7 +303,12 @@ module _ (qs rs : List ℕ) (W first left low ties : ℕ) (good : Handable qs rs
       (l : i < length rs) (e : turn (length rs) first i ≡ t) where
     -- what the position of turn t has had so far, and what it gets
     before-turn : at xs i ≡ at qs i
-    before-turn = omega (arith, h .is i l, ap (λ (b : Bool). cond b (bit (ltb (place rs first i) left)) 0) (le-ltb (turn (length rs) first i) t (omega arith)))
+    before-turn =
+        omega (
+          arith,
+          h .is i l,
+          ap (λ (b : Bool). cond b (bit (ltb (place rs first i) left)) 0) (le-ltb (turn (length rs) first i) t (omega arith)),
+        )
 
     due : (b : Bool) → b ≡ goesBefore (at rs i) met low ties → boolByte b ≡ bit (ltb (place rs first i) left)
     due b f =
@@ -338,7 +353,8 @@ module _ (qs rs : List ℕ) (W first left low ties : ℕ) (good : Handable qs rs
   met-fits t met i xs h =
       omega (arith, h .met-is, passed-le rs first low t, byte-bit (eqb (at rs i) low), bit-le (eqb (at rs i) low), good .serving .short)
 
-  pub handed-all : (t met : ℕ) (xs : List ℕ) → Handed qs rs first left low t met xs → length rs ≤ t → xs ≡ table (length rs) (raised qs rs first left)
+  pub handed-all : (t met : ℕ) (xs : List ℕ) → Handed qs rs first left low t met xs → length rs ≤ t
+      → xs ≡ table (length rs) (raised qs rs first left)
   unfolding raised
   handed-all t met xs h m =
       table-is 0 xs (length rs) (raised qs rs first left) (h .room)

@@ -1,30 +1,27 @@
--- The loops over all positions that `split` begins with: what the proofs of `whole_of`, `quotas_plain`, `quotas_wide` and `quotas_of` lean
--- on. Each law has the shape of one fact that the code asks for.
+-- The loops over all positions that `split` begins with: what the proofs of `whole_of`, `quotient` and `quotas_of` lean on. Each law has
+-- the shape of one fact that the code asks for.
 --     Filled, filled-none, filled-next, filled-all     quotas and remainders up to a position
---     plain-fits, divisible     what a product and a division ask
+--     plain-known, plainly, divisible     what a product and a division ask
 --     sum-fits, sum-end         the sum of a column
-use Prim.Native.Nat.{ℕ, _+_, _-_, _*_, _/_, _%_, _^_, _≤_, _<_}
-use mathlib.Core.Path.{_≡_, refl, ap, sym, _∙_}
-use mathlib.Core.Bool.{Bool, true, false}
+use Prim.Native.Nat.{ℕ, _+_, _*_, _/_, _^_, _≤_, _<_}
+use mathlib.Core.Path.{_≡_, ap, _∙_}
+use mathlib.Core.Bool.{Bool, true}
 use mathlib.Core.List.{List}
 use native.Mathlib.Nat.{mul-le-mul-left}
 use native.Mathlib.Omega.{arith}
-use lib.Dec.{ltb}
-use borrow.Author.Tests.{le-ltb}
+use lib.Dec.{leb}
 use lib.ListN.{length, set, length-set}
-use mir.Val.{boolByte}
-use Rattle.columns.specs.Sum.{bit, sumTo}
-use Rattle.columns.specs.Table.{at, table, Below}
-use Rattle.columns.proofs.Sum.{sum-next, sum-shorter, count-next}
+use borrow.Author.Tests.{leb-true}
+use Rattle.columns.specs.Sum.{sumTo}
+use Rattle.columns.specs.Table.{at, Below}
+use Rattle.columns.proofs.Sum.{sum-next, sum-shorter}
 use Rattle.columns.proofs.Table.{table-is, fill-next}
-use Rattle.columns.proofs.Fill.{Reached, reached-now, reached-next, reached-all}
 use Rattle.columns.specs.Sum.{whole}
-use Rattle.share.specs.Share.{quota, rest, turn}
+use Rattle.share.specs.Share.{quota, rest}
 use Rattle.share.specs.declared.Division.{Division}
-use Rattle.share.specs.Steps.{Divided, Divisible, Quotable, Quoted}
-use Rattle.share.proofs.Order.{turn-early, turn-late}
+use Rattle.share.specs.Steps.{Divided, Divisible, Plain, Quotable, Quoted}
 use Rattle.share.proofs.Rests.{weight-le}
-use Rattle.share.proofs.Long.{quota-is, rest-is}
+use Rattle.share.proofs.Long.{divided-fits, quota-is, rest-is}
 
 -- ---- the columns of quotas and remainders
 
@@ -47,8 +44,12 @@ filled-next a ws qs rs qs₀ rs₀ i W d c f l h =
       within = omega arith;
       quotas-room = length-set qs i (d .quota) ∙ f .quotas-room;
       rests-room = length-set rs i (d .rest) ∙ f .rests-room;
-      quotas = fill-next 0 qs i (d .quota) (quota a ws) (omega (arith, f .quotas-room)) (unfold quota in rw (← c .is) (quota-is (a * at ws i) W d h)) (f .quotas);
-      rests = fill-next 0 rs i (d .rest) (rest a ws) (omega (arith, f .rests-room)) (unfold rest in rw (← c .is) (rest-is (a * at ws i) W d h)) (f .rests);
+      quotas =
+          fill-next 0 qs i (d .quota) (quota a ws) (omega (arith, f .quotas-room))
+          (unfold quota in rw (← c .is) (quota-is (a * at ws i) W d h)) (f .quotas);
+      rests =
+          fill-next 0 rs i (d .rest) (rest a ws) (omega (arith, f .rests-room))
+          (unfold rest in rw (← c .is) (rest-is (a * at ws i) W d h)) (f .rests);
     }
 
 pub filled-all : (a : ℕ) (ws qs rs : List ℕ) (i : ℕ) → Filled a ws qs rs i → length ws ≤ i → Quoted a ws qs rs
@@ -58,8 +59,18 @@ filled-all a ws qs rs i f l =
       rests = table-is 0 rs (length ws) (rest a ws) (f .rests-room) (λ k m. f .rests k (omega arith));
     }
 
-pub plain-fits : (a : ℕ) (ws qs rs : List ℕ) (i W : ℕ) → Quotable ws qs rs W → a * W < 2 ^ 64 → a * at ws i < 2 ^ 64
-plain-fits a ws qs rs i W c f = omega (arith, mul-le-mul-left a (weight-le ws i), ap (λ (x : ℕ). a * x) (c .is))
+-- where even amount * sum fits, every product does
+pub plain-known : (a : ℕ) (ws qs rs : List ℕ) (i W : ℕ) → Quotable ws qs rs W → Plain (leb a (18446744073709551615 / W)) a (at ws i)
+plain-known a ws qs rs i W c fits =
+    omega (
+      arith,
+      mul-le-mul-left a (weight-le ws i),
+      ap (λ (x : ℕ). a * x) (c .is),
+      divided-fits a W (leb-true a (18446744073709551615 / W) fits),
+    )
+
+pub plainly : (plain : Bool) (a w : ℕ) → Plain plain a w → plain ≡ true → a * w < 2 ^ 64
+plainly plain a w fits is = fits is
 
 pub divisible : (ws qs rs : List ℕ) (i W : ℕ) → Quotable ws qs rs W → Divisible (at ws i) W
 divisible ws qs rs i W c = record { some = c .some; most = rw (c .is) (weight-le ws i) }

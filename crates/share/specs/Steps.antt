@@ -1,7 +1,7 @@
 -- What the parts of `split` ask and answer. They are private: a reader of the rule needs none of this.
 use Prim.Native.Nat.{ℕ, _+_, _*_, _≤_, _<_, _^_}
 use mathlib.Core.Path.{_≡_}
-use mathlib.Core.Bool.{Bool, _&&_, _||_}
+use mathlib.Core.Bool.{Bool, true, _&&_, _||_}
 use mathlib.Core.List.{List}
 use lib.Dec.{ltb, leb, eqb}
 use lib.ListN.{length}
@@ -33,6 +33,10 @@ pub record Digits (q r digit w W : ℕ) : Type 0 where
 pub record Divisible (w W : ℕ) : Type 0 where
   pub some : 0 < W
   pub most : w ≤ W
+
+-- if it is said that the product fits 64 bits, it does
+abbrev pub Plain : Bool → ℕ → ℕ → Type 0
+Plain plain a w = plain ≡ true → a * w < 2 ^ 64
 
 -- the sum of the weights, above 0, and two columns as long as theirs
 pub record Quotable (ws qs rs : List ℕ) (W : ℕ) : Type 0 where

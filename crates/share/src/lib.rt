@@ -6,7 +6,7 @@ ghost use Rattle.columns.specs.Table.{table};
 ghost use Rattle.columns.specs.Sum.{whole};
 ghost use Rattle.share.specs.Share.{turn, shares};
 ghost use Rattle.share.specs.Split.{Splittable};
-ghost use Rattle.share.specs.Steps.{Divided, Carries, Digits, Divisible, Quotable, Quoted, Serving, Served, Handable, Liftable, reach, goesBefore, raised, lifted, nothing};
+ghost use Rattle.share.specs.Steps.{Divided, Carries, Digits, Divisible, Plain, Quotable, Quoted, Serving, Served, Handable, Liftable, reach, goesBefore, raised, lifted, nothing};
 
 // A product divided by the sum of the weights: the quota, and the remainder.
 struct Division {
@@ -108,28 +108,26 @@ fn divide(amount: u64, weight: u64, sum: u64) -> Division
     divide_long(amount, weight, sum)
 }
 
-// Quotas and remainders where even amount * sum fits 64 bits.
-fn quotas_plain(amount: u64, weights: &[u64], sum: u64, quotas: &mut [u64], rests: &mut [u64])
-    requires { ⌜ Quotable (now weights) (now quotas) (now rests) sum × (amount * sum < 2 ^ 64) ⌝ }
-    ensures { λ _. ⌜ Quoted amount (now (weights .entry)) (now (quotas .exit)) (now (rests .exit)) ⌝ }
+// The same, plainly if it is known that the product fits.
+fn quotient(plain: bool, amount: u64, weight: u64, sum: u64) -> Division
+    requires { ⌜ Divisible weight sum × Plain plain amount weight ⌝ }
+    ensures { λ r. ⌜ Divided (amount * weight) sum r ⌝ }
 {
-    let mut i = 0;
-    while i < weights.len() {
-        let d = divide_plain(amount, weights[i], sum);
-        quotas[i] = d.quota;
-        rests[i] = d.rest;
-        i += 1;
+    if plain {
+        return divide_plain(amount, weight, sum);
     }
+    divide(amount, weight, sum)
 }
 
-// The same for any amount.
-fn quotas_wide(amount: u64, weights: &[u64], sum: u64, quotas: &mut [u64], rests: &mut [u64])
+// Quotas and remainders of every position: by plain products where even amount * sum fits 64 bits.
+fn quotas_of(amount: u64, weights: &[u64], sum: u64, quotas: &mut [u64], rests: &mut [u64])
     requires { ⌜ Quotable (now weights) (now quotas) (now rests) sum ⌝ }
     ensures { λ _. ⌜ Quoted amount (now (weights .entry)) (now (quotas .exit)) (now (rests .exit)) ⌝ }
 {
+    let plain = amount <= 0xffff_ffff_ffff_ffff / sum;
     let mut i = 0;
     while i < weights.len() {
-        let d = divide(amount, weights[i], sum);
+        let d = quotient(plain, amount, weights[i], sum);
         quotas[i] = d.quota;
         rests[i] = d.rest;
         i += 1;
@@ -249,18 +247,6 @@ fn zero(out: &mut [u64])
         out[i] = 0;
         i += 1;
     }
-}
-
-// Quotas and remainders of every position: by plain products where all of them fit.
-fn quotas_of(amount: u64, weights: &[u64], sum: u64, quotas: &mut [u64], rests: &mut [u64])
-    requires { ⌜ Quotable (now weights) (now quotas) (now rests) sum ⌝ }
-    ensures { λ _. ⌜ Quoted amount (now (weights .entry)) (now (quotas .exit)) (now (rests .exit)) ⌝ }
-{
-    if amount <= 0xffff_ffff_ffff_ffff / sum {
-        quotas_plain(amount, weights, sum, quotas, rests);
-        return;
-    }
-    quotas_wide(amount, weights, sum, quotas, rests);
 }
 
 // The shares where a weight is above 0; `rests` is room for the remainders.

@@ -1,7 +1,6 @@
 -- `share::reach` meets its contract: the loop's count is that of the positions passed.
 use Prim.Native.Nat.{_≤_, _-_}
 use mathlib.Core.Path.{_≡_}
-use native.Mathlib.Omega.{arith}
 use lib.Dec.{leb}
 use lib.ListN.{length}
 use Rattle.columns.specs.Sum.{sumTo, countTo}
