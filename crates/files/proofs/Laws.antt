@@ -10,6 +10,7 @@
 --   ids-rise            ids of the interval's rows rise strictly
 --   counting-rise       and so do those of the rows that count
 --   source-at           what a column of sources has at row i
+--   no-source           without a correction every row that counts is the interval's own
 --   row-ranges, head-ranges (Ranges.antt)      a row, a head in its ranges as a record of facts
 --   zero-none, none-zero, number-earliest, earliest-number (Answer.antt)
 --                       number 0 is given exactly if no check applies, number a ≠ 0 and place p exactly if the first that applies has them
@@ -19,8 +20,8 @@ use mathlib.Core.Bool.{Bool, true, false, cond}
 use mathlib.Core.List.{List}
 use native.Mathlib.Omega.{arith}
 use lib.Dec.{ltb}
-use lib.ListN.{getD}
-use borrow.Author.Tests.{ltb-true, eq-eqb, ne-eqb}
+use lib.ListN.{length, getD}
+use borrow.Author.Tests.{ltb-true, le-ltb, eq-eqb, ne-eqb}
 use Rattle.columns.specs.Table.{table}
 use Rattle.records.specs.Buffer.{put}
 use Rattle.columns.proofs.Table.{table-length, table-at}
@@ -33,11 +34,12 @@ use Rattle.files.specs.Terms.{termsOf}
 use Rattle.files.specs.Range.{rowOk}
 use Rattle.files.specs.Walk.{idOf, hasId, findId, inCorrection, Own}
 use Rattle.files.specs.Order.{alike, corrects, verdict, verdictOf}
-use Rattle.files.specs.Counting.{countingRow}
+use Rattle.files.specs.Counting.{sourceOf, countingRow}
 use Rattle.files.specs.declared.Row.{Row}
 use Rattle.files.specs.declared.Verdict.the-variants.{Accepted}
 use Rattle.files.proofs.Accepted.{accepted-own, accepted-head-ok, accepted-row-ok, accepted-rows, accepted-corrected}
 use Rattle.files.proofs.Found.{find-has}
+use Rattle.files.proofs.Sourced.{none-there}
 use Rattle.files.proofs.Ranges.{HeadRanges, head-ranges, RowRanges, row-ranges}
 pub use Rattle.files.proofs.Accepted.{accepted-count, accepted-length, accepted-few}
 
@@ -115,3 +117,9 @@ pub source-at : (out : List ℕ) (n : ℕ) (f : ℕ → ℕ) (i : ℕ) → i < n
 source-at out n f i l =
     let e : 0 + i ≡ i = omega arith in
     (rw e at (put-inside out 0 (table n f) i 0 (omega arith) (omega (arith, table-length n f)))) ∙ table-at 0 n f i l
+
+pub no-source : (s k : List ℕ) (n i : ℕ) → verdictOf s k ≡ Accepted n → length k ≡ 0 → 0 ≡ sourceOf s k i
+unfolding sourceOf
+no-source s k n i h e =
+    let none : 0 ≡ correctionCount k = none-there k (correctionCount k) (accepted-corrected s k n h .rows) (omega arith) in
+    rw (le-ltb (inCorrection k (idOf s headSize i)) (correctionCount k) (omega arith))

@@ -2,6 +2,7 @@
 --   Sofar          how far it has come before row i: the lines of the rows passed
 --   sofar-none, sofar-more, sofar-all     its start, one row more, its end
 --   source-inside, source-is, line-room, sofar-long     the next row's source is there and right, its line has room
+--   by-tariff      the lines by the head's tariff
 --   duty-put       a record of the fields of a row's duties is its line
 --   row-ranged, row-inside, row-read      of one row: it is in its ranges, and its line is that of its duties
 use Prim.Native.Nat.{ℕ, _+_, _≤_, _<_}
@@ -87,7 +88,10 @@ module _ (n tariff : ℕ) (s k out : List ℕ) (ok : verdictOf s k ≡ Accepted 
                 ∙ sheet-next headSize letterL lineWidths out i (rowLine tariff s k) (λ j. refl) (omega arith);
           }
 
-    pub sofar-all : n ≤ i → (h : Head) → h ≡ headAt s → tariff ≡ h .tariff .0 → sheet ≡ lined out n (rowLine (headAt s .tariff .0) s k)
-    sofar-all up h is paid =
-        let e : i ≡ n = omega (arith, sofar .within) in
-        (rw e at (sofar .bytes)) ∙ ap (λ (x : ℕ). lined out n (rowLine x s k)) (paid ∙ ap (λ (x : Head). x .tariff .0) is)
+    pub sofar-all : n ≤ i → sheet ≡ lined out n (rowLine tariff s k)
+    sofar-all up = let e : i ≡ n = omega (arith, sofar .within) in rw e at (sofar .bytes)
+
+pub by-tariff : (n tariff : ℕ) (s k out sheet : List ℕ) (h : Head) → h ≡ headAt s → tariff ≡ h .tariff .0 → sheet ≡ lined out n (rowLine tariff s k)
+    → sheet ≡ lined out n (rowLine (headAt s .tariff .0) s k)
+by-tariff n tariff s k out sheet h is paid made =
+    made ∙ ap (λ (x : ℕ). lined out n (rowLine x s k)) (paid ∙ ap (λ (x : Head). x .tariff .0) is)

@@ -71,6 +71,60 @@ fn read_row<'a>(
     put_duty(sheet, i, row.id, d);
 }
 
+// The same where there is no correction, so that nothing has to be chosen. A function of its own, since the compiler does not put one
+// that two loops call into either of them.
+fn read_own_row<'a>(
+    interval: &'a [u8],
+    correction: &'a [u8],
+    n: usize,
+    i: usize,
+    tariff: Hao,
+    sheet: &mut [u8],
+)
+    requires { ⌜ (verdictOf (now interval) (now correction) ≡ Verdict.Accepted n) × (i < n) × (length (now correction) ≡ 0) ⌝ }
+    requires { ⌜ lineStart (i + 1) ≤ length (now sheet) ⌝ }
+    ensures { λ _. ⌜ now (sheet .exit) ≡ put (now (sheet .entry)) (lineStart i)
+        (recordBytes letterL lineWidths (rowLine (tariff .0) (now (interval .entry)) (now (correction .entry)) i)) ⌝ }
+{
+    let row = counting_row(interval, correction, n, i, 0);
+    let d = duty_of(terms_of(interval), tariff, row);
+    put_duty(sheet, i, row.id, d);
+}
+
+// The duties of all rows of an interval without correction.
+fn read_own<'a>(interval: &'a [u8], correction: &'a [u8], n: usize, tariff: Hao, sheet: &mut [u8])
+    requires { ⌜ (verdictOf (now interval) (now correction) ≡ Verdict.Accepted n) × (length (now correction) ≡ 0) ⌝ }
+    requires { ⌜ lineStart n ≤ length (now sheet) ⌝ }
+    ensures { λ _. ⌜ now (sheet .exit) ≡ lined (now (sheet .entry)) n (rowLine (tariff .0) (now (interval .entry)) (now (correction .entry))) ⌝ }
+{
+    let mut i = 0;
+    while i < n {
+        read_own_row(interval, correction, n, i, tariff, sheet);
+        i += 1;
+    }
+}
+
+// The duties of all rows of an interval with its correction.
+fn read_corrected<'a>(
+    interval: &'a [u8],
+    correction: &'a [u8],
+    n: usize,
+    tariff: Hao,
+    sheet: &mut [u8],
+)
+    requires { ⌜ verdictOf (now interval) (now correction) ≡ Verdict.Accepted n ⌝ }
+    requires { ⌜ lineStart n ≤ length (now sheet) ⌝ }
+    ensures { λ _. ⌜ now (sheet .exit) ≡ lined (now (sheet .entry)) n (rowLine (tariff .0) (now (interval .entry)) (now (correction .entry))) ⌝ }
+{
+    let mut sources = [0u16; 256];
+    files::sources(interval, correction, n, &mut sources);
+    let mut i = 0;
+    while i < n {
+        read_row(interval, correction, n, i, sources[i], tariff, sheet);
+        i += 1;
+    }
+}
+
 // The duties of all rows of an accepted pair.
 pub fn read<'a>(interval: &'a [u8], correction: &'a [u8], n: usize, sheet: &mut [u8])
     requires { ⌜ verdictOf (now interval) (now correction) ≡ Verdict.Accepted n ⌝ }
@@ -80,11 +134,9 @@ pub fn read<'a>(interval: &'a [u8], correction: &'a [u8], n: usize, sheet: &mut 
 {
     let head = files::head_at(interval);
     let tariff = head.tariff;
-    let mut sources = [0u16; 256];
-    files::sources(interval, correction, n, &mut sources);
-    let mut i = 0;
-    while i < n {
-        read_row(interval, correction, n, i, sources[i], tariff, sheet);
-        i += 1;
+    if correction.len() == 0 {
+        read_own(interval, correction, n, tariff, sheet);
+        return;
     }
+    read_corrected(interval, correction, n, tariff, sheet);
 }

@@ -1,64 +1,39 @@
--- `settle::rows::read` meets its contract: the lines of the rows passed are put.
-use Prim.Native.Nat.{_-_}
-use Rattle.settle.proofs.Reading.{Sofar, sofar-none, source-inside, source-is, line-room, sofar-more, sofar-long, sofar-all}
+-- `settle::rows::read` meets its contract: with a correction or without, the lines are those by the head's tariff.
 use Rattle.settle.proofs.Answered.{head-there}
+use Rattle.settle.proofs.Reading.{by-tariff}
 use borrow.Author.Needs.{needs}
 use Rattle.settle.proofs.rows.read.Statement.{statement}
 use Rattle.settle.proofs.rows.read.Tie as tie
 
-abbrev Inv-loop : tie.InvT-loop
-Inv-loop interval correction n sheet₀ tariff sources i₀ sheet i = Sofar n (tariff .0) interval correction sheet₀ sheet i
-
-abbrev μ-loop : tie.MeasureT-loop
-μ-loop interval correction n sheet₀ tariff sources i₀ sheet i = n - i
-
-head-at-requires : tie.Need-head-at-requires Inv-loop μ-loop
+head-at-requires : tie.Need-head-at-requires
 head-at-requires c κs = search head-there
 
-sources-requires : tie.Need-sources-requires Inv-loop μ-loop
-sources-requires c κs = search needs
+read-own-requires : tie.Need-read-own-requires
+read-own-requires c κs = search needs
 
-loop-holds : tie.Need-loop-holds Inv-loop μ-loop
-loop-holds c = search sofar-none
+same-length : tie.Need-same-length
+same-length c = search needs
 
-mul-read-row : tie.Need-mul-read-row Inv-loop μ-loop
-mul-read-row c = search needs
+returns : tie.Need-returns
+returns c = search by-tariff
 
-array-read-read-row : tie.Need-array-read-read-row Inv-loop μ-loop
-array-read-read-row c = search source-inside
+read-corrected-requires : tie.Need-read-corrected-requires
+read-corrected-requires c κs = search needs
 
-read-row-requires : tie.Need-read-row-requires Inv-loop μ-loop
-read-row-requires c κs = search (source-is, line-room)
+same-length-2 : tie.Need-same-length-2
+same-length-2 c = search needs
 
-add-i : tie.Need-add-i Inv-loop μ-loop
-add-i c = search needs
-
-loop-less : tie.Need-loop-less Inv-loop μ-loop
-loop-less c = search needs
-
-loop-again : tie.Need-loop-again Inv-loop μ-loop
-loop-again c = search sofar-more
-
-same-length : tie.Need-same-length Inv-loop μ-loop
-same-length c = search sofar-long
-
-returns : tie.Need-returns Inv-loop μ-loop
-returns c = search sofar-all
+returns-2 : tie.Need-returns-2
+returns-2 c = search by-tariff
 
 pub read-spec : {M : Type 1} → statement M
 read-spec =
     tie.close
     (tie.spec
-    Inv-loop
-    μ-loop
     head-at-requires
-    sources-requires
-    loop-holds
-    mul-read-row
-    array-read-read-row
-    read-row-requires
-    add-i
-    loop-less
-    loop-again
+    read-own-requires
     same-length
-    returns)
+    returns
+    read-corrected-requires
+    same-length-2
+    returns-2)

@@ -1,0 +1,59 @@
+-- `settle::rows::read_corrected` meets its contract: the lines of the rows passed are put.
+use Prim.Native.Nat.{_-_}
+use Rattle.settle.proofs.Reading.{Sofar, sofar-none, source-inside, source-is, line-room, sofar-more, sofar-long, sofar-all}
+use borrow.Author.Needs.{needs}
+use Rattle.settle.proofs.rows.read_corrected.Statement.{statement}
+use Rattle.settle.proofs.rows.read_corrected.Tie as tie
+
+abbrev Inv-loop : tie.InvT-loop
+Inv-loop interval correction n tariff sheet₀ sources i₀ sheet i = Sofar n (tariff .0) interval correction sheet₀ sheet i
+
+abbrev μ-loop : tie.MeasureT-loop
+μ-loop interval correction n tariff sheet₀ sources i₀ sheet i = n - i
+
+sources-requires : tie.Need-sources-requires Inv-loop μ-loop
+sources-requires c κs = search needs
+
+loop-holds : tie.Need-loop-holds Inv-loop μ-loop
+loop-holds c = search sofar-none
+
+mul-read-row : tie.Need-mul-read-row Inv-loop μ-loop
+mul-read-row c = search needs
+
+array-read-read-row : tie.Need-array-read-read-row Inv-loop μ-loop
+array-read-read-row c = search source-inside
+
+read-row-requires : tie.Need-read-row-requires Inv-loop μ-loop
+read-row-requires c κs = search (source-is, line-room)
+
+add-i : tie.Need-add-i Inv-loop μ-loop
+add-i c = search needs
+
+loop-less : tie.Need-loop-less Inv-loop μ-loop
+loop-less c = search needs
+
+loop-again : tie.Need-loop-again Inv-loop μ-loop
+loop-again c = search sofar-more
+
+same-length : tie.Need-same-length Inv-loop μ-loop
+same-length c = search sofar-long
+
+returns : tie.Need-returns Inv-loop μ-loop
+returns c = search sofar-all
+
+pub read-corrected-spec : {M : Type 1} → statement M
+read-corrected-spec =
+    tie.close
+    (tie.spec
+    Inv-loop
+    μ-loop
+    sources-requires
+    loop-holds
+    mul-read-row
+    array-read-read-row
+    read-row-requires
+    add-i
+    loop-less
+    loop-again
+    same-length
+    returns)

@@ -1,0 +1,35 @@
+-- `settle::rows::read_own_row` meets its contract: without a correction the row that counts is the interval's own.
+use Rattle.files.proofs.Laws.{no-source}
+use Rattle.settle.proofs.Reading.{row-ranged, row-inside, row-read}
+use borrow.Author.Needs.{needs}
+use Rattle.settle.proofs.rows.read_own_row.Statement.{statement}
+use Rattle.settle.proofs.rows.read_own_row.Tie as tie
+
+counting-row-requires : tie.Need-counting-row-requires
+counting-row-requires c κs = search (no-source, needs)
+
+terms-of-requires : tie.Need-terms-of-requires
+terms-of-requires c κs = search needs
+
+duty-of-requires : tie.Need-duty-of-requires
+duty-of-requires c κs = search row-ranged
+
+put-duty-requires : tie.Need-put-duty-requires
+put-duty-requires c κs = (search row-inside, search needs)
+
+same-length : tie.Need-same-length
+same-length c = search needs
+
+returns : tie.Need-returns
+returns c = search row-read
+
+pub read-own-row-spec : {M : Type 1} → statement M
+read-own-row-spec =
+    tie.close
+    (tie.spec
+    counting-row-requires
+    terms-of-requires
+    duty-of-requires
+    put-duty-requires
+    same-length
+    returns)
