@@ -4,9 +4,8 @@
 --   weights-asked, caps-asked     weights and caps may be read into fronts of fresh arrays
 --   rounds-asked                  the arrays are such as the rounds ask for
 --   paid-count, marks-count, paid-asked, marks-asked, counts-level, levied    payments and closing rounds may be put, and what the stage leaves
---   parts-lined, none-left        where there is nothing to share, the blank column may be put, and is the shares
 --   shares-asked, shares-lined, shares-left     an amount over the sums of a field, in lent columns
---   front-shareable, share-front, parts-front, share-there    and in fronts of fresh arrays
+--   none-shared, front-shareable, share-front, share-there    where there is nothing to share; and in fronts of fresh arrays
 --   divided-none, divided-asked, divided-more, divided-all    one sharing after the other
 use Prim.Native.Nat.{ℕ, _+_, _≤_, _<_}
 use mathlib.Core.Path.{_≡_, refl, sym, ap, _∙_}
@@ -16,11 +15,11 @@ use native.Mathlib.Omega.{arith}
 use lib.ListN.{length, take, drop, length-append, length-drop}
 use lib.Seq.{length-take-le, take-at}
 use Rattle.columns.specs.Table.{at}
-use Rattle.columns.proofs.Table.{table-length, table-is}
+use Rattle.columns.proofs.Table.{table-length}
 use Rattle.records.specs.declared.Field.{Field}
 use Rattle.records.specs.Sheet.{Lined, cell, columnOf, withColumn}
-use Rattle.share.specs.Share.{share, shares}
-use Rattle.share.proofs.Laws.{shares-length, share-le-amount}
+use Rattle.share.specs.Share.{shares}
+use Rattle.share.proofs.Laws.{shares-length}
 use Rattle.levy.specs.Asked.{standingOf, Levyable, Finished, Payable, Apportionable}
 use Rattle.levy.specs.Rounds.{Standing, final, visits, payments}
 use Rattle.levy.specs.declared.Rest.{Rest}
@@ -30,9 +29,9 @@ use Rattle.levy.proofs.Making.{payable}
 use Rattle.levy.proofs.Payment.{payments-length}
 use Rattle.statement.specs.Line as line
 use Rattle.settle.specs.Within.{Turn}
-use Rattle.settle.specs.Work.{Ruled, Leviable, standingIn, LeviedOn, Levied, sharingOf, Shareable, LentParts, sharedOut, dividedTo, Divisible}
+use Rattle.settle.specs.Work.{Ruled, Leviable, standingIn, LeviedOn, Levied, sharingOf, Shareable, sharedOut, dividedTo, Divisible}
 use Rattle.settle.specs.declared.payers.Sharing.{Sharing}
-use Rattle.settle.proofs.Lending.{fresh, front-count, front-blank}
+use Rattle.settle.proofs.Lending.{fresh, front-count}
 
 column-long : (n : ℕ) (s : List ℕ) (f : Field) → length (columnOf f n s) ≡ n
 unfolding columnOf
@@ -158,20 +157,7 @@ module _ (n first total : ℕ) (s : List ℕ) (asked : Leviable n first total s)
 
 -- ---- an amount over the sums of a field
 
-module _ (first : ℕ) (what : Sharing) (ps cs s : List ℕ) (asked : Shareable (length ps) first what s) (lent : LentParts ps cs) where
-  pub parts-lined : Lined (what .to) (length cs) s
-  parts-lined = rw (lent .long) (asked .parts .lined)
-
-  none-shared : what .amount .0 ≡ 0 → cs ≡ shares (what .amount .0) (columnOf (what .from) (length ps) s) first
-  unfolding shares
-  none-shared e =
-      let sums = columnOf (what .from) (length ps) s in
-      table-is 0 cs (length sums) (share (what .amount .0) sums first) (lent .long ∙ sym (column-long (length ps) s (what .from)))
-      (λ i l. omega (arith, lent .blank i, share-le-amount (what .amount .0) sums first i))
-
-  pub none-left : what .amount .0 ≡ 0 → (t : List ℕ) → t ≡ withColumn (what .to) cs s → t ≡ sharedOut (length ps) first what s
-  none-left e t put = put ∙ ap (λ (xs : List ℕ). withColumn (what .to) xs s) (none-shared e)
-
+module _ (first : ℕ) (what : Sharing) (ps cs s : List ℕ) (asked : Shareable (length ps) first what s) (level : length cs ≡ length ps) where
   module _ (ps1 : List ℕ) (read : ps1 ≡ columnOf (what .from) (length ps) s) where
     ps1-long : length ps1 ≡ length ps
     ps1-long = ap length read ∙ column-long (length ps) s (what .from)
@@ -180,7 +166,7 @@ module _ (first : ℕ) (what : Sharing) (ps cs s : List ℕ) (asked : Shareable 
     shares-asked =
         record {
           few = omega (arith, ps1-long, asked .few);
-          out-long = lent .long ∙ sym ps1-long;
+          out-long = level ∙ sym ps1-long;
           turn = λ p. omega (arith, ps1-long, asked .turn (omega (arith, ps1-long)));
           covered = rw read (asked .covered);
         }
@@ -200,8 +186,8 @@ module _ (n first : ℕ) (what : Sharing) (s : List ℕ) (asked : Shareable n fi
   pub share-front : Shareable (length (take n fresh)) first what s
   share-front = rw (front-count n (asked .few)) asked
 
-  pub parts-front : LentParts (take n fresh) (take n fresh)
-  parts-front = record { long = refl; blank = λ i. front-blank n i (asked .few) }
+  pub none-shared : what .amount .0 ≡ 0 → s ≡ sharedOut n first what s
+  none-shared e = asked .idle e
 
   pub share-there : (t : List ℕ) → t ≡ sharedOut (length (take n fresh)) first what s → t ≡ sharedOut n first what s
   share-there t e = rw (front-count n (asked .few)) at e

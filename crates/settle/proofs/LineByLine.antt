@@ -3,17 +3,22 @@
 --                      its start, what a line asks, a turn, its end
 --   WrittenTo          how far the writing loop has come; written-none, written-inside, written-one-room, written-two-room, written-next,
 --                      written-all: the same of it
-use Prim.Native.Nat.{ℕ, zero, suc, _+_, _*_, _≤_, _<_}
-use mathlib.Core.Path.{_≡_, refl, ap, _∙_}
-use mathlib.Core.List.{List}
+--   side-by-side       numbers put into two fields of four bytes as one: they stand in the first, and 0 in the second
+use Prim.Native.Nat.{ℕ, zero, suc, _+_, _*_, _/_, _%_, _^_, _≤_, _<_}
+use mathlib.Core.Path.{_≡_, refl, sym, ap, _∙_}
+use mathlib.Core.List.{List, _∷_, _++_}
 use native.Mathlib.Nat.{mul-le-mul-right}
 use native.Mathlib.Numerals.{add-one}
 use native.Mathlib.Omega.{arith}
 use lib.ListN.{length, set}
 use Rattle.columns.specs.Table.{at}
 use Rattle.columns.proofs.Fill.{Reached, reached-none, reached-next}
+use Rattle.records.specs.Buffer.{put}
+use Rattle.records.specs.Number.{numberBytes}
 use Rattle.records.specs.declared.Field.{Field}
 use Rattle.records.specs.Sheet.{cellAt, cell, columnOf, withCell, withCells, withColumn, Lined}
+use Rattle.records.proofs.Buffer.{put-put}
+use Rattle.records.proofs.Number.{number-length}
 use Rattle.records.proofs.Sheet.{cell-room, cell-length, cells-apart, cells-length}
 use Rattle.records.proofs.Column.{read-room, read-all}
 use Rattle.settle.specs.Work.{Ruled, SameLines}
@@ -116,3 +121,50 @@ module _ (one two : Field) (xs ys s₀ s : List ℕ) (i : ℕ) (r : WrittenTo on
                 (put2 ∙ ap (withCell two i y) (put1 ∙ ap (withCell one i x) (r .is) ∙ past)
                 ∙ (λ j. withCell two i (f j) (withCells two i ys (withCell one i (e j) t))));
           }
+
+-- ---- two fields side by side as one
+
+-- small numbers in eight bytes are four bytes of theirs and four of 0
+eight : (x : ℕ) → x < 2 ^ 32 → numberBytes 8 x ≡ numberBytes 4 x ++ numberBytes 4 0
+unfolding numberBytes
+eight x l =
+    let e : x / 256 / 256 / 256 / 256 ≡ 0 = omega arith in
+    ap (λ (y : ℕ). (x % 256) ∷ (x / 256 % 256) ∷ (x / 256 / 256 % 256) ∷ (x / 256 / 256 / 256 % 256) ∷ numberBytes 4 y) e
+
+module _ (start stride offset : ℕ) where
+  abbrev both : Field
+  both = record { start = start; stride = stride; offset = offset; width = 8 }
+
+  abbrev former : Field
+  former = record { start = start; stride = stride; offset = offset; width = 4 }
+
+  abbrev latter : Field
+  latter = record { start = start; stride = stride; offset = offset + 4; width = 4 }
+
+  side-cell : (i x : ℕ) (s : List ℕ) → x < 2 ^ 32 → cellAt both i + 8 ≤ length s → withCell both i x s ≡ withCell latter i 0 (withCell former i x s)
+  unfolding withCell
+  side-cell i x s l there =
+      ap (put s (cellAt both i)) (eight x l)
+      ∙ sym (put-put s (cellAt both i) (cellAt latter i) (numberBytes 4 x) (numberBytes 4 0) (omega (arith, number-length 4 x)) (omega arith))
+
+  module _ (n : ℕ) (xs zs s : List ℕ) (lined : Lined both n s) (small : (i : ℕ) → at xs i < 2 ^ 32) (zero-all : (i : ℕ) → at zs i ≡ 0) where
+    side-cells : (m : ℕ) → m ≤ n → withCells both m xs s ≡ withCells latter m zs (withCells former m xs s)
+    unfolding withCells
+    side-cells zero l = refl
+    side-cells (suc m) l =
+        let u = withCells former m xs s in
+        let t = withCells latter m zs u in
+        let u-long : length u ≡ length s =
+        cells-length former n m xs s (record { inside = omega (arith, lined .inside); room = lined .room }) (omega arith) in
+        let lined1 : Lined former n u = record { inside = omega (arith, lined .inside); room = omega (arith, u-long, lined .room) } in
+        let lined2 : Lined latter n u = record { inside = omega (arith, lined .inside); room = omega (arith, u-long, lined .room) } in
+        let t-long : length t ≡ length s = cells-length latter n m zs u lined2 (omega arith) ∙ u-long in
+        ap (withCell both m (at xs m)) (side-cells m (omega arith))
+        ∙ side-cell m (at xs m) t (small m) (omega (arith, t-long, cell-room both n m s lined l))
+        ∙ (λ j. withCell latter m (sym (zero-all m) j)
+        (cell-past former latter (record { start = refl; stride = refl }) n m (at xs m) zs u m lined1 lined2 l (omega arith) j))
+
+  pub side-by-side : (xs zs s : List ℕ) → Lined both (length xs) s → length zs ≡ length xs → ((i : ℕ) → at xs i < 2 ^ 32)
+      → ((i : ℕ) → at zs i ≡ 0) → withColumn both xs s ≡ withColumn latter zs (withColumn former xs s)
+  unfolding withColumn
+  side-by-side xs zs s lined level small zero-all = rw level (side-cells (length xs) xs zs s lined small zero-all (length xs) (omega arith))

@@ -1,14 +1,13 @@
--- The stages of compensations and of penalties, row by row, as their proofs ask for it: the same but for the rule and the fields.
+-- The stage of compensations and penalties, row by row, as its proof asks for it.
 --   four           a cell of at most four bytes fits 32 bits
 --   Sofar          how far the stage has come before row i
 --   sofar-none, sofar-more, sofar-all     its start, one row more, its end
---   line-there, cell-there, sofar-long    the next row's line and cell are there; the sheet keeps its length
---   figure-small, total-fits              a row's figure, and the total, fit
-use Prim.Native.Nat.{ℕ, _+_, _-_, _*_, _^_, _≤_, _<_}
+--   line-there, pay-there, owed-there, sofar-long    the next row's line and its cells are there; the sheet keeps its length
+--   total-fits, penalties-fit             both totals fit
+use Prim.Native.Nat.{ℕ, _+_, _*_, _^_, _≤_, _<_}
 use mathlib.Core.Path.{_≡_, refl, sym, ap, _∙_}
 use mathlib.Core.List.{List}
 use native.Mathlib.Nat.{pow-le-pow-right}
-use native.Mathlib.Numerals.{add-one}
 use native.Mathlib.Omega.{arith}
 use lib.Dec.{lit<}
 use lib.ListN.{length}
@@ -17,78 +16,119 @@ use Rattle.columns.specs.Table.{table}
 use Rattle.columns.proofs.Sum.{sum-next}
 use Rattle.columns.proofs.Table.{table-at, table-length}
 use Rattle.columns.proofs.Whole.{whole-table}
-use Rattle.records.specs.Sheet.{cellAt, cell, withCell, withCells, withColumn}
-use Rattle.records.specs.declared.Field.{Field}
-use Rattle.records.proofs.Sheet.{cell-room, cells-length, cell-later}
+use Rattle.records.specs.Sheet.{Lined, cellAt, cell, withCell, withCells}
+use Rattle.records.proofs.Sheet.{cells-length, cell-later}
 use Rattle.units.specs.declared.Fen.{Fen}
 use Rattle.statement.specs.Statement.{lineStart}
 use Rattle.statement.specs.Line as line
-use Rattle.settle.specs.Work.{lineField, Pricing, pricedAt, Priceable, Priced}
+use Rattle.settle.specs.declared.market.Accounts.{Accounts}
+use Rattle.settle.specs.Work.{lineField, Pricing, paying, owing, pricedAt, Accountable, Accounted}
+use Rattle.settle.proofs.LineByLine.{WrittenTo, written-none, written-one-room, written-two-room, written-next, written-all}
 
 pub four : (x w : ℕ) → x < 256 ^ w → w ≤ 4 → x < 2 ^ 32
 four x w h l = omega (arith, pow-le-pow-right {n = 256} (lit< tt) l)
 
--- before row i: the rows passed have their figures, and the total is theirs
-pub record Sofar (g : Pricing) (n p1 p2 : ℕ) (s₀ s : List ℕ) (total i : ℕ) : Type 0 where
-  pub within : i ≤ n
-  pub bytes : s ≡ withCells (lineField (g .into)) i (table n (pricedAt g p1 p2 s₀)) s₀
-  pub total-is : total ≡ sumTo i (pricedAt g p1 p2 s₀)
-  pub small : total ≤ i * 100000000
+-- the columns of the figures of n rows
+abbrev figures : Pricing → ℕ → ℕ → ℕ → List ℕ → List ℕ
+figures g n p1 p2 s = table n (pricedAt g p1 p2 s)
 
-module _ (g : Pricing) (n p1 p2 : ℕ) (s₀ : List ℕ) (asked : Priceable g n p1 p2 s₀) where
-  abbrev into : Field
-  into = lineField (g .into)
+-- before row i: the rows passed have both figures, and the totals are theirs
+pub record Sofar (n p1 p2 : ℕ) (s₀ s : List ℕ) (total penalties i : ℕ) : Type 0 where
+  pub written : WrittenTo line.pay line.owed (figures paying n p1 p2 s₀) (figures owing n p1 p2 s₀) s₀ s i
+  pub total-is : total ≡ sumTo i (pricedAt paying p1 p2 s₀)
+  pub total-small : total ≤ i * 100000000
+  pub penalties-are : penalties ≡ sumTo i (pricedAt owing p1 p2 s₀)
+  pub penalties-small : penalties ≤ i * 100000000
 
-  pub sofar-none : Sofar g n p1 p2 s₀ s₀ 0 0
-  unfolding withCells sumTo
-  sofar-none = record { within = omega arith; bytes = refl; total-is = refl; small = omega arith }
+module _ (n p1 p2 : ℕ) (s₀ : List ℕ) (asked : Accountable n p1 p2 s₀) where
+  count : (g : Pricing) → length (figures g n p1 p2 s₀) ≡ n
+  count g = table-length n (pricedAt g p1 p2 s₀)
 
-  module _ (s : List ℕ) (total i : ℕ) (sofar : Sofar g n p1 p2 s₀ s total i) where
+  pay-lined : Lined line.pay (length (figures paying n p1 p2 s₀)) s₀
+  pay-lined = rw (count paying) (asked .pay-lined)
+
+  owed-lined : Lined line.owed (length (figures owing n p1 p2 s₀)) s₀
+  owed-lined = rw (count owing) (asked .owed-lined)
+
+  pub sofar-none : Sofar n p1 p2 s₀ s₀ 0 0 0
+  unfolding sumTo
+  sofar-none =
+      record {
+        written =
+            written-none line.pay line.owed (figures paying n p1 p2 s₀) (figures owing n p1 p2 s₀) s₀ (count owing ∙ sym (count paying));
+        total-is = refl;
+        total-small = omega arith;
+        penalties-are = refl;
+        penalties-small = omega arith;
+      }
+
+  module _ (s : List ℕ) (total penalties i : ℕ) (sofar : Sofar n p1 p2 s₀ s total penalties i) where
     pub sofar-long : length s ≡ length s₀
-    sofar-long = ap length (sofar .bytes) ∙ cells-length into n i (table n (pricedAt g p1 p2 s₀)) s₀ (asked .lined) (sofar .within)
+    sofar-long = sofar .written .long
 
     module _ (l : i < n) where
+      inside : i < length (figures paying n p1 p2 s₀)
+      inside = omega (arith, count paying)
+
       pub line-there : lineStart (i + 1) ≤ length s
-      line-there = omega (arith, sofar-long, asked .lined .room)
+      line-there = omega (arith, sofar-long, asked .pay-lined .room)
 
-      pub cell-there : cellAt into i + into .width ≤ length s
-      cell-there = omega (arith, sofar-long, cell-room into n i s₀ (asked .lined) l)
+      pub pay-there : cellAt line.pay i + 8 ≤ length s
+      pay-there =
+          written-one-room line.pay line.owed (figures paying n p1 p2 s₀) (figures owing n p1 p2 s₀) s₀ s i (sofar .written) pay-lined inside
 
+      pub owed-there : (x : ℕ) (t : List ℕ) → t ≡ withCell line.pay i x s → cellAt line.owed i + 8 ≤ length t
+      owed-there x t put-pay =
+          written-two-room line.pay line.owed (figures paying n p1 p2 s₀) (figures owing n p1 p2 s₀) s₀ s i (sofar .written) pay-lined inside x t
+          put-pay owed-lined
+
+      -- what was put into the lines before is not seen in this one
       later : (j : ℕ) → cell (lineField j) s i ≡ cell (lineField j) s₀ i
       later j =
-          ap (λ (x : List ℕ). cell (lineField j) x i) (sofar .bytes)
-          ∙ cell-later into (lineField j) n (table n (pricedAt g p1 p2 s₀)) s₀ i i refl refl (asked .lined) (omega arith) l
+          let xs = figures paying n p1 p2 s₀ in
+          let t = withCells line.pay i xs s₀ in
+          let t-long : length t ≡ length s₀ = cells-length line.pay n i xs s₀ (asked .pay-lined) (omega arith) in
+          ap (λ (x : List ℕ). cell (lineField j) x i) (sofar .written .is)
+          ∙ cell-later line.owed (lineField j) n (figures owing n p1 p2 s₀) t i i refl refl
+          (record { inside = asked .owed-lined .inside; room = omega (arith, t-long, asked .owed-lined .room) }) (omega arith) l
+          ∙ cell-later line.pay (lineField j) n xs s₀ i i refl refl (asked .pay-lined) (omega arith) l
 
-      -- a row's figure does not depend on what was put before
-      same-figure : pricedAt g p1 p2 s i ≡ pricedAt g p1 p2 s₀ i
-      same-figure = λ j. g .rule (later 1 j) (later 2 j) (later (g .into) j) (later (g .beside) j) p1 p2
+      same-figure : (g : Pricing) → pricedAt g p1 p2 s i ≡ pricedAt g p1 p2 s₀ i
+      same-figure g = λ j. g .rule (later 1 j) (later 2 j) (later (g .into) j) (later (g .beside) j) p1 p2
 
-      pub figure-small : pricedAt g p1 p2 s₀ i ≤ 100000000
-      figure-small = asked .small i l
+      module _ (pay owed : Fen) (pay-is : pay .0 ≡ pricedAt paying p1 p2 s i) (owed-is : owed .0 ≡ pricedAt owing p1 p2 s i) where
+        pub total-fits : total + pay .0 < 2 ^ 64
+        total-fits = omega (arith, pay-is, same-figure paying, asked .pay-small i l, sofar .total-small, asked .few)
 
-      module _ (figure : Fen) (is : figure .0 ≡ pricedAt g p1 p2 s i) where
-        pub total-fits : total + figure .0 < 2 ^ 64
-        total-fits = omega (arith, is, same-figure, figure-small, sofar .small, asked .few)
+        pub penalties-fit : penalties + owed .0 < 2 ^ 64
+        penalties-fit = omega (arith, owed-is, same-figure owing, asked .owed-small i l, sofar .penalties-small, asked .few)
 
-        pub sofar-more : (t : List ℕ) → t ≡ withCell into i (figure .0) s → Sofar g n p1 p2 s₀ t (total + figure .0) (i + 1)
-        unfolding withCells
-        sofar-more t put =
-            let here = is ∙ same-figure in
+        pub sofar-more : (t : List ℕ) → t ≡ withCell line.pay i (pay .0) s → (u : List ℕ) → u ≡ withCell line.owed i (owed .0) t
+            → Sofar n p1 p2 s₀ u (total + pay .0) (penalties + owed .0) (i + 1)
+        sofar-more t put-pay u put-owed =
+            let pays = pay-is ∙ same-figure paying in
+            let owes = owed-is ∙ same-figure owing in
             record {
-              within = omega arith;
-              bytes = put
-                  ∙ (λ j. withCell into i ((here ∙ sym (table-at 0 n (pricedAt g p1 p2 s₀) i l)) j) (sofar .bytes j))
-                  ∙ rw (add-one i) refl;
-              total-is = omega (arith, here, sofar .total-is, sum-next i (pricedAt g p1 p2 s₀));
-              small = omega (arith, here, figure-small, sofar .small);
+              written =
+                  written-next line.pay line.owed (figures paying n p1 p2 s₀) (figures owing n p1 p2 s₀) s₀ s i (sofar .written) pay-lined inside
+                  (pay .0) t put-pay owed-lined (record { start = refl; stride = refl })
+                  (pays ∙ sym (table-at 0 n (pricedAt paying p1 p2 s₀) i l)) (owed .0)
+                  (owes ∙ sym (table-at 0 n (pricedAt owing p1 p2 s₀) i l)) u put-owed;
+              total-is = omega (arith, pays, sofar .total-is, sum-next i (pricedAt paying p1 p2 s₀));
+              total-small = omega (arith, pays, asked .pay-small i l, sofar .total-small);
+              penalties-are = omega (arith, owes, sofar .penalties-are, sum-next i (pricedAt owing p1 p2 s₀));
+              penalties-small = omega (arith, owes, asked .owed-small i l, sofar .penalties-small);
             }
 
-    pub sofar-all : n ≤ i → Priced g n p1 p2 s₀ s total
-    unfolding withColumn
-    sofar-all up =
-        let e : i ≡ n = omega (arith, sofar .within) in
+    pub sofar-all : n ≤ i → (r : Accounts) → r .total .0 ≡ total → r .penalties .0 ≡ penalties → Accounted n p1 p2 s₀ s r
+    sofar-all up r total-told penalties-told =
+        let e : i ≡ n = omega (arith, sofar .written .within, count paying) in
         record {
-          bytes = sofar .bytes
-              ∙ ap (λ (m : ℕ). withCells into m (table n (pricedAt g p1 p2 s₀)) s₀) (e ∙ sym (table-length n (pricedAt g p1 p2 s₀)));
-          total = sofar .total-is ∙ ap (λ (m : ℕ). sumTo m (pricedAt g p1 p2 s₀)) e ∙ sym (whole-table n (pricedAt g p1 p2 s₀));
+          bytes =
+              written-all line.pay line.owed (figures paying n p1 p2 s₀) (figures owing n p1 p2 s₀) s₀ s i (sofar .written) (omega (arith, count paying));
+          total =
+              total-told ∙ sofar .total-is ∙ ap (λ (m : ℕ). sumTo m (pricedAt paying p1 p2 s₀)) e ∙ sym (whole-table n (pricedAt paying p1 p2 s₀));
+          penalties =
+              penalties-told ∙ sofar .penalties-are ∙ ap (λ (m : ℕ). sumTo m (pricedAt owing p1 p2 s₀)) e
+              ∙ sym (whole-table n (pricedAt owing p1 p2 s₀));
         }

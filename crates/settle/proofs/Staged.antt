@@ -1,19 +1,21 @@
 -- The stages put together: from lines of duties to lines of figures. Each stage is given by what it leaves in the sheet (specs/Work.antt);
 -- the sheet is n lines throughout, and every stage changes one field of each.
 --   read, written, ruled     a field of the lines read as a column, a column put into a field, and that its cells are there
+--   beside-lined, written-beside     the same of two fields side by side, of which the second becomes 0
 --   called1-asked, called1-lines    tier 1: what it asks, and the lines that it leaves; so for the other stages
 --   figure-lines        after the last stage the lines are those of the figures
 use Prim.Native.Nat.{ℕ, zero, suc, _+_, _-_, _^_, _≤_, _<_}
 use mathlib.Core.Path.{_≡_, refl, sym, ap, _∙_}
 use mathlib.Core.List.{List, [], _∷_}
 use native.Mathlib.Omega.{arith}
-use lib.ListN.{length, take, set}
+use lib.ListN.{length, take, set, length-set, replicate, length-replicate}
 use Rattle.columns.specs.Sum.{whole}
 use Rattle.columns.specs.Table.{at, table}
 use Rattle.columns.proofs.Table.{table-at, table-list, table-same}
 use Rattle.records.specs.Fields.{span}
+use Rattle.records.specs.declared.Field.{Field}
 use Rattle.records.specs.Sheet.{Lined, cell, columnOf, withColumn}
-use Rattle.records.proofs.Sheet.{sheet-of, sheet-with, sheet-cell-of, sheet-length}
+use Rattle.records.proofs.Sheet.{sheet-of, sheet-with, sheet-same, sheet-cell-of, sheet-length}
 use Rattle.duties.specs.Duties.{Duties}
 use Rattle.merit.specs.Band.{Apart}
 use Rattle.merit.specs.OneTier.{tierCalls}
@@ -23,15 +25,19 @@ use Rattle.pay.specs.Pay.{compensation, penalty}
 use Rattle.levy.specs.Rounds.{Standing, final, visits, payments, shortfall, toCut, toReturn, cuts, returned}
 use Rattle.levy.specs.declared.Rest.{Rest}
 use Rattle.levy.specs.declared.Left.{Left}
-use Rattle.share.specs.Share.{shares}
+use Rattle.levy.proofs.Arrays.{zeros-at}
+use Rattle.share.specs.Share.{share, shares}
+use Rattle.share.proofs.Laws.{share-le-amount}
 use Rattle.statement.specs.Statement.{letterL, lineWidths, headSize, lineSize, lineStart}
 use Rattle.statement.specs.Line as line
 use Rattle.settle.specs.Settlement.{bandsOf, compensationsOf, penaltiesOf, Figures, levied, figures}
 use Rattle.settle.specs.Statement.{lineOf}
 use Rattle.settle.specs.Within.{Turn, Within}
-use Rattle.settle.specs.Work.{lined, lineField, Ruled, tierOne, tierTwo, Offered, callsIn, Called, Pricing, paying, owing, pricedAt, Priceable, Priced}
+use Rattle.settle.specs.Work.{lined, lineField, Ruled, tierOne, tierTwo, Offered, callsIn, Called, Pricing, paying, owing, pricedAt, Accountable, Accounted}
 use Rattle.settle.specs.Work.{Leviable, standingIn, Levied, cutting, returning, Shareable, sharedOut, dividedTo, Divisible}
+use Rattle.settle.specs.declared.market.Accounts.{Accounts}
 use Rattle.settle.specs.declared.market.Cleared.{Cleared}
+use Rattle.settle.proofs.LineByLine.{side-by-side}
 use Rattle.settle.proofs.Sizes.{Sized, Long, figures-long, figures-sized}
 
 -- ---- n lines in a buffer with room for them
@@ -57,13 +63,24 @@ module _ (n : ℕ) (out : List ℕ) (room : lineStart n ≤ length out) where
     ruled j inside narrow =
         record { lined = record { inside = inside; room = omega (arith, lines-long, room) }; narrow = narrow }
 
--- ---- the stages, of any columns within sizes
+    -- a column put into two fields side by side is the former in every line, and the latter is 0
+    pub written-beside : (both : Field) (j : ℕ) → j + 1 < 11 → (xs : List ℕ) → length xs ≡ n
+        → withColumn both xs (lined out n g) ≡ withColumn (lineField (j + 1)) (replicate n 0) (withColumn (lineField j) xs (lined out n g))
+        → withColumn both xs (lined out n g) ≡ lined out n (λ i. set (set (g i) j (at xs i)) (j + 1) 0)
+    written-beside both j known xs long apart =
+        apart ∙ ap (withColumn (lineField (j + 1)) (replicate n 0)) (written j (omega arith) xs long)
+        ∙ sheet-with headSize letterL lineWidths out n (λ i. set (g i) j (at xs i)) (j + 1) (replicate n 0)
+        (λ i. length-set (g i) j (at xs i) ∙ full i) known (omega arith) (length-replicate n 0)
+        ∙ sheet-same headSize letterL lineWidths out n (λ i. set (set (g i) j (at xs i)) (j + 1) (at (replicate n 0) i))
+        (λ i. set (set (g i) j (at xs i)) (j + 1) 0) (λ i l. ap (set (set (g i) j (at xs i)) (j + 1)) (zeros-at n i))
 
--- a stage that prices the energies of lines into the column xs: it may be run, and leaves xs in its field and the sum
-pub record PricedStage (g : Pricing) (n p1 p2 : ℕ) (out : List ℕ) (lines : ℕ → List ℕ) (xs : List ℕ) : Type 0 where
-  pub asked : Priceable g n p1 p2 (lined out n lines)
-  pub leaves : (t : List ℕ) (total : ℕ) → Priced g n p1 p2 (lined out n lines) t total → t ≡ lined out n (λ i. set (lines i) (g .into) (at xs i))
-  pub sums : (t : List ℕ) (total : ℕ) → Priced g n p1 p2 (lined out n lines) t total → total ≡ whole xs
+    -- their cells lie inside the lines
+    pub beside-lined : (both : Field) → both .start ≡ headSize → both .stride ≡ lineSize → both .offset + both .width ≤ lineSize
+        → Lined both n (lined out n g)
+    beside-lined both start stride inside =
+        record { inside = omega (arith, stride); room = rw (start, stride) (omega (arith, lines-long, room)) }
+
+-- ---- the stages, of any columns within sizes
 
 module _ (n : ℕ) (d : Duties) (within : Within n d) (need first : ℕ) (turn : Turn n first) (id : ℕ → ℕ) (out : List ℕ)
     (room : lineStart n ≤ length out) where
@@ -89,13 +106,13 @@ module _ (n : ℕ) (d : Duties) (within : Within n d) (need first : ℕ) (turn :
   lines2 i = set (lines1 i) 2 (at (f .called2) i)
 
   abbrev pub lines3 : ℕ → List ℕ
-  lines3 i = set (lines2 i) 3 (at (f .compensations) i)
+  lines3 i = set (set (lines2 i) 3 (at (f .compensations) i)) 4 0
 
   abbrev pub lines4 : ℕ → List ℕ
-  lines4 i = set (set (lines3 i) 7 (at (f .paid) i)) 8 (at (f .closing) i)
+  lines4 i = set (set (lines3 i) 9 (at (f .penalties) i)) 10 0
 
   abbrev pub lines5 : ℕ → List ℕ
-  lines5 i = set (lines4 i) 9 (at (f .penalties) i)
+  lines5 i = set (set (lines4 i) 7 (at (f .paid) i)) 8 (at (f .closing) i)
 
   abbrev pub lines6 : ℕ → List ℕ
   lines6 i = set (lines5 i) 4 (at (f .cuts) i)
@@ -205,114 +222,148 @@ module _ (n : ℕ) (d : Duties) (within : Within n d) (need first : ℕ) (turn :
 
   -- ---- compensations and penalties
 
-  -- lines in which calls stand, and energies in the fields of a rule: the rule's figures are those of the columns
-  module _ (g : Pricing) (lines : ℕ → List ℕ) (full : (i : ℕ) → length (lines i) ≡ 11) (energies1 energies2 : List ℕ)
-      (called1-is : (i : ℕ) → at (lines i) 1 ≡ at (f .called1) i) (called2-is : (i : ℕ) → at (lines i) 2 ≡ at (f .called2) i)
-      (known1 : g .into < 11) (is1 : (i : ℕ) → at (lines i) (g .into) ≡ at energies1 i) (fits1 : (i : ℕ) → at energies1 i < 256 ^ at lineWidths (g .into))
-      (known2 : g .beside < 11) (is2 : (i : ℕ) → at (lines i) (g .beside) ≡ at energies2 i) (fits2 : (i : ℕ) → at energies2 i < 256 ^ at lineWidths (g .beside))
-    where
-      -- a cell is the figure that stands there
-      stands : (j : ℕ) → j < 11 → (x i : ℕ) → i < n → at (lines i) j ≡ x → x < 256 ^ at lineWidths j → cell (lineField j) (lined out n lines) i ≡ x
-      stands j known x i l e fits =
-          sheet-cell-of headSize letterL lineWidths out n lines j full known (omega arith) i l (rw e fits) ∙ e
+  -- lines in which calls stand, and energies in the fields of a rule: the rule's figures are those of the column xs
+  module _ (g : Pricing) (energies1 energies2 : List ℕ) (known1 : g .into < 11) (known2 : g .beside < 11)
+      (is1 : (i : ℕ) → at (lines2 i) (g .into) ≡ at energies1 i) (fits1 : (i : ℕ) → at energies1 i < 256 ^ at lineWidths (g .into))
+      (is2 : (i : ℕ) → at (lines2 i) (g .beside) ≡ at energies2 i) (fits2 : (i : ℕ) → at energies2 i < 256 ^ at lineWidths (g .beside))
+      (xs : List ℕ) (long-x : length xs ≡ n)
+      (made : (i : ℕ) → i < n
+      → at xs i ≡ g .rule (at (f .called1) i) (at (f .called2) i) (at energies1 i) (at energies2 i) (f .price1) (f .price2)) where
+    -- a cell is the figure that stands there
+    stands : (j : ℕ) → j < 11 → (x i : ℕ) → i < n → at (lines2 i) j ≡ x → x < 256 ^ at lineWidths j → cell (lineField j) (lined out n lines2) i ≡ x
+    stands j known x i l e fits =
+        sheet-cell-of headSize letterL lineWidths out n lines2 j (λ k. refl) known (omega arith) i l (rw e fits) ∙ e
 
-      priced-is : (i : ℕ) → i < n
-          → pricedAt g (f .price1) (f .price2) (lined out n lines) i
-          ≡ g .rule (at (f .called1) i) (at (f .called2) i) (at energies1 i) (at energies2 i) (f .price1) (f .price2)
-      priced-is i l =
-          let c1 = stands 1 (omega arith) (at (f .called1) i) i l (called1-is i) (omega (arith, sized .called1 i)) in
-          let c2 = stands 2 (omega arith) (at (f .called2) i) i l (called2-is i) (omega (arith, sized .called2 i)) in
-          let e1 = stands (g .into) known1 (at energies1 i) i l (is1 i) (fits1 i) in
-          let e2 = stands (g .beside) known2 (at energies2 i) i l (is2 i) (fits2 i) in
-          λ j. g .rule (c1 j) (c2 j) (e1 j) (e2 j) (f .price1) (f .price2)
+    priced-is : (i : ℕ) → i < n → pricedAt g (f .price1) (f .price2) (lined out n lines2) i ≡ at xs i
+    priced-is i l =
+        let c1 = stands 1 (omega arith) (at (f .called1) i) i l refl (omega (arith, sized .called1 i)) in
+        let c2 = stands 2 (omega arith) (at (f .called2) i) i l refl (omega (arith, sized .called2 i)) in
+        let e1 = stands (g .into) known1 (at energies1 i) i l (is1 i) (fits1 i) in
+        let e2 = stands (g .beside) known2 (at energies2 i) i l (is2 i) (fits2 i) in
+        (λ j. g .rule (c1 j) (c2 j) (e1 j) (e2 j) (f .price1) (f .price2)) ∙ sym (made i l)
 
-      -- xs being the column that the rule makes of them
-      module _ (xs : List ℕ) (long-x : length xs ≡ n)
-          (made : (i : ℕ) → i < n
-          → at xs i ≡ g .rule (at (f .called1) i) (at (f .called2) i) (at energies1 i) (at energies2 i) (f .price1) (f .price2)) where
-        figures-made : table n (pricedAt g (f .price1) (f .price2) (lined out n lines)) ≡ xs
-        figures-made =
-            table-same n (pricedAt g (f .price1) (f .price2) (lined out n lines)) (at xs) (λ i l. priced-is i l ∙ sym (made i l))
-            ∙ ap (λ (m : ℕ). table m (at xs)) (sym long-x) ∙ sym (table-list 0 xs)
+    priced-all : table n (pricedAt g (f .price1) (f .price2) (lined out n lines2)) ≡ xs
+    priced-all =
+        table-same n (pricedAt g (f .price1) (f .price2) (lined out n lines2)) (at xs) priced-is
+        ∙ ap (λ (m : ℕ). table m (at xs)) (sym long-x) ∙ sym (table-list 0 xs)
 
-        priced-stage : Lined (lineField (g .into)) n (lined out n lines) → ((i : ℕ) → at xs i ≤ 100000000)
-            → PricedStage g n (f .price1) (f .price2) out lines xs
-        priced-stage there small =
-            record {
-              asked = record {
-                few = within .few;
-                lined = there;
-                low1 = sized .price1;
-                low2 = sized .price2;
-                small = λ i l. rw (priced-is i l ∙ sym (made i l)) (small i);
-              };
-              leaves = λ t total now.
-                  now .bytes ∙ ap (λ (ys : List ℕ). withColumn (lineField (g .into)) ys (lined out n lines)) figures-made
-                  ∙ written n out room lines full (g .into) known1 xs long-x;
-              sums = λ t total now. now .total ∙ ap whole figures-made;
-            }
+  pay-made : (i : ℕ) → i < n
+      → at (f .compensations) i
+      ≡ compensation (at (f .called1) i) (at (f .called2) i) (at (d .energies1) i) (at (d .energies2) i) (f .price1) (f .price2)
+  pay-made i l = unfold figures compensationsOf in table-at 0 (length (d .widths1)) _ i (omega (arith, within .level .widths1))
 
-  pub paid : PricedStage paying n (f .price1) (f .price2) out lines2 (f .compensations)
-  paid =
-      priced-stage paying lines2 (λ i. refl) (d .energies1) (d .energies2) (λ i. refl) (λ i. refl)
-      (omega arith) (λ i. refl) (λ i. omega (arith, within .delivered i)) (omega arith) (λ i. refl) (λ i. omega (arith, within .delivered i))
-      (f .compensations) (long .compensations) made
-      (ruled n out room lines2 (λ i. refl) 3 (omega arith) (omega arith) .lined) (λ i. omega (arith, sized .compensations i))
-    where
-      made : (i : ℕ) → i < n
-          → at (f .compensations) i
-          ≡ compensation (at (f .called1) i) (at (f .called2) i) (at (d .energies1) i) (at (d .energies2) i) (f .price1) (f .price2)
-      made i l = unfold figures compensationsOf in table-at 0 (length (d .widths1)) _ i (omega (arith, within .level .widths1))
+  owed-made : (i : ℕ) → i < n
+      → at (f .penalties) i ≡ penalty (at (f .called1) i) (at (f .called2) i) (at (d .credits1) i) (at (d .credits2) i) (f .price1) (f .price2)
+  owed-made i l = unfold figures penaltiesOf in table-at 0 (length (d .widths1)) _ i (omega (arith, within .level .widths1))
+
+  pay-is : (i : ℕ) → i < n → pricedAt paying (f .price1) (f .price2) (lined out n lines2) i ≡ at (f .compensations) i
+  pay-is =
+      priced-is paying (d .energies1) (d .energies2) (omega arith) (omega arith) (λ i. refl) (λ i. omega (arith, within .delivered i)) (λ i. refl)
+      (λ i. omega (arith, within .delivered i)) (f .compensations) (long .compensations) pay-made
+
+  owed-is : (i : ℕ) → i < n → pricedAt owing (f .price1) (f .price2) (lined out n lines2) i ≡ at (f .penalties) i
+  owed-is =
+      priced-is owing (d .credits1) (d .credits2) (omega arith) (omega arith) (λ i. refl) (λ i. omega (arith, within .credited1 i)) (λ i. refl)
+      (λ i. omega (arith, within .credited2 i)) (f .penalties) (long .penalties) owed-made
+
+  pub account-asked : Accountable n (f .price1) (f .price2) (lined out n lines2)
+  account-asked =
+      record {
+        few = within .few;
+        pay-lined = beside-lined n out room lines2 (λ i. refl) line.pay refl refl (omega arith);
+        owed-lined = beside-lined n out room lines2 (λ i. refl) line.owed refl refl (omega arith);
+        low1 = sized .price1;
+        low2 = sized .price2;
+        pay-small = λ i l. omega (arith, pay-is i l, sized .compensations i);
+        owed-small = λ i l. omega (arith, owed-is i l, sized .penalties i);
+      }
 
   pub paid-total : whole (f .compensations) ≡ f .total
   unfolding figures
   paid-total = refl
 
+  module _ (t : List ℕ) (r : Accounts) (now : Accounted n (f .price1) (f .price2) (lined out n lines2) t r) where
+    pays : table n (pricedAt paying (f .price1) (f .price2) (lined out n lines2)) ≡ f .compensations
+    pays =
+        priced-all paying (d .energies1) (d .energies2) (omega arith) (omega arith) (λ i. refl) (λ i. omega (arith, within .delivered i)) (λ i. refl)
+        (λ i. omega (arith, within .delivered i)) (f .compensations) (long .compensations) pay-made
+
+    owes : table n (pricedAt owing (f .price1) (f .price2) (lined out n lines2)) ≡ f .penalties
+    owes =
+        priced-all owing (d .credits1) (d .credits2) (omega arith) (omega arith) (λ i. refl) (λ i. omega (arith, within .credited1 i)) (λ i. refl)
+        (λ i. omega (arith, within .credited2 i)) (f .penalties) (long .penalties) owed-made
+
+    -- both columns in their fields, with 0 behind them
+    pay-put : withColumn line.pay (f .compensations) (lined out n lines2) ≡ lined out n lines3
+    pay-put =
+        written-beside n out room lines2 (λ i. refl) line.pay 3 (omega arith) (f .compensations) (long .compensations)
+        (side-by-side headSize lineSize 12 (f .compensations) (replicate n 0) (lined out n lines2)
+        (rw (long .compensations) (beside-lined n out room lines2 (λ i. refl) line.pay refl refl (omega arith)))
+        (length-replicate n 0 ∙ sym (long .compensations)) (λ i. omega (arith, sized .compensations i)) (zeros-at n))
+
+    owed-put : withColumn line.owed (f .penalties) (lined out n lines3) ≡ lined out n lines4
+    owed-put =
+        written-beside n out room lines3 (λ i. refl) line.owed 9 (omega arith) (f .penalties) (long .penalties)
+        (side-by-side headSize lineSize 34 (f .penalties) (replicate n 0) (lined out n lines3)
+        (rw (long .penalties) (beside-lined n out room lines3 (λ i. refl) line.owed refl refl (omega arith)))
+        (length-replicate n 0 ∙ sym (long .penalties)) (λ i. omega (arith, sized .penalties i)) (zeros-at n))
+
+    pub account-lines : t ≡ lined out n lines4
+    account-lines =
+        now .bytes ∙ (λ j. withColumn line.owed (owes j) (withColumn line.pay (pays j) (lined out n lines2)))
+        ∙ ap (withColumn line.owed (f .penalties)) pay-put ∙ owed-put
+
+    pub account-total : r .total .0 ≡ f .total
+    account-total = now .total ∙ ap whole pays ∙ paid-total
+
+    pub account-penalties : r .penalties .0 ≡ whole (f .penalties)
+    account-penalties = now .penalties ∙ ap whole owes
+
   -- ---- rounds and payments
 
-  weights-read : columnOf line.weight n (lined out n lines3) ≡ d .weights
+  weights-read : columnOf line.weight n (lined out n lines4) ≡ d .weights
   weights-read =
-      read n out room lines3 (λ i. refl) 5 (omega arith) (d .weights) (within .level .weights) (λ i. refl) (λ i. omega (arith, within .light i))
+      read n out room lines4 (λ i. refl) 5 (omega arith) (d .weights) (within .level .weights) (λ i. refl) (λ i. omega (arith, within .light i))
 
-  caps-read : columnOf line.cap n (lined out n lines3) ≡ d .caps
+  caps-read : columnOf line.cap n (lined out n lines4) ≡ d .caps
   caps-read =
-      read n out room lines3 (λ i. refl) 6 (omega arith) (d .caps) (within .level .caps) (λ i. refl) (λ i. omega (arith, within .covered i))
+      read n out room lines4 (λ i. refl) 6 (omega arith) (d .caps) (within .level .caps) (λ i. refl) (λ i. omega (arith, within .covered i))
 
-  pub levied-asked : Leviable n first (f .total) (lined out n lines3)
+  pub levied-asked : Leviable n first (f .total) (lined out n lines4)
   levied-asked =
       record {
         few = within .few;
         turn = turn;
-        weights = ruled n out room lines3 (λ i. refl) 5 (omega arith) (omega arith);
-        caps = ruled n out room lines3 (λ i. refl) 6 (omega arith) (omega arith);
-        paid = ruled n out room lines3 (λ i. refl) 7 (omega arith) (omega arith);
-        closing = ruled n out room lines3 (λ i. refl) 8 (omega arith) (omega arith);
+        weights = ruled n out room lines4 (λ i. refl) 5 (omega arith) (omega arith);
+        caps = ruled n out room lines4 (λ i. refl) 6 (omega arith) (omega arith);
+        paid = ruled n out room lines4 (λ i. refl) 7 (omega arith) (omega arith);
+        closing = ruled n out room lines4 (λ i. refl) 8 (omega arith) (omega arith);
         rich = sized .total;
         light = λ i. rw weights-read (within .light i);
         low = λ i. rw caps-read (within .covered i);
       }
 
-  module _ (t : List ℕ) (r : Rest) (now : Levied n first (f .total) (lined out n lines3) t r) where
-    ends : standingIn (f .total) n (lined out n lines3) ≡ final (f .total) (d .weights) (d .caps)
+  module _ (t : List ℕ) (r : Rest) (now : Levied n first (f .total) (lined out n lines4) t r) where
+    ends : standingIn (f .total) n (lined out n lines4) ≡ final (f .total) (d .weights) (d .caps)
     ends =
-        ap (λ (ws : List ℕ). final (f .total) ws (columnOf line.cap n (lined out n lines3))) weights-read
+        ap (λ (ws : List ℕ). final (f .total) ws (columnOf line.cap n (lined out n lines4))) weights-read
         ∙ ap (final (f .total) (d .weights)) caps-read
 
-    closings : standingIn (f .total) n (lined out n lines3) .marks ≡ f .closing
+    closings : standingIn (f .total) n (lined out n lines4) .marks ≡ f .closing
     unfolding figures levied
     closings = ap (λ (st : Standing). st .marks) ends
 
-    payings : payments (columnOf line.weight n (lined out n lines3)) (columnOf line.cap n (lined out n lines3)) (standingIn (f .total) n (lined out n lines3)) first
+    payings : payments (columnOf line.weight n (lined out n lines4)) (columnOf line.cap n (lined out n lines4)) (standingIn (f .total) n (lined out n lines4)) first
         ≡ f .paid
     unfolding figures levied
     payings = λ j. payments (weights-read j) (caps-read j) (ends j) first
 
-    pub levied-lines : t ≡ lined out n lines4
+    pub levied-lines : t ≡ lined out n lines5
     levied-lines =
         now .bytes
-        ∙ (λ j. withColumn line.closing (closings j) (withColumn line.paid (payings j) (lined out n lines3)))
-        ∙ ap (withColumn line.closing (f .closing)) (written n out room lines3 (λ i. refl) 7 (omega arith) (f .paid) (long .paid))
-        ∙ written n out room (λ i. set (lines3 i) 7 (at (f .paid) i)) (λ i. refl) 8 (omega arith) (f .closing) (long .closing)
+        ∙ (λ j. withColumn line.closing (closings j) (withColumn line.paid (payings j) (lined out n lines4)))
+        ∙ ap (withColumn line.closing (f .closing)) (written n out room lines4 (λ i. refl) 7 (omega arith) (f .paid) (long .paid))
+        ∙ written n out room (λ i. set (lines4 i) 7 (at (f .paid) i)) (λ i. refl) 8 (omega arith) (f .closing) (long .closing)
 
     pub levied-rounds : r .rounds ≡ f .rounds
     unfolding figures levied
@@ -327,19 +378,6 @@ module _ (n : ℕ) (d : Duties) (within : Within n d) (need first : ℕ) (turn :
     unfolding figures levied shortfall
     levied-short x marks e =
         e ∙ rw (now .money ∙ ap (λ (st : Standing). st .money) ends, now .weight ∙ ap (λ (st : Standing). st .weight) ends)
-
-  -- ---- penalties
-
-  pub owed : PricedStage owing n (f .price1) (f .price2) out lines4 (f .penalties)
-  owed =
-      priced-stage owing lines4 (λ i. refl) (d .credits1) (d .credits2) (λ i. refl) (λ i. refl)
-      (omega arith) (λ i. refl) (λ i. omega (arith, within .credited1 i)) (omega arith) (λ i. refl) (λ i. omega (arith, within .credited2 i))
-      (f .penalties) (long .penalties) made
-      (ruled n out room lines4 (λ i. refl) 9 (omega arith) (omega arith) .lined) (sized .penalties)
-    where
-      made : (i : ℕ) → i < n
-          → at (f .penalties) i ≡ penalty (at (f .called1) i) (at (f .called2) i) (at (d .credits1) i) (at (d .credits2) i) (f .price1) (f .price2)
-      made i l = unfold figures penaltiesOf in table-at 0 (length (d .widths1)) _ i (omega (arith, within .level .widths1))
 
   -- ---- cuts and what is returned
 
@@ -357,6 +395,17 @@ module _ (n : ℕ) (d : Duties) (within : Within n d) (need first : ℕ) (turn :
   pays-read =
       read n out room lines5 (λ i. refl) 3 (omega arith) (f .compensations) (long .compensations) (λ i. refl) (λ i. omega (arith, sized .compensations i))
 
+  -- of nothing every share is 0
+  none-shared : (ps : List ℕ) (amount i : ℕ) → amount ≡ 0 → i < length ps → at (shares amount ps first) i ≡ 0
+  unfolding shares
+  none-shared ps amount i e l = omega (arith, table-at 0 (length ps) (share amount ps first) i l, share-le-amount amount ps first i)
+
+  cut-lines : sharedOut n first (cutting left) (lined out n lines5) ≡ lined out n lines6
+  unfolding figures cuts levied
+  cut-lines =
+      ap (λ (ps : List ℕ). withColumn line.cut (shares short ps first) (lined out n lines5)) pays-read
+      ∙ written n out room lines5 (λ i. refl) 4 (omega arith) (f .cuts) (long .cuts)
+
   cut-asked : Shareable n first (cutting left) (lined out n lines5)
   cut-asked =
       record {
@@ -365,17 +414,22 @@ module _ (n : ℕ) (d : Duties) (within : Within n d) (need first : ℕ) (turn :
         sums = ruled n out room lines5 (λ i. refl) 3 (omega arith) (omega arith);
         parts = ruled n out room lines5 (λ i. refl) 4 (omega arith) (omega arith);
         covered = rw pays-read (omega (arith, paid-total, sized .shortfall));
+        idle =
+            λ e. sheet-same headSize letterL lineWidths out n lines5 lines6 (λ i l. ap (set (lines5 i) 4) (sym (none e i l))) ∙ sym cut-lines;
       }
-
-  cut-lines : sharedOut n first (cutting left) (lined out n lines5) ≡ lined out n lines6
-  unfolding figures cuts levied
-  cut-lines =
-      ap (λ (ps : List ℕ). withColumn line.cut (shares short ps first) (lined out n lines5)) pays-read
-      ∙ written n out room lines5 (λ i. refl) 4 (omega arith) (f .cuts) (long .cuts)
+    where
+      none : short ≡ 0 → (i : ℕ) → i < n → at (f .cuts) i ≡ 0
+      none e i l = unfold figures cuts levied in none-shared (f .compensations) short i e (omega (arith, long .compensations))
 
   owed-read : columnOf line.penalty n (lined out n lines6) ≡ f .penalties
   owed-read =
       read n out room lines6 (λ i. refl) 9 (omega arith) (f .penalties) (long .penalties) (λ i. refl) (λ i. omega (arith, sized .penalties i))
+
+  return-lines : sharedOut n first (returning left) (lined out n lines6) ≡ lined out n lines7
+  unfolding figures returned levied
+  return-lines =
+      ap (λ (ps : List ℕ). withColumn line.returned (shares over ps first) (lined out n lines6)) owed-read
+      ∙ written n out room lines6 (λ i. refl) 10 (omega arith) (f .returned) (long .returned)
 
   return-asked : Shareable n first (returning left) (lined out n lines6)
   return-asked =
@@ -385,13 +439,12 @@ module _ (n : ℕ) (d : Duties) (within : Within n d) (need first : ℕ) (turn :
         sums = ruled n out room lines6 (λ i. refl) 9 (omega arith) (omega arith);
         parts = ruled n out room lines6 (λ i. refl) 10 (omega arith) (omega arith);
         covered = rw owed-read (omega arith);
+        idle =
+            λ e. sheet-same headSize letterL lineWidths out n lines6 lines7 (λ i l. ap (set (lines6 i) 10) (sym (none e i l))) ∙ sym return-lines;
       }
-
-  return-lines : sharedOut n first (returning left) (lined out n lines6) ≡ lined out n lines7
-  unfolding figures returned levied
-  return-lines =
-      ap (λ (ps : List ℕ). withColumn line.returned (shares over ps first) (lined out n lines6)) owed-read
-      ∙ written n out room lines6 (λ i. refl) 10 (omega arith) (f .returned) (long .returned)
+    where
+      none : over ≡ 0 → (i : ℕ) → i < n → at (f .returned) i ≡ 0
+      none e i l = unfold figures returned levied in none-shared (f .penalties) over i e (omega (arith, long .penalties))
 
   -- both
   pub divide-asked : Divisible n first left (lined out n lines5)

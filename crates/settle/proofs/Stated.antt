@@ -2,7 +2,7 @@
 -- buffer holds the statement. Each lemma takes what the stages before it left.
 --   read-lines                      the first stage's lines are those of the columns of duties
 --   asked-trade                     both tiers
---   asked-pay, asked-levy, asked-owe, asked-divide    compensations, rounds and payments, penalties, cuts and what is returned
+--   asked-account, asked-levy, asked-divide    compensations and penalties, rounds and payments, cuts and what is returned
 --   head-room, stated               the head may be put, and then the buffer holds the statement
 use Prim.Native.Nat.{ℕ, _-_, _≤_, _<_}
 use mathlib.Core.Path.{_≡_, refl, sym, ap, _∙_}
@@ -35,7 +35,8 @@ use Rattle.settle.specs.Settlement.{firstTurn, Figures, figures}
 use Rattle.settle.specs.Statement.{statementHead, lineOf, statementBytes}
 use Rattle.settle.specs.Answer.{dutiesIn, figuresOf, statementOf}
 use Rattle.settle.specs.Within.{Turn, Within}
-use Rattle.settle.specs.Work.{lined, rowLine, tierOne, tierTwo, Offered, Called, Tradable, Traded, paying, owing, Priceable, Priced, Leviable, Levied, dividedTo, Divisible}
+use Rattle.settle.specs.Work.{lined, rowLine, tierOne, tierTwo, Offered, Called, Tradable, Traded, Accountable, Accounted, Leviable, Levied, dividedTo, Divisible}
+use Rattle.settle.specs.declared.market.Accounts.{Accounts}
 use Rattle.settle.specs.declared.market.Cleared.{Cleared}
 use Rattle.settle.specs.declared.market.Market.{Market}
 use Rattle.settle.proofs.Accepted.{duties-within}
@@ -136,70 +137,56 @@ module _ (s k : List ℕ) (n : ℕ) (ok : verdictOf s k ≡ Accepted n) (out : L
         left-2 : c2 .left .0 ≡ f .uncovered
         left-2 = stage.called2-left n d within need first turn id out room (c1 .left .0) left-1 t2 c2 called-2
 
-        pay-asked : Priceable paying n (c1 .price .0) (c2 .price .0) t2
-        pay-asked = rw (lines-2, price-1, price-2) (stage.paid n d within need first turn id out room .asked)
+        account-asked : Accountable n (c1 .price .0) (c2 .price .0) t2
+        account-asked = rw (lines-2, price-1, price-2) (stage.account-asked n d within need first turn id out room)
 
-        module _ (t3 : List ℕ) (total : Fen) (three : Priced paying n (c1 .price .0) (c2 .price .0) t2 t3 (total .0)) where
+        module _ (t3 : List ℕ) (a : Accounts) (three : Accounted n (c1 .price .0) (c2 .price .0) t2 t3 a) where
           abbrev L2 : ℕ → List ℕ
           L2 = stage.lines2 n d within need first turn id out room
 
-          paid-3 : Priced paying n (f .price1) (f .price2) (lined out n L2) t3 (total .0)
-          paid-3 = rw (lines-2, price-1, price-2) at three
+          accounted-3 : Accounted n (f .price1) (f .price2) (lined out n L2) t3 a
+          accounted-3 = rw (lines-2, price-1, price-2) at three
 
-          lines-3 : t3 ≡ lined out n (stage.lines3 n d within need first turn id out room)
-          lines-3 = stage.paid n d within need first turn id out room .leaves t3 (total .0) paid-3
+          abbrev L4 : ℕ → List ℕ
+          L4 = stage.lines4 n d within need first turn id out room
 
-          total-3 : total .0 ≡ f .total
-          total-3 =
-              stage.paid n d within need first turn id out room .sums t3 (total .0) paid-3 ∙ stage.paid-total n d within need first turn id out room
+          lines-4 : t3 ≡ lined out n L4
+          lines-4 = stage.account-lines n d within need first turn id out room t3 a accounted-3
 
-          levy-asked : Leviable n first (total .0) t3
-          levy-asked = rw (lines-3, total-3) (stage.levied-asked n d within need first turn id out room)
+          total-3 : a .total .0 ≡ f .total
+          total-3 = stage.account-total n d within need first turn id out room t3 a accounted-3
 
-          module _ (t4 : List ℕ) (r : Rest) (four : Levied n first (total .0) t3 t4 r) (x : Fen) (short : Short r (x .0)) where
-            abbrev L3 : ℕ → List ℕ
-            L3 = stage.lines3 n d within need first turn id out room
+          penalties-3 : a .penalties .0 ≡ whole (f .penalties)
+          penalties-3 = stage.account-penalties n d within need first turn id out room t3 a accounted-3
 
-            levied-4 : Levied n first (f .total) (lined out n L3) t4 r
-            levied-4 = rw (lines-3, total-3) at four
+          levy-asked : Leviable n first (a .total .0) t3
+          levy-asked = rw (lines-4, total-3) (stage.levied-asked n d within need first turn id out room)
 
-            abbrev L4 : ℕ → List ℕ
-            L4 = stage.lines4 n d within need first turn id out room
+          module _ (t5 : List ℕ) (r : Rest) (five : Levied n first (a .total .0) t3 t5 r) (x : Fen) (short : Short r (x .0)) where
+            levied-5 : Levied n first (f .total) (lined out n L4) t5 r
+            levied-5 = rw (lines-4, total-3) at five
 
-            lines-4 : t4 ≡ lined out n L4
-            lines-4 = stage.levied-lines n d within need first turn id out room t4 r levied-4
+            abbrev L5 : ℕ → List ℕ
+            L5 = stage.lines5 n d within need first turn id out room
 
-            rounds-4 : r .rounds ≡ f .rounds
-            rounds-4 = stage.levied-rounds n d within need first turn id out room t4 r levied-4
+            lines-5 : t5 ≡ lined out n L5
+            lines-5 = stage.levied-lines n d within need first turn id out room t5 r levied-5
 
-            visits-4 : r .visits ≡ f .visits
-            visits-4 = stage.levied-visits n d within need first turn id out room t4 r levied-4
+            rounds-5 : r .rounds ≡ f .rounds
+            rounds-5 = stage.levied-rounds n d within need first turn id out room t5 r levied-5
 
-            short-4 : x .0 ≡ f .shortfall
-            short-4 = stage.levied-short n d within need first turn id out room t4 r levied-4 (x .0) [] (short 0 [])
+            visits-5 : r .visits ≡ f .visits
+            visits-5 = stage.levied-visits n d within need first turn id out room t5 r levied-5
 
-            owe-asked : Priceable owing n (c1 .price .0) (c2 .price .0) t4
-            owe-asked = rw (lines-4, price-1, price-2) (stage.owed n d within need first turn id out room .asked)
+            short-5 : x .0 ≡ f .shortfall
+            short-5 = stage.levied-short n d within need first turn id out room t5 r levied-5 (x .0) [] (short 0 [])
 
-            module _ (t5 : List ℕ) (penalties : Fen) (five : Priced owing n (c1 .price .0) (c2 .price .0) t4 t5 (penalties .0)) (left : Left)
-                (covered : Covered (penalties .0) (x .0) left) where
-              owed-5 : Priced owing n (f .price1) (f .price2) (lined out n L4) t5 (penalties .0)
-              owed-5 = rw (lines-4, price-1, price-2) at five
-
-              abbrev L5 : ℕ → List ℕ
-              L5 = stage.lines5 n d within need first turn id out room
-
-              lines-5 : t5 ≡ lined out n L5
-              lines-5 = stage.owed n d within need first turn id out room .leaves t5 (penalties .0) owed-5
-
-              penalties-5 : penalties .0 ≡ whole (f .penalties)
-              penalties-5 = stage.owed n d within need first turn id out room .sums t5 (penalties .0) owed-5
-
+            module _ (left : Left) (covered : Covered (a .penalties .0) (x .0) left) where
               left-5 : left ≡ stage.left n d within need first turn id out room
               left-5 =
                   λ j. record {
-                    cut = record { 0 = (covered .cut ∙ (λ i. toCut (penalties-5 i) (short-4 i))) j };
-                    returned = record { 0 = (covered .returned ∙ (λ i. toReturn (penalties-5 i) (short-4 i))) j };
+                    cut = record { 0 = (covered .cut ∙ (λ i. toCut (penalties-3 i) (short-5 i))) j };
+                    returned = record { 0 = (covered .returned ∙ (λ i. toReturn (penalties-3 i) (short-5 i))) j };
                   }
 
               divide-asked : Divisible n first left t5
@@ -224,7 +211,7 @@ module _ (s k : List ℕ) (n : ℕ) (ok : verdictOf s k ≡ Accepted n) (out : L
                       quarter = h .quarter;
                       price1 = c1 .price;
                       price2 = c2 .price;
-                      total = total;
+                      total = a .total;
                       shortfall = x;
                       rounds = r .rounds;
                       uncovered = c2 .left;
@@ -245,11 +232,11 @@ module _ (s k : List ℕ) (n : ℕ) (ok : verdictOf s k ≡ Accepted n) (out : L
                       price1 = record { 0 = price-1 j };
                       price2 = record { 0 = price-2 j };
                       total = record { 0 = total-3 j };
-                      shortfall = record { 0 = short-4 j };
-                      rounds = rounds-4 j;
+                      shortfall = record { 0 = short-5 j };
+                      rounds = rounds-5 j;
                       uncovered = record { 0 = left-2 j };
                       rows = n;
-                      visits = visits-4 j;
+                      visits = visits-5 j;
                     })))
                     ∙ ap (λ (m : ℕ). put (sheet m letterL lineWidths out n lines) 0 top) (sym (head-length (statementHead (headAt s) n f)))
                     ∙ sheet-head top letterL lineWidths out n lines (omega (arith, room, head-length (statementHead (headAt s) n f)))
@@ -264,54 +251,44 @@ module _ (s k : List ℕ) (n : ℕ) (ok : verdictOf s k ≡ Accepted n) (out : L
       abbrev t1 : List ℕ
       t1 = traded .between
 
-      pub asked-pay : Priceable paying n (m .price1 .0) (m .price2 .0) t2
-      asked-pay =
-          rw (traded .price1, traded .price2) (pay-asked t1 (traded .one) (traded .called1) t2 (traded .two) (traded .called2))
+      pub asked-account : Accountable n (m .price1 .0) (m .price2 .0) t2
+      asked-account =
+          rw (traded .price1, traded .price2) (account-asked t1 (traded .one) (traded .called1) t2 (traded .two) (traded .called2))
 
-      module _ (t3 : List ℕ) (total : Fen) (three : Priced paying n (m .price1 .0) (m .price2 .0) t2 t3 (total .0)) where
-        paid : Priced paying n (traded .one .price .0) (traded .two .price .0) t2 t3 (total .0)
-        paid = rw (traded .price1, traded .price2) at three
+      module _ (t3 : List ℕ) (a : Accounts) (three : Accounted n (m .price1 .0) (m .price2 .0) t2 t3 a) where
+        accounted : Accounted n (traded .one .price .0) (traded .two .price .0) t2 t3 a
+        accounted = rw (traded .price1, traded .price2) at three
 
-        pub asked-levy : Leviable n first (total .0) t3
-        asked-levy = levy-asked t1 (traded .one) (traded .called1) t2 (traded .two) (traded .called2) t3 total paid
+        pub asked-levy : Leviable n first (a .total .0) t3
+        asked-levy = levy-asked t1 (traded .one) (traded .called1) t2 (traded .two) (traded .called2) t3 a accounted
 
-        module _ (t4 : List ℕ) (r : Rest) (four : Levied n first (total .0) t3 t4 r) (x : Fen) (short : Short r (x .0)) where
-          pub asked-owe : Priceable owing n (m .price1 .0) (m .price2 .0) t4
-          asked-owe =
-              rw (traded .price1, traded .price2)
-              (owe-asked t1 (traded .one) (traded .called1) t2 (traded .two) (traded .called2) t3 total paid t4 r four x short)
+        module _ (t5 : List ℕ) (r : Rest) (five : Levied n first (a .total .0) t3 t5 r) (x : Fen) (short : Short r (x .0)) (left : Left)
+            (covered : Covered (a .penalties .0) (x .0) left) where
+          pub asked-divide : Divisible n first left t5
+          asked-divide =
+              divide-asked t1 (traded .one) (traded .called1) t2 (traded .two) (traded .called2) t3 a accounted t5 r five x short left covered
 
-          module _ (t5 : List ℕ) (penalties : Fen) (five : Priced owing n (m .price1 .0) (m .price2 .0) t4 t5 (penalties .0)) (left : Left)
-              (covered : Covered (penalties .0) (x .0) left) where
-            owed : Priced owing n (traded .one .price .0) (traded .two .price .0) t4 t5 (penalties .0)
-            owed = rw (traded .price1, traded .price2) at five
+          module _ (t6 : List ℕ) (six : t6 ≡ dividedTo 2 n first left t5) where
+            pub head-room : headSize ≤ length t6
+            head-room =
+                room-head t1 (traded .one) (traded .called1) t2 (traded .two) (traded .called2) t3 a accounted t5 r five x short left covered t6 six
 
-            pub asked-divide : Divisible n first left t5
-            asked-divide =
-                divide-asked t1 (traded .one) (traded .called1) t2 (traded .two) (traded .called2) t3 total paid t4 r four x short t5 penalties owed left covered
-
-            module _ (t6 : List ℕ) (six : t6 ≡ dividedTo 2 n first left t5) where
-              pub head-room : headSize ≤ length t6
-              head-room =
-                  room-head t1 (traded .one) (traded .called1) t2 (traded .two) (traded .called2) t3 total paid t4 r four x short t5 penalties owed left covered t6
-                  six
-
-              pub stated : (t7 : List ℕ)
-                  → t7 ≡ put t6 0
-                  (statementHeadBytes
-                  (record {
-                    day = h .day;
-                    quarter = h .quarter;
-                    price1 = m .price1;
-                    price2 = m .price2;
-                    total = total;
-                    shortfall = x;
-                    rounds = r .rounds;
-                    uncovered = m .uncovered;
-                    rows = n;
-                    visits = r .visits;
-                  }))
-                  → t7 ≡ put out 0 (statementOf s k)
-              stated t7 seven =
-                  all-stated t1 (traded .one) (traded .called1) t2 (traded .two) (traded .called2) t3 total paid t4 r four x short t5 penalties owed left covered t6
-                  six t7 (rw (traded .price1, traded .price2, traded .uncovered) at seven)
+            pub stated : (t7 : List ℕ)
+                → t7 ≡ put t6 0
+                (statementHeadBytes
+                (record {
+                  day = h .day;
+                  quarter = h .quarter;
+                  price1 = m .price1;
+                  price2 = m .price2;
+                  total = a .total;
+                  shortfall = x;
+                  rounds = r .rounds;
+                  uncovered = m .uncovered;
+                  rows = n;
+                  visits = r .visits;
+                }))
+                → t7 ≡ put out 0 (statementOf s k)
+            stated t7 seven =
+                all-stated t1 (traded .one) (traded .called1) t2 (traded .two) (traded .called2) t3 a accounted t5 r five x short left covered t6 six t7
+                (rw (traded .price1, traded .price2, traded .uncovered) at seven)

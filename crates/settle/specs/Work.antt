@@ -25,6 +25,7 @@ use Rattle.share.specs.Share.{shares}
 use Rattle.statement.specs.Statement.{letterL, lineWidths, headSize}
 use Rattle.statement.specs.Line as line
 use Rattle.settle.specs.Within.{Turn}
+use Rattle.settle.specs.declared.market.Accounts.{Accounts}
 use Rattle.settle.specs.declared.market.Cleared.{Cleared}
 use Rattle.settle.specs.declared.market.Market.{Market}
 use Rattle.settle.specs.declared.market.TierFields.{TierFields}
@@ -124,7 +125,7 @@ Rule = ℕ → ℕ → ℕ → ℕ → ℕ → ℕ → ℕ
 abbrev pub lineField : ℕ → Field
 lineField j = fieldOf headSize lineWidths j
 
--- a rule, the field in which the energies of tier 1 stand and into which its figures go, and that of the energies of tier 2
+-- a rule, the field in which the energies of tier 1 stand and into which its figures go, and that of the energies of tier 2, behind it
 pub record Pricing : Type 0 where
   pub rule : Rule
   pub into : ℕ
@@ -144,17 +145,20 @@ pricedAt g p1 p2 s i =
     g .rule (cell line.called1 s i) (cell line.called2 s i) (cell (lineField (g .into)) s i) (cell (lineField (g .beside)) s i) p1 p2
 
 -- calls and energies stand in their fields; prices are low, and so is every figure
-pub record Priceable (g : Pricing) (n p1 p2 : ℕ) (s : List ℕ) : Type 0 where
+pub record Accountable (n p1 p2 : ℕ) (s : List ℕ) : Type 0 where
   pub few : n ≤ 256
-  pub lined : Lined (lineField (g .into)) n s
+  pub pay-lined : Lined line.pay n s
+  pub owed-lined : Lined line.owed n s
   pub low1 : p1 ≤ 1000
   pub low2 : p2 ≤ 1000
-  pub small : (i : ℕ) → i < n → pricedAt g p1 p2 s i ≤ 100000000
+  pub pay-small : (i : ℕ) → i < n → pricedAt paying p1 p2 s i ≤ 100000000
+  pub owed-small : (i : ℕ) → i < n → pricedAt owing p1 p2 s i ≤ 100000000
 
--- every row has its figure, and their sum is known
-pub record Priced (g : Pricing) (n p1 p2 : ℕ) (s t : List ℕ) (r : ℕ) : Type 0 where
-  pub bytes : t ≡ withColumn (lineField (g .into)) (table n (pricedAt g p1 p2 s)) s
-  pub total : r ≡ whole (table n (pricedAt g p1 p2 s))
+-- every row has both figures, and their sums are known
+pub record Accounted (n p1 p2 : ℕ) (s t : List ℕ) (r : Accounts) : Type 0 where
+  pub bytes : t ≡ withColumn line.owed (table n (pricedAt owing p1 p2 s)) (withColumn line.pay (table n (pricedAt paying p1 p2 s)) s)
+  pub total : r .total .0 ≡ whole (table n (pricedAt paying p1 p2 s))
+  pub penalties : r .penalties .0 ≡ whole (table n (pricedAt owing p1 p2 s))
 
 -- weights and caps stand in their fields
 pub record Leviable (n first total : ℕ) (s : List ℕ) : Type 0 where
@@ -199,22 +203,18 @@ returning left = record { amount = left .returned; from = line.penalty; to = lin
 abbrev pub sharingOf : Left → ℕ → Sharing
 sharingOf left k = cond (eqb k 0) (cutting left) (returning left)
 
--- sums stand in a field, and no more is shared over them than they come to
+-- an amount shared over the sums of a field, with the shares in another
+abbrev pub sharedOut : ℕ → ℕ → Sharing → List ℕ → List ℕ
+sharedOut n first what s = withColumn (what .to) (shares (what .amount .0) (columnOf (what .from) n s) first) s
+
+-- sums stand in a field, and no more is shared over them than they come to; where there is nothing to share, it is as if it had been
 pub record Shareable (n first : ℕ) (what : Sharing) (s : List ℕ) : Type 0 where
   pub few : n ≤ 256
   pub turn : Turn n first
   pub sums : Ruled n (what .from) s
   pub parts : Ruled n (what .to) s
   pub covered : what .amount .0 ≤ whole (columnOf (what .from) n s)
-
--- two columns of one length to work in, the second of them blank
-pub record LentParts (sums parts : List ℕ) : Type 0 where
-  pub long : length parts ≡ length sums
-  pub blank : (i : ℕ) → at parts i ≡ 0
-
--- the shares stand in theirs
-abbrev pub sharedOut : ℕ → ℕ → Sharing → List ℕ → List ℕ
-sharedOut n first what s = withColumn (what .to) (shares (what .amount .0) (columnOf (what .from) n s) first) s
+  pub idle : what .amount .0 ≡ 0 → s ≡ sharedOut n first what s
 
 -- the first so many of the two sharings are made
 unfoldable pub dividedTo : ℕ → ℕ → ℕ → Left → List ℕ → List ℕ

@@ -12,7 +12,9 @@ use statement::CALLED2;
 use statement::CLOSING;
 use statement::COMPENSATION;
 use statement::CUT;
+use statement::OWED;
 use statement::PAID;
+use statement::PAY;
 use statement::PENALTY;
 use statement::RETURNED;
 use units::Fen;
@@ -25,7 +27,7 @@ ghost use Rattle.records.specs.Sheet.{cellAt, cell, columnOf};
 ghost use Rattle.statement.specs.Statement.{lineStart};
 ghost use Rattle.merit.specs.Price.{price};
 ghost use Rattle.merit.specs.Ready.{OneLength};
-ghost use Rattle.settle.specs.Work.{Ruled, Offered, Lent, ClearedIn, Called, fieldsOf, Tradable, Traded, paying, owing, pricedAt, Priceable, Priced};
+ghost use Rattle.settle.specs.Work.{Ruled, Offered, Lent, ClearedIn, Called, fieldsOf, Tradable, Traded, paying, owing, pricedAt, Accountable, Accounted};
 
 // What a tier comes to: the need that it leaves, and its clearing price.
 pub struct Cleared {
@@ -182,22 +184,6 @@ fn pay_at(sheet: &[u8], i: usize, price1: Li, price2: Li) -> Fen
     compensation(call1, call2, energy1, energy2, price1, price2)
 }
 
-// What each row is paid, in the place of the energy that it delivered in tier 1; answers the total.
-pub fn compensate(n: usize, price1: Li, price2: Li, sheet: &mut [u8]) -> Fen
-    requires { ⌜ Priceable paying n (price1 .0) (price2 .0) (now sheet) ⌝ }
-    ensures { λ r. ⌜ Priced paying n (price1 .0) (price2 .0) (now (sheet .entry)) (now (sheet .exit)) (r .0) ⌝ }
-{
-    let mut total: u64 = 0;
-    let mut i = 0;
-    while i < n {
-        let pay = pay_at(sheet, i, price1, price2);
-        put_cell(sheet, COMPENSATION, i, pay.0);
-        total += pay.0;
-        i += 1;
-    }
-    Fen(total)
-}
-
 // What the row at a position owes.
 fn owed_at(sheet: &[u8], i: usize, price1: Li, price2: Li) -> Fen
     requires { ⌜ (lineStart (i + 1) ≤ length (now sheet)) × (price1 .0 ≤ 1000) × (price2 .0 ≤ 1000) ⌝ }
@@ -210,18 +196,31 @@ fn owed_at(sheet: &[u8], i: usize, price1: Li, price2: Li) -> Fen
     penalty(call1, call2, credit1, credit2, price1, price2)
 }
 
-// What each row owes, in the place of what it is credited with in tier 1; answers the total.
-pub fn penalise(n: usize, price1: Li, price2: Li, sheet: &mut [u8]) -> Fen
-    requires { ⌜ Priceable owing n (price1 .0) (price2 .0) (now sheet) ⌝ }
-    ensures { λ r. ⌜ Priced owing n (price1 .0) (price2 .0) (now (sheet .entry)) (now (sheet .exit)) (r .0) ⌝ }
+// What all rows are paid, and what all owe.
+pub struct Accounts {
+    pub total: Fen,
+    pub penalties: Fen,
+}
+
+// What each row is paid and what it owes, in the places of what it delivered and is credited with. Nothing is cut or returned yet.
+pub fn account(n: usize, price1: Li, price2: Li, sheet: &mut [u8]) -> Accounts
+    requires { ⌜ Accountable n (price1 .0) (price2 .0) (now sheet) ⌝ }
+    ensures { λ r. ⌜ Accounted n (price1 .0) (price2 .0) (now (sheet .entry)) (now (sheet .exit)) r ⌝ }
 {
     let mut total: u64 = 0;
+    let mut penalties: u64 = 0;
     let mut i = 0;
     while i < n {
+        let pay = pay_at(sheet, i, price1, price2);
         let owed = owed_at(sheet, i, price1, price2);
-        put_cell(sheet, PENALTY, i, owed.0);
-        total += owed.0;
+        put_cell(sheet, PAY, i, pay.0);
+        put_cell(sheet, OWED, i, owed.0);
+        total += pay.0;
+        penalties += owed.0;
         i += 1;
     }
-    Fen(total)
+    Accounts {
+        total: Fen(total),
+        penalties: Fen(penalties),
+    }
 }

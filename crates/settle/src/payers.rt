@@ -19,7 +19,7 @@ ghost use mathlib.Core.Path.{_≡_};
 ghost use lib.ListN.{length, take};
 ghost use Rattle.levy.specs.Asked.{Levyable};
 ghost use Rattle.settle.specs.Within.{Turn};
-ghost use Rattle.settle.specs.Work.{Leviable, LeviedOn, Levied, sharingOf, Shareable, LentParts, sharedOut, dividedTo, Divisible};
+ghost use Rattle.settle.specs.Work.{Leviable, LeviedOn, Levied, sharingOf, Shareable, sharedOut, dividedTo, Divisible};
 
 // The rounds over columns, and what each position pays after the last, in the place of its cap.
 fn levy_on(
@@ -79,25 +79,24 @@ fn sharing_of(left: Left, k: usize) -> Sharing
     }
 }
 
-// A sharing from one field into another, in columns that the caller lends. Of nothing every share is 0, as the parts lent are.
+// A sharing from one field into another, in columns that the caller lends.
 fn share_in(first: usize, what: Sharing, sums: &mut [u32], parts: &mut [u32], sheet: &mut [u8])
-    requires { ⌜ Shareable (length (now sums)) first what (now sheet) × LentParts (now sums) (now parts) ⌝ }
+    requires { ⌜ Shareable (length (now sums)) first what (now sheet) × (length (now parts) ≡ length (now sums)) ⌝ }
     ensures { λ _. ⌜ now (sheet .exit) ≡ sharedOut (length (now (sums .entry))) first what (now (sheet .entry)) ⌝ }
 {
-    if what.amount.0 == 0 {
-        put_column(sheet, what.to, parts);
-        return;
-    }
     get_column(sheet, what.from, sums);
     levy::apportion(what.amount, sums, first, parts);
     put_column(sheet, what.to, parts);
 }
 
-// The same, with columns of its own.
+// The same, with columns of its own. Of nothing every share is 0, and that stands there already.
 fn share_out(first: usize, n: usize, what: Sharing, sheet: &mut [u8])
     requires { ⌜ Shareable n first what (now sheet) ⌝ }
     ensures { λ _. ⌜ now (sheet .exit) ≡ sharedOut n first what (now (sheet .entry)) ⌝ }
 {
+    if what.amount.0 == 0 {
+        return;
+    }
     let mut sums = [0u32; 256];
     let mut parts = [0u32; 256];
     share_in(first, what, &mut sums[..n], &mut parts[..n], sheet);

@@ -1,7 +1,6 @@
 // A settlement as a flat run of stages over the lent buffer, which is the work sheet: a line for each row, each stage one field of it.
 // The head comes last.
-use crate::market::compensate;
-use crate::market::penalise;
+use crate::market::account;
 use crate::market::trade;
 use crate::payers::collect;
 use crate::payers::divide;
@@ -42,10 +41,11 @@ pub fn write_statement<'a>(interval: &'a [u8], correction: &'a [u8], n: usize, s
     let price1 = market.price1;
     let price2 = market.price2;
     let uncovered = market.uncovered;
-    let total = compensate(n, price1, price2, sheet);
+    let accounts = account(n, price1, price2, sheet);
+    let total = accounts.total;
+    let penalties = accounts.penalties;
     let rest = collect(total, first, n, sheet);
     let shortfall = levy::shortfall(rest);
-    let penalties = penalise(n, price1, price2, sheet);
     let left = levy::cover(penalties, shortfall);
     divide(left, first, n, sheet);
     let rows = n as u16;

@@ -1,7 +1,20 @@
 -- The columns of a statement's lines, by the names of their fields. Written `line.cut` where this page is used as `line`.
+use Prim.Native.Nat.{ℕ, _+_}
+use Rattle.columns.specs.Table.{at}
+use Rattle.records.specs.Record.{recordSize}
 use Rattle.records.specs.Sheet.{fieldOf}
 use Rattle.records.specs.declared.Field.{Field}
 use Rattle.statement.specs.Statement.{headSize, lineWidths}
+
+-- field j and the one behind it as one field
+abbrev beside : ℕ → Field
+beside j =
+    record {
+      start = headSize;
+      stride = recordSize lineWidths;
+      offset = fieldOf headSize lineWidths j .offset;
+      width = at lineWidths j + at lineWidths (j + 1);
+    }
 
 abbrev pub id : Field
 id = fieldOf headSize lineWidths 0
@@ -35,3 +48,10 @@ penalty = fieldOf headSize lineWidths 9
 
 abbrev pub returned : Field
 returned = fieldOf headSize lineWidths 10
+
+-- two fields side by side as one: compensation and cut, penalty and what is returned
+abbrev pub pay : Field
+pay = beside 3
+
+abbrev pub owed : Field
+owed = beside 9

@@ -116,6 +116,22 @@ pub const RETURNED: Field = Field {
     width: 4,
 };
 
+// Two fields that stand side by side, as one: compensation with cut, penalty with what is returned. Money of 32 bits put there stands in
+// the first of the two and leaves 0 in the second.
+pub const PAY: Field = Field {
+    start: HEAD,
+    stride: LINE,
+    offset: 12,
+    width: 8,
+};
+
+pub const OWED: Field = Field {
+    start: HEAD,
+    stride: LINE,
+    offset: 34,
+    width: 8,
+};
+
 // The head at the front of a statement.
 pub fn statement_head_at(s: &[u8]) -> StatementHead
     requires { ⌜ headSize ≤ length (now s) ⌝ }

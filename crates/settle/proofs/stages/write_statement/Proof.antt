@@ -3,27 +3,24 @@
 use native.Mathlib.Omega.{arith}
 use borrow.Author.Needs.{needs}
 use Rattle.settle.proofs.Answered.{few-rows, head-there, stated-long}
-use Rattle.settle.proofs.Stated.{asked-trade, asked-pay, asked-levy, asked-owe, asked-divide, head-room, stated}
+use Rattle.settle.proofs.Stated.{asked-trade, asked-account, asked-levy, asked-divide, head-room, stated}
 use Rattle.settle.proofs.stages.write_statement.Statement.{statement}
 use Rattle.settle.proofs.stages.write_statement.Tie as tie
 
 abbrev before-divide : tie.After-divide → tie.After-cover
 before-divide c = c .before .before
 
-abbrev before-cover : tie.After-cover → tie.After-penalise
-before-cover c = c .before .before .before
-
-abbrev before-penalise : tie.After-penalise → tie.After-shortfall
-before-penalise c = c .before .before
+abbrev before-cover : tie.After-cover → tie.After-shortfall
+before-cover c = c .before
 
 abbrev before-shortfall : tie.After-shortfall → tie.After-collect
 before-shortfall c = c .before .before .before
 
-abbrev before-collect : tie.After-collect → tie.After-compensate
-before-collect c = c .before .before .before .before
+abbrev before-collect : tie.After-collect → tie.After-account
+before-collect c = c .before .before .before .before .before .before
 
-abbrev before-compensate : tie.After-compensate → tie.After-trade
-before-compensate c = c .before .before .before .before .before .before .before
+abbrev before-account : tie.After-account → tie.After-trade
+before-account c = c .before .before .before .before .before .before .before
 
 abbrev before-trade : tie.After-trade → tie.After-first-turn
 before-trade c = c .before .before
@@ -51,41 +48,28 @@ trade-requires c κs =
     let p = r .before .before .before .before .before .pre in
     asked-trade _ _ _ (p .0) _ (p .1) _ (h .head-at .ensures) _ (o .first-turn .ensures) _ (r .read .ensures)
 
-compensate-requires : tie.Need-compensate-requires
-compensate-requires c κs =
+account-requires : tie.Need-account-requires
+account-requires c κs =
     let a = c .before .before .before .before .before .before in
     let o = before-trade a in
     let h = before-first-turn o in
     let r = before-head-at h in
     let p = r .before .before .before .before .before .pre in
-    asked-pay _ _ _ (p .0) _ (p .1) _ (h .head-at .ensures) _ (o .first-turn .ensures) _ (r .read .ensures) _ _ (a .trade .ensures)
+    asked-account _ _ _ (p .0) _ (p .1) _ (h .head-at .ensures) _ (o .first-turn .ensures) _ (r .read .ensures) _ _ (a .trade .ensures)
 
 collect-requires : tie.Need-collect-requires
 collect-requires c κs =
-    let e = c .before .before .before in
-    let a = before-compensate e in
+    let e = c .before .before .before .before .before in
+    let a = before-account e in
     let o = before-trade a in
     let h = before-first-turn o in
     let r = before-head-at h in
     let p = r .before .before .before .before .before .pre in
     asked-levy _ _ _ (p .0) _ (p .1) _ (h .head-at .ensures) _ (o .first-turn .ensures) _ (r .read .ensures) _ _ (a .trade .ensures) _ _
-    (e .compensate .ensures)
+    (e .account .ensures)
 
 shortfall-requires : tie.Need-shortfall-requires
 shortfall-requires c κs = search needs
-
-penalise-requires : tie.Need-penalise-requires
-penalise-requires c κs =
-    let q = c .before in
-    let g = before-shortfall q in
-    let e = before-collect g in
-    let a = before-compensate e in
-    let o = before-trade a in
-    let h = before-first-turn o in
-    let r = before-head-at h in
-    let p = r .before .before .before .before .before .pre in
-    asked-owe _ _ _ (p .0) _ (p .1) _ (h .head-at .ensures) _ (o .first-turn .ensures) _ (r .read .ensures) _ _ (a .trade .ensures) _ _
-    (e .compensate .ensures) _ _ (g .collect .ensures) _ (q .shortfall .ensures)
 
 cover-requires : tie.Need-cover-requires
 cover-requires c κs = search needs
@@ -93,64 +77,60 @@ cover-requires c κs = search needs
 divide-requires : tie.Need-divide-requires
 divide-requires c κs =
     let v = c .before in
-    let b = before-cover v in
-    let q = before-penalise b in
+    let q = before-cover v in
     let g = before-shortfall q in
     let e = before-collect g in
-    let a = before-compensate e in
+    let a = before-account e in
     let o = before-trade a in
     let h = before-first-turn o in
     let r = before-head-at h in
     let p = r .before .before .before .before .before .pre in
     asked-divide _ _ _ (p .0) _ (p .1) _ (h .head-at .ensures) _ (o .first-turn .ensures) _ (r .read .ensures) _ _ (a .trade .ensures) _ _
-    (e .compensate .ensures) _ _ (g .collect .ensures) _ (q .shortfall .ensures) _ _ (b .penalise .ensures) _ (v .cover .ensures)
+    (e .account .ensures) _ _ (g .collect .ensures) _ (q .shortfall .ensures) _ (v .cover .ensures)
 
 cast-rows : tie.Need-cast-rows
 cast-rows c =
-    let q = before-penalise (before-cover (before-divide (c .before .before))) in
-    let r = before-head-at (before-first-turn (before-trade (before-compensate (before-collect (before-shortfall q))))) in
+    let q = before-cover (before-divide (c .before .before)) in
+    let r = before-head-at (before-first-turn (before-trade (before-account (before-collect (before-shortfall q))))) in
     record { fits = omega (arith, few-rows _ _ _ (r .before .before .before .before .before .pre .0)) }
 
 put-statement-head-requires : tie.Need-put-statement-head-requires
 put-statement-head-requires c κs =
     let w = c .before .before .before in
     let v = before-divide w in
-    let b = before-cover v in
-    let q = before-penalise b in
+    let q = before-cover v in
     let g = before-shortfall q in
     let e = before-collect g in
-    let a = before-compensate e in
+    let a = before-account e in
     let o = before-trade a in
     let h = before-first-turn o in
     let r = before-head-at h in
     let p = r .before .before .before .before .before .pre in
     head-room _ _ _ (p .0) _ (p .1) _ (h .head-at .ensures) _ (o .first-turn .ensures) _ (r .read .ensures) _ _ (a .trade .ensures) _ _
-    (e .compensate .ensures) _ _ (g .collect .ensures) _ (q .shortfall .ensures) _ _ (b .penalise .ensures) _ (v .cover .ensures) _
-    (w .divide .ensures)
+    (e .account .ensures) _ _ (g .collect .ensures) _ (q .shortfall .ensures) _ (v .cover .ensures) _ (w .divide .ensures)
 
 returns : tie.Need-returns
 returns c =
     let t = c .before .before in
     let w = t .before .before .before .before in
     let v = before-divide w in
-    let b = before-cover v in
-    let q = before-penalise b in
+    let q = before-cover v in
     let g = before-shortfall q in
     let e = before-collect g in
-    let a = before-compensate e in
+    let a = before-account e in
     let o = before-trade a in
     let h = before-first-turn o in
     let r = before-head-at h in
     let p = r .before .before .before .before .before .pre in
     stated _ _ _ (p .0) _ (p .1) _ (h .head-at .ensures) _ (o .first-turn .ensures) _ (r .read .ensures) _ _ (a .trade .ensures) _ _
-    (e .compensate .ensures) _ _ (g .collect .ensures) _ (q .shortfall .ensures) _ _ (b .penalise .ensures) _ (v .cover .ensures) _
-    (w .divide .ensures) _ (t .put-statement-head .ensures)
+    (e .account .ensures) _ _ (g .collect .ensures) _ (q .shortfall .ensures) _ (v .cover .ensures) _ (w .divide .ensures) _
+    (t .put-statement-head .ensures)
 
 same-length : tie.Need-same-length
 same-length c =
     let w = c .before .before .before .before .before .before in
-    let q = before-penalise (before-cover (before-divide w)) in
-    let r = before-head-at (before-first-turn (before-trade (before-compensate (before-collect (before-shortfall q))))) in
+    let q = before-cover (before-divide w) in
+    let r = before-head-at (before-first-turn (before-trade (before-account (before-collect (before-shortfall q))))) in
     let p = r .before .before .before .before .before .pre in
     stated-long _ _ _ (p .0) _ (p .1) _ (returns c)
 
@@ -162,10 +142,9 @@ write-statement-spec =
     head-at-requires
     first-turn-requires
     trade-requires
-    compensate-requires
+    account-requires
     collect-requires
     shortfall-requires
-    penalise-requires
     cover-requires
     divide-requires
     cast-rows
