@@ -1,16 +1,18 @@
 -- A row's figures as the code makes them, each lemma in the shape of what is asked.
 --     pays-is                  who pays, by tests that are joined and not one after the other
+--     steps                    a thermal unit's energy by what of it lies above 60 and above 70 percent
 --     weight-of, cap-of        by the energy that counts, which is 0 of a row that does not pay
---     counted-le, caps-fit     that energy is at most the meter's; of the caps of both kinds one is 0
+--     counted-le, twice-fits   that energy is at most the meter's, and twice that fits
 --     duty-of                  all figures together
-use Prim.Native.Nat.{ℕ, _+_, _≤_}
+use Prim.Native.Nat.{ℕ, _+_, _-_, _*_, _^_, _≤_, min}
 use mathlib.Core.Path.{_≡_, refl}
 use mathlib.Core.Bool.{Bool, true, false, cond, not, _&&_, _||_}
 use native.Mathlib.Omega.{arith}
 use lib.Dec.{leb, eqb}
-use mir.Syntax.{w64}
+use mir.Syntax.{w32}
 use mir.Val.{Fits}
 use Rattle.units.specs.Measure.{thermalCap, renewableCap}
+use Rattle.units.specs.Load.{load}
 use Rattle.units.specs.declared.Kwh.{Kwh}
 use Rattle.units.specs.declared.Fen.{Fen}
 use Rattle.files.specs.declared.Row.{Row}
@@ -18,6 +20,7 @@ use Rattle.files.specs.declared.Terms.{Terms}
 use Rattle.files.specs.Terms.{baseline}
 use Rattle.duties.specs.Duty.{width1, width2, energy1, energy2, credit1, credit2, payer, thermalWeight, weight, cap, dutyOf}
 use Rattle.duties.specs.declared.Duty.{Duty}
+use Rattle.duties.specs.Ranged.{Ranged}
 
 -- two tests, of which k says the one that counts
 joined : (k a b : Bool) → (k && a) || (not k && b) ≡ cond k a b
@@ -38,18 +41,23 @@ weighed true k base c m = refl
 weighed false true base c m = omega arith
 weighed false false base c m = refl
 
--- and has cap 0
-capped : (p k : Bool) (tariff m : ℕ) → thermalCap (cond k (cond p m 0) 0) tariff + renewableCap (cond (not k) (cond p m 0) 0) tariff
-    ≡ cond p (cond k (thermalCap m tariff) (renewableCap m tariff)) 0
+-- and has cap 0; twice the energy at a unit's share of the tariff is the energy at a farm's
+capped : (p k : Bool) (tariff m : ℕ)
+    → thermalCap (cond p m 0 + cond (not k) (cond p m 0) 0) tariff ≡ cond p (cond k (thermalCap m tariff) (renewableCap m tariff)) 0
 capped true true tariff m = omega arith
 capped true false tariff m = omega arith
 capped false true tariff m = omega arith
 capped false false tariff m = omega arith
 
-pub caps-fit : (k : Bool) (tariff e a b x y : ℕ) → a ≡ cond k e 0 → b ≡ cond (not k) e 0 → x ≡ thermalCap a tariff
-    → y ≡ renewableCap b tariff → Fits w64 x → Fits w64 y → Fits w64 (x + y)
-caps-fit true tariff e a b x y f g h i fits small = rw (i, g) (omega arith)
-caps-fit false tariff e a b x y f g h i fits small = rw (h, f) (omega arith)
+-- what lies above the higher of two loads lies above the lower too
+above-both : (e low high once : ℕ) → low ≤ high → once + 2 * (e - low) + (e - high) ≡ once + 2 * (min e high - low) + 3 * (e - high)
+above-both e low high once l = omega arith
+
+pub steps : (base c e low high least once two three : ℕ) → low ≡ load c 60 → high ≡ load c 70 → least ≡ min e low → once ≡ least - base
+    → two ≡ e - low → three ≡ e - high → once + 2 * two + three ≡ thermalWeight base c e
+steps base c e low high least once two three l h k f g i =
+    let rising : low ≤ high = omega (arith, l, h) in
+    rw (f, k, g, i, ← l, ← h) (above-both e low high (min e low - base) rising)
 
 module _ (t : Terms) (r : Row) (e : ℕ) (is : e ≡ cond (payer t r) (r .metered .0) 0) where
   pub weight-of : (base w x : ℕ) → base ≡ baseline t (r .capacity) → w ≡ thermalWeight base (r .capacity) e
@@ -57,10 +65,9 @@ module _ (t : Terms) (r : Row) (e : ℕ) (is : e ≡ cond (payer t r) (r .metere
   unfolding weight
   weight-of base w x b h p = rw (p, h, b, is) (weighed (payer t r) (eqb (r .kind) 1) (baseline t (r .capacity)) (r .capacity) (r .metered .0))
 
-  pub cap-of : (tariff a b x y : ℕ) → a ≡ cond (eqb (r .kind) 1) e 0 → b ≡ cond (not (eqb (r .kind) 1)) e 0
-      → x ≡ thermalCap a tariff → y ≡ renewableCap b tariff → x + y ≡ cap t tariff r
+  pub cap-of : (tariff farm x : ℕ) → farm ≡ cond (not (eqb (r .kind) 1)) e 0 → x ≡ thermalCap (e + farm) tariff → x ≡ cap t tariff r
   unfolding cap
-  cap-of tariff a b x y f g h i = rw (h, i, f, g, is) (capped (payer t r) (eqb (r .kind) 1) tariff (r .metered .0))
+  cap-of tariff farm x f h = rw (h, f, is) (capped (payer t r) (eqb (r .kind) 1) tariff (r .metered .0))
 
   pub counted-le : (m : ℕ) → r .metered .0 ≤ m → e ≤ m
   counted-le m h = rw is (go (payer t r))
@@ -68,6 +75,13 @@ module _ (t : Terms) (r : Row) (e : ℕ) (is : e ≡ cond (payer t r) (r .metere
       go : (b : Bool) → cond b (r .metered .0) 0 ≤ m
       go true = h
       go false = omega arith
+
+  pub twice-fits : (k : Bool) (farm : ℕ) → farm ≡ cond k e 0 → Ranged r → Fits w32 (e + farm)
+  twice-fits k farm f h = rw f (go k)
+    where
+      go : (b : Bool) → Fits w32 (e + cond b e 0)
+      go true = omega (arith, counted-le (2 ^ 30) (h .metered))
+      go false = omega (arith, counted-le (2 ^ 30) (h .metered))
 
 pub duty-of : (t : Terms) (tariff : ℕ) (r : Row) (w1 w2 e1 e2 x1 x2 w : Kwh) (c : Fen) → w1 .0 ≡ width1 t r → w2 .0 ≡ width2 t r
     → e1 .0 ≡ energy1 t r → e2 .0 ≡ energy2 t r → x1 .0 ≡ credit1 t r → x2 .0 ≡ credit2 t r → w .0 ≡ weight t r → c .0 ≡ cap t tariff r

@@ -36,7 +36,8 @@ fn counted(terms: Terms, row: Row) -> Kwh
     row.metered.when(pays(terms, row))
 }
 
-// A thermal unit's energy above its baseline: once to 60 percent, twice to 70, three times above.
+// A thermal unit's energy above its baseline: once to 60 percent, twice to 70, three times above. What lies above 70
+// lies above 60 too and counts twice there, so that it is added once more.
 pub fn thermal_weight(base: Kwh, capacity: u16, energy: Kwh) -> Kwh
     requires { ⌜ energy .0 ≤ 2 ^ 30 ⌝ }
     ensures { λ r. ⌜ r .0 ≡ thermalWeight (base .0) capacity (energy .0) ⌝ }
@@ -44,9 +45,7 @@ pub fn thermal_weight(base: Kwh, capacity: u16, energy: Kwh) -> Kwh
     let low = load(capacity, SIXTY);
     let high = load(capacity, SEVENTY);
     let once = energy.smaller(low).above(base);
-    let twice = energy.smaller(high).above(low);
-    let thrice = energy.above(high);
-    Kwh(once.0 + 2 * twice.0 + 3 * thrice.0)
+    Kwh(once.0 + 2 * energy.above(low).0 + energy.above(high).0)
 }
 
 // The weight of a row, 0 for one that does not pay.
@@ -61,13 +60,12 @@ pub fn weight(terms: Terms, row: Row) -> Kwh
     )
 }
 
-// The cap of a row, 0 for one that does not pay: no energy has cap 0, so that of the caps by either kind one adds nothing.
+// The cap of a row, 0 for one that does not pay. A farm's is that of a unit with twice the energy, so that one division serves both kinds.
 pub fn cap(terms: Terms, tariff: Hao, row: Row) -> Fen
+    requires { ⌜ Ranged row ⌝ }
     ensures { λ c. ⌜ c .0 ≡ cap terms (tariff .0) row ⌝ }
 {
     let energy = counted(terms, row);
-    let thermal = row.kind == THERMAL;
-    let unit = energy.when(thermal).thermal_cap(tariff);
-    let farm = energy.when(!thermal).renewable_cap(tariff);
-    Fen(unit.0 + farm.0)
+    let farm = energy.when(row.kind != THERMAL);
+    Kwh(energy.0 + farm.0).thermal_cap(tariff)
 }

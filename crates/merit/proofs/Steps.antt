@@ -1,5 +1,5 @@
 -- What the small steps of the code come to, each lemma in the shape of one need.
-use Prim.Native.Nat.{ℕ, _+_, _-_, _*_, _≤_, _<_, min}
+use Prim.Native.Nat.{ℕ, _+_, _-_, _*_, _≤_, _<_, min, max}
 use mathlib.Core.Path.{_≡_, refl, ap, sym, _∙_}
 use mathlib.Core.Bool.{Bool, true, cond, _&&_}
 use mathlib.Core.List.{List}
@@ -20,18 +20,13 @@ use Rattle.share.proofs.Laws.{shares-are-weights}
 use Rattle.merit.specs.OneTier.{under, equal, below, groupIn}
 use Rattle.merit.specs.Price.{delivers, price}
 use Rattle.merit.specs.Ready.{Columns, Ready}
-use Rattle.merit.specs.Walk.{past, Margin, cheapIn, Room, Blank, partsIn, higher}
+use Rattle.merit.specs.Walk.{past, Margin, cheapIn, Room, Blank, partsIn, deliveredBid}
 use Rattle.merit.proofs.Keyed.{cond-le}
 use Rattle.merit.proofs.OneTier.{below-zero}
 
-module _ (top i : ℕ) (bs cs es : List ℕ) (x bid : ℕ) (counts : x ≡ cond (delivers (at cs i) (at es i)) (at bs i) 0) (is : bid ≡ x) where
-  pub higher-it : top < bid → bid ≡ higher top i bs cs es
-  unfolding higher
-  higher-it l = omega (arith, counts)
-
-  pub higher-not : bid ≤ top → top ≡ higher top i bs cs es
-  unfolding higher
-  higher-not l = omega (arith, counts)
+pub delivered-is : (i : ℕ) (bs cs es : List ℕ) (x : ℕ) → x ≡ cond (delivers (at cs i) (at es i)) (at bs i) 0 → x ≡ deliveredBid i bs cs es
+unfolding deliveredBid
+delivered-is i bs cs es x e = e
 
 -- the highest bid among the first n rows that deliver
 unfoldable pub highest : List ℕ → List ℕ → List ℕ → ℕ → ℕ
@@ -42,13 +37,14 @@ module _ (bs cs es : List ℕ) where
   unfolding highest maxWhere maxTo
   highest-none = refl
 
-  pub highest-more : (i top r : ℕ) → top ≡ highest bs cs es i → r ≡ higher top i bs cs es → r ≡ highest bs cs es (i + 1)
-  unfolding highest higher
-  highest-more i top r e f = rw (f, e) (sym (max-where-next i (λ j. delivers (at cs j) (at es j)) (at bs)))
+  pub highest-more : (i top bid r : ℕ) → top ≡ highest bs cs es i → bid ≡ deliveredBid i bs cs es → r ≡ max top bid
+      → r ≡ highest bs cs es (i + 1)
+  unfolding highest deliveredBid
+  highest-more i top bid r e f g = rw (g, e, f) (sym (max-where-next i (λ j. delivers (at cs j) (at es j)) (at bs)))
 
-  pub highest-all : (i top : ℕ) → top ≡ highest bs cs es i → i ≤ length bs → length bs ≤ i → top ≡ price bs cs es
+  pub highest-all : (i top r : ℕ) → top ≡ highest bs cs es i → i ≤ length bs → length bs ≤ i → r ≡ top → r ≡ price bs cs es
   unfolding highest price
-  highest-all i top e l m = let s : i ≡ length bs = omega arith in rw (← s) e
+  highest-all i top r e l m f = let s : i ≡ length bs = omega arith in f ∙ rw (← s) e
 
 pub copied-next : (s start now : List ℕ) (i : ℕ) → Reached 0 (at s) start now i → length start ≡ length s → i < length s
     → Reached 0 (at s) start (set now i (at s i)) (i + 1)

@@ -1,5 +1,5 @@
 -- What the steps of the walk come to, and those of the search for the price. No promise of a public function speaks of them.
-use Prim.Native.Nat.{ℕ, _+_, _≤_, _<_, min, max}
+use Prim.Native.Nat.{ℕ, _+_, _≤_, _<_, min}
 use mathlib.Core.Path.{_≡_}
 use mathlib.Core.Bool.{cond}
 use mathlib.Core.List.{List}
@@ -45,6 +45,6 @@ pub record Blank (ws bs : List ℕ) (first : ℕ) (cs ps : List ℕ) : Type 0 wh
   pub ready : Ready ws bs first cs
   pub parts : Room ws first ps
 
--- the higher of a bid and that of row i, if the row delivers
-unfoldable pub higher : ℕ → ℕ → List ℕ → List ℕ → List ℕ → ℕ
-higher top i bids calls energies = max top (cond (delivers (at calls i) (at energies i)) (at bids i) 0)
+-- the bid of row i if the row delivers, and 0 if not
+unfoldable pub deliveredBid : ℕ → List ℕ → List ℕ → List ℕ → ℕ
+deliveredBid i bids calls energies = cond (delivers (at calls i) (at energies i)) (at bids i) 0

@@ -1,14 +1,14 @@
 // Merit order (01, Calls and prices; 02, request 1), one tier's columns at a time: the walk over its bids and bands, the calls it makes, the
 // clearing price. Columns hold bare numbers: widths, calls and energies in kWh, bids in li.
 ghost use mathlib.Core.Path.{_≡_};
-ghost use Prim.Native.Nat.{_+_, _<_, _≤_};
+ghost use Prim.Native.Nat.{_+_, _<_, _≤_, max};
 ghost use lib.ListN.{length};
 ghost use Rattle.columns.specs.Sum.{whole};
 ghost use Rattle.share.specs.Split.{Splittable};
 ghost use Rattle.merit.specs.OneTier.{under, equal, below, groupIn};
 ghost use Rattle.merit.specs.Price.{price};
 ghost use Rattle.merit.specs.Ready.{Columns, Ready, TierCalled, OneLength};
-ghost use Rattle.merit.specs.Walk.{past, Margin, cheapIn, Room, Blank, Begun, partsIn, higher};
+ghost use Rattle.merit.specs.Walk.{past, Margin, cheapIn, Room, Blank, Begun, partsIn, deliveredBid};
 use columns::counted;
 use units::Kwh;
 use units::Li;
@@ -233,28 +233,34 @@ pub fn call_tier(need: Kwh, first: usize, widths: &[u32], bids: &[u32], called: 
     )
 }
 
-// The higher of a bid and that of row i, if the row delivers: it was called and has energy to be paid for.
-fn higher(top: Li, i: usize, bids: &[u32], called: &[u32], energies: &[u32]) -> Li
+// The bid of row i if the row delivers, and 0 if not: it was called and has energy to be paid for.
+fn delivered_bid(i: usize, bids: &[u32], called: &[u32], energies: &[u32]) -> u32
     requires { ⌜ (i < length (now bids)) × OneLength (now bids) (now called) (now energies) ⌝ }
-    ensures { λ r. ⌜ r .0 ≡ higher (top .0) i (now (bids .entry)) (now (called .entry)) (now (energies .entry)) ⌝ }
+    ensures { λ r. ⌜ r ≡ deliveredBid i (now (bids .entry)) (now (called .entry)) (now (energies .entry)) ⌝ }
 {
-    let bid = Li::from_column(counted((0 < called[i]) & (0 < energies[i]), bids[i]));
-    if top.0 < bid.0 {
-        return bid;
-    }
-    top
+    counted((0 < called[i]) & (0 < energies[i]), bids[i])
 }
 
-// A tier's clearing price: the highest bid among the rows that deliver there, and 0 if there is none.
+fn higher(a: u32, b: u32) -> u32
+    ensures { λ r. ⌜ r ≡ max a b ⌝ }
+{
+    if a < b {
+        return b;
+    }
+    a
+}
+
+// A tier's clearing price: the highest bid among the rows that deliver there, and 0 if there is none. In 32 bits, and with the test
+// and the maximum in functions of their own, so that the compiler makes vector code of the loop: of both in one it makes a choice row by row.
 pub fn price(bids: &[u32], called: &[u32], energies: &[u32]) -> Li
     requires { ⌜ OneLength (now bids) (now called) (now energies) ⌝ }
     ensures { λ r. ⌜ r .0 ≡ price (now (bids .entry)) (now (called .entry)) (now (energies .entry)) ⌝ }
 {
-    let mut top = Li(0);
+    let mut top: u32 = 0;
     let mut i = 0;
     while i < bids.len() {
-        top = higher(top, i, bids, called, energies);
+        top = higher(top, delivered_bid(i, bids, called, energies));
         i += 1;
     }
-    top
+    Li::from_column(top)
 }

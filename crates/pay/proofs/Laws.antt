@@ -60,8 +60,8 @@ no-energy call1 call2 price1 price2 =
     )
 
 -- what is short in a tier, by the price, and twice that
-pub tier-twice : (call delivered price short once : ℕ) → short ≡ call - delivered → once ≡ priced short price → once < 2 ^ 62 → (twice : ℕ)
-    → twice ≡ once + once → (twice ≡ tierPenalty call delivered price) × (twice < 2 ^ 63)
+pub tier-twice : (call delivered price short once : ℕ) → short ≡ call - delivered → once ≡ priced short price → once < 2 ^ 62 - 3 → (twice : ℕ)
+    → twice ≡ once + once → (twice ≡ tierPenalty call delivered price) × (twice + 5 ≤ 2 ^ 63)
 tier-twice call delivered price short once is worth small twice e =
     let all : once ≡ (call - delivered) * price = worth ∙ ap (λ (x : ℕ). x * price) is in
     (omega (arith, all), omega (arith, small))

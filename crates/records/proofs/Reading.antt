@@ -2,6 +2,7 @@
 --   number-next    one byte more in front of a number that was read from position k + 1 on
 --   number-bound   a number of w bytes is below 256 ^ w
 --   number-same    the same bytes make the same number, wherever they stand
+--   number-of2, number-of4     the number of two bytes, of four
 --   shift-bound    one byte more keeps below the next power of 256
 --   room           below 256 ^ w with w at most 7, a byte more still fits 64 bits
 use mathlib.Core.Path.{_≡_, refl}
@@ -40,6 +41,18 @@ number-same (suc w) s t a b h =
 
 pub room : (w v : ℕ) → v < 256 ^ w → w ≤ 7 → v < 2 ^ 56
 room w v h l = omega (arith, pow-le-pow-right {n = 256} (lit< tt) l)
+
+pub number-of2 : (s : List ℕ) (at a b : ℕ) → a ≡ getD s at 0 → b ≡ getD s (at + 1) 0 → a + 256 * b ≡ numberAt 2 s at
+unfolding numberAt
+number-of2 s at a b e f = omega (arith, e, f)
+
+pub number-of4 : (s : List ℕ) (at a b c d : ℕ) → a ≡ getD s at 0 → b ≡ getD s (at + 1) 0 → c ≡ getD s (at + 2) 0 → d ≡ getD s (at + 3) 0
+    → a + 256 * b + 65536 * c + 16777216 * d ≡ numberAt 4 s at
+unfolding numberAt
+number-of4 s at a b c d e f g h =
+    let third : at + 1 + 1 ≡ at + 2 = omega arith in
+    let fourth : at + 2 + 1 ≡ at + 3 = omega arith in
+    rw (third, fourth) (omega (arith, e, f, g, h))
 
 -- how far a reader has come: v is the number in the bytes from position at + i on, to the end of a width of w
 pub record Read (s : List ℕ) (at w v i : ℕ) : Type 0 where

@@ -30,11 +30,34 @@ pub fn wide(x: u8) -> u64
     x as u64
 }
 
-// The number in so many bytes from a position on, lowest byte first; taken from the top byte down.
+// The number in two bytes from a position on, lowest byte first.
+fn number_of2(s: &[u8], at: usize) -> u64
+    requires { ⌜ at + 2 ≤ length (now s) ⌝ }
+    ensures { λ r. ⌜ (r ≡ numberAt 2 (now (s .entry)) at) × (r < 256 ^ 2) ⌝ }
+{
+    wide(s[at]) + 256 * wide(s[at + 1])
+}
+
+// The number in four.
+fn number_of4(s: &[u8], at: usize) -> u64
+    requires { ⌜ at + 4 ≤ length (now s) ⌝ }
+    ensures { λ r. ⌜ (r ≡ numberAt 4 (now (s .entry)) at) × (r < 256 ^ 4) ⌝ }
+{
+    wide(s[at]) + 256 * wide(s[at + 1]) + 65536 * wide(s[at + 2]) + 16777216 * wide(s[at + 3])
+}
+
+// The number in so many bytes from a position on, lowest byte first; taken from the top byte down. Widths 4 and 2 have code of their
+// own: where a width is known only at run time, the compiler would read a number of any width in a loop over its bytes.
 pub fn number_at(s: &[u8], at: usize, width: usize) -> u64
     requires { ⌜ (at + width ≤ length (now s)) × (width ≤ 8) ⌝ }
     ensures { λ r. ⌜ (r ≡ numberAt width (now (s .entry)) at) × (r < 256 ^ width) ⌝ }
 {
+    if width == 4 {
+        return number_of4(s, at);
+    }
+    if width == 2 {
+        return number_of2(s, at);
+    }
     let mut v: u64 = 0;
     let mut i = width;
     while 0 < i {

@@ -11,7 +11,6 @@ use Rattle.units.proofs.Kwh.when.Reads as when
 use Rattle.units.proofs.Kwh.or.Reads as or
 use Rattle.units.proofs.Kwh.priced.Reads as priced
 use Rattle.units.proofs.Kwh.thermal_cap.Reads as thermal-cap
-use Rattle.units.proofs.Kwh.renewable_cap.Reads as renewable-cap
 use Rattle.units.proofs.Li.plus.Reads as plus
 use Rattle.units.proofs.Li.to_fen.Reads as to-fen
 use Rattle.units.proofs.Kwh.from_column.Reads as kwh-from-column
@@ -47,9 +46,6 @@ priced-unique κs a x y e f p q = ap (λ (m : ℕ). record { 0 = m }) (p ∙ sym
 
 pub thermal-cap-unique : One-result thermal-cap.Learnt
 thermal-cap-unique κs a x y e f p q = ap (λ (m : ℕ). record { 0 = m }) (p ∙ sym q)
-
-pub renewable-cap-unique : One-result renewable-cap.Learnt
-renewable-cap-unique κs a x y e f p q = ap (λ (m : ℕ). record { 0 = m }) (p ∙ sym q)
 
 pub plus-unique : One-result plus.Learnt
 plus-unique κs a x y e f p q = ap (λ (m : ℕ). record { 0 = m }) (p ∙ sym q)

@@ -3,7 +3,7 @@
 ghost use mathlib.Core.Path.{_≡_};
 ghost use mathlib.Core.Bool.{cond};
 ghost use Prim.Native.Nat.{_+_, _-_, _*_, _/_, _^_, _<_, min, max};
-ghost use Rattle.units.specs.Measure.{toFen, priced, thermalCap, renewableCap};
+ghost use Rattle.units.specs.Measure.{toFen, priced, thermalCap};
 ghost use Rattle.units.specs.Load.{load, most};
 use columns::counted;
 
@@ -80,26 +80,11 @@ impl Kwh {
         Li((self.0 as u64) * price.0)
     }
 
-    // This energy at a tariff, one part in so many, cut to whole fen.
-    fn part_of(self, tariff: Hao, parts: u64) -> Fen
-        requires { ⌜ 0 < parts ⌝ }
-        ensures { λ r. ⌜ r .0 ≡ self .0 * tariff .0 / parts ⌝ }
-    {
-        Fen((self.0 as u64) * (tariff.0 as u64) / parts)
-    }
-
-    // The most that a thermal unit of this metered energy pays.
+    // The most that a thermal unit of this metered energy pays; a farm pays as much as a unit of twice its energy.
     pub fn thermal_cap(self, tariff: Hao) -> Fen
         ensures { λ r. ⌜ r .0 ≡ thermalCap (self .0) (tariff .0) ⌝ }
     {
-        self.part_of(tariff, 400)
-    }
-
-    // The most that a wind or solar farm of this metered energy pays.
-    pub fn renewable_cap(self, tariff: Hao) -> Fen
-        ensures { λ r. ⌜ r .0 ≡ renewableCap (self .0) (tariff .0) ⌝ }
-    {
-        self.part_of(tariff, 200)
+        Fen((self.0 as u64) * (tariff.0 as u64) / 400)
     }
 }
 
@@ -126,11 +111,12 @@ impl Li {
         Li(self.0 + other.0)
     }
 
-    // Half a fen goes upward. Written without a sum that could wrap.
+    // Half a fen goes upward.
     pub fn to_fen(self) -> Fen
+        requires { ⌜ self .0 + 5 < 2 ^ 64 ⌝ }
         ensures { λ r. ⌜ r .0 ≡ toFen (self .0) ⌝ }
     {
-        Fen(self.0 / 10 + (self.0 % 10 + 5) / 10)
+        Fen((self.0 + 5) / 10)
     }
 }
 

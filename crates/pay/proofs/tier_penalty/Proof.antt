@@ -1,5 +1,5 @@
 -- `pay::tier_penalty` meets its contract: twice what is short by the price.
-use Prim.Native.Nat.{_^_, _<_}
+use Prim.Native.Nat.{_-_, _^_, _<_}
 use native.Mathlib.Omega.{arith}
 use borrow.Author.Needs.{needs}
 use Rattle.columns.proofs.Product.{product}
@@ -14,8 +14,8 @@ priced-requires : tie.Need-priced-requires
 priced-requires c κs = search needs
 
 -- a price of 30 bits, and any energy
-small : (c : tie.After-priced) → c .priced .result .0 < 2 ^ 62
-small c = rw (c .priced .ensures) (product 4294967295 1073741823 (2 ^ 62) (search needs) (search needs) tt)
+small : (c : tie.After-priced) → c .priced .result .0 < 2 ^ 62 - 3
+small c = rw (c .priced .ensures) (product 4294967295 1073741823 (2 ^ 62 - 3) (search needs) (search needs) tt)
 
 plus-requires : tie.Need-plus-requires
 plus-requires c κs = omega (arith, small c)

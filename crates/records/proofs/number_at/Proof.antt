@@ -1,4 +1,4 @@
--- `records::number_at` meets its contract: the loop has read the bytes above i.
+-- `records::number_at` meets its contract: four bytes or two as they are; of any other width the loop has read the bytes above i.
 use Prim.Native.Nat.{_<_, _^_}
 use borrow.Author.Needs.{needs}
 use Rattle.records.proofs.Reading.{Read, read-none, read-room, read-next, read-all}
@@ -10,6 +10,18 @@ Inv-loop s at width v₀ i₀ v i = Read s at width v i
 
 abbrev μ-loop : tie.MeasureT-loop
 μ-loop s at width v₀ i₀ v i = i
+
+number-of4-requires : tie.Need-number-of4-requires Inv-loop μ-loop
+number-of4-requires c κs = search needs
+
+returns : tie.Need-returns Inv-loop μ-loop
+returns c = rw (c .before .if1 .taken) (c .number-of4 .ensures)
+
+number-of2-requires : tie.Need-number-of2-requires Inv-loop μ-loop
+number-of2-requires c κs = search needs
+
+returns-2 : tie.Need-returns-2 Inv-loop μ-loop
+returns-2 c = rw (c .before .if2 .taken) (c .number-of2 .ensures)
 
 loop-holds : tie.Need-loop-holds Inv-loop μ-loop
 loop-holds c = search read-none
@@ -38,8 +50,8 @@ loop-less c = search needs
 loop-again : tie.Need-loop-again Inv-loop μ-loop
 loop-again c = search read-next
 
-returns : tie.Need-returns Inv-loop μ-loop
-returns c = read-all _ _ _ _ _ (c .before .loop .inv) (c .loop-test .left)
+returns-3 : tie.Need-returns-3 Inv-loop μ-loop
+returns-3 c = read-all _ _ _ _ _ (c .before .loop .inv) (c .loop-test .left)
 
 pub number-at-spec : {M : Type 1} → statement M
 number-at-spec =
@@ -47,6 +59,10 @@ number-at-spec =
     (tie.spec
     Inv-loop
     μ-loop
+    number-of4-requires
+    returns
+    number-of2-requires
+    returns-2
     loop-holds
     sub-i
     mul-v
@@ -56,4 +72,4 @@ number-at-spec =
     add-v
     loop-less
     loop-again
-    returns)
+    returns-3)

@@ -1,5 +1,6 @@
 -- `duties::thermal_weight` meets its contract: each part of the energy above the baseline is counted by its own factor.
 use borrow.Author.Needs.{needs}
+use Rattle.duties.proofs.Parts.{steps}
 use Rattle.duties.proofs.weighing.thermal_weight.Statement.{statement}
 use Rattle.duties.proofs.weighing.thermal_weight.Tie as tie
 
@@ -15,29 +16,23 @@ smaller-requires c κs = search needs
 above-requires : tie.Need-above-requires
 above-requires c κs = search needs
 
-smaller-requires-2 : tie.Need-smaller-requires-2
-smaller-requires-2 c κs = search needs
-
 above-requires-2 : tie.Need-above-requires-2
 above-requires-2 c κs = search needs
+
+mul-t8 : tie.Need-mul-t8
+mul-t8 c = search needs
+
+add-t9 : tie.Need-add-t9
+add-t9 c = search needs
 
 above-requires-3 : tie.Need-above-requires-3
 above-requires-3 c κs = search needs
 
-mul-t10 : tie.Need-mul-t10
-mul-t10 c = search needs
-
 add-t11 : tie.Need-add-t11
 add-t11 c = search needs
 
-mul-t12 : tie.Need-mul-t12
-mul-t12 c = search needs
-
-add-t13 : tie.Need-add-t13
-add-t13 c = search needs
-
 returns : tie.Need-returns
-returns c = cc
+returns c = search steps
 
 pub thermal-weight-spec : {M : Type 1} → statement M
 thermal-weight-spec =
@@ -47,11 +42,9 @@ thermal-weight-spec =
     load-requires-2
     smaller-requires
     above-requires
-    smaller-requires-2
     above-requires-2
+    mul-t8
+    add-t9
     above-requires-3
-    mul-t10
     add-t11
-    mul-t12
-    add-t13
     returns)

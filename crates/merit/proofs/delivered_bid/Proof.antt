@@ -1,8 +1,8 @@
--- `merit::higher` meets its contract: the larger of two bids, the second being 0 where nothing was called or nothing delivered.
-use Rattle.merit.proofs.Steps.{higher-it, higher-not}
+-- `merit::delivered_bid` meets its contract: a bid that counts as 0 where nothing was called or nothing delivered.
+use Rattle.merit.proofs.Steps.{delivered-is}
 use borrow.Author.Needs.{needs}
-use Rattle.merit.proofs.higher.Statement.{statement}
-use Rattle.merit.proofs.higher.Tie as tie
+use Rattle.merit.proofs.delivered_bid.Statement.{statement}
+use Rattle.merit.proofs.delivered_bid.Tie as tie
 
 mul-counted : tie.Need-mul-counted
 mul-counted c = search needs
@@ -25,17 +25,11 @@ shared-slice-read-counted-3 c = search needs
 counted-requires : tie.Need-counted-requires
 counted-requires c κs = search needs
 
-from-column-requires : tie.Need-from-column-requires
-from-column-requires c κs = search needs
-
 returns : tie.Need-returns
-returns c = search higher-it
+returns c = search delivered-is
 
-returns-2 : tie.Need-returns-2
-returns-2 c = search higher-not
-
-pub higher-spec : {M : Type 1} → statement M
-higher-spec =
+pub delivered-bid-spec : {M : Type 1} → statement M
+delivered-bid-spec =
     tie.close
     (tie.spec
     mul-counted
@@ -45,6 +39,4 @@ higher-spec =
     mul-counted-3
     shared-slice-read-counted-3
     counted-requires
-    from-column-requires
-    returns
-    returns-2)
+    returns)
