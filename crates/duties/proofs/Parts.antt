@@ -1,12 +1,13 @@
 -- A row's figures as the code makes them, each lemma in the shape of what is asked.
 --     pays-is                  who pays, by tests that are joined and not one after the other
---     steps                    a thermal unit's energy by what of it lies above 60 and above 70 percent
+--     steps, low-base          a thermal unit's energy by what of it lies above its baseline, 60 and 70 percent; a baseline below 60
 --     weight-of, cap-of        by the energy that counts, which is 0 of a row that does not pay
 --     counted-le, twice-fits   that energy is at most the meter's, and twice that fits
 --     duty-of                  all figures together
 use Prim.Native.Nat.{ℕ, _+_, _-_, _*_, _^_, _≤_, min}
 use mathlib.Core.Path.{_≡_, refl}
 use mathlib.Core.Bool.{Bool, true, false, cond, not, _&&_, _||_}
+use native.Mathlib.Nat.{mul-le-mul-left}
 use native.Mathlib.Omega.{arith}
 use lib.Dec.{leb, eqb}
 use mir.Syntax.{w32}
@@ -49,15 +50,24 @@ capped true false tariff m = omega arith
 capped false true tariff m = omega arith
 capped false false tariff m = omega arith
 
--- what lies above the higher of two loads lies above the lower too
-above-both : (e low high once : ℕ) → low ≤ high → once + 2 * (e - low) + (e - high) ≡ once + 2 * (min e high - low) + 3 * (e - high)
-above-both e low high once l = omega arith
+-- what lies above a load lies between it and a higher one, or above that
+parted : (e a b : ℕ) → a ≤ b → e - a ≡ min e b - a + (e - b)
+parted e a b l = omega arith
 
-pub steps : (base c e low high least once two three : ℕ) → low ≡ load c 60 → high ≡ load c 70 → least ≡ min e low → once ≡ least - base
-    → two ≡ e - low → three ≡ e - high → once + 2 * two + three ≡ thermalWeight base c e
-steps base c e low high least once two three l h k f g i =
+thrice : (x y z p q : ℕ) → x ≡ p + y → y ≡ q + z → x + y + z ≡ p + 2 * q + 3 * z
+thrice x y z p q e f = omega arith
+
+pub steps : (base c e low high one two three : ℕ) → base ≤ load c 60 → low ≡ load c 60 → high ≡ load c 70 → one ≡ e - base → two ≡ e - low
+    → three ≡ e - high → one + two + three ≡ thermalWeight base c e
+steps base c e low high one two three b l h f g i =
     let rising : low ≤ high = omega (arith, l, h) in
-    rw (f, k, g, i, ← l, ← h) (above-both e low high (min e low - base) rising)
+    let under : base ≤ low = omega (arith, l) in
+    rw (f, g, i, ← l, ← h)
+    (thrice (e - base) (e - low) (e - high) (min e low - base) (min e high - low) (parted e base low under) (parted e low high rising))
+
+-- a baseline of up to 60 percent
+pub low-base : (c percent base : ℕ) → percent ≤ 60 → base ≡ load c percent → base ≤ load c 60
+low-base c percent base l is = omega (arith, is, mul-le-mul-left (c * 250) l)
 
 module _ (t : Terms) (r : Row) (e : ℕ) (is : e ≡ cond (payer t r) (r .metered .0) 0) where
   pub weight-of : (base w x : ℕ) → base ≡ baseline t (r .capacity) → w ≡ thermalWeight base (r .capacity) e

@@ -7,6 +7,7 @@ use units::Hao;
 use units::Kwh;
 use units::Li;
 ghost use mathlib.Core.Path.{_≡_};
+ghost use Prim.Native.Nat.{_≤_};
 ghost use Rattle.files.specs.Terms.{baseline};
 ghost use Rattle.duties.specs.Duty.{dutyOf};
 ghost use Rattle.duties.specs.Ranged.{Ranged};
@@ -63,7 +64,7 @@ pub fn baseline(terms: Terms, capacity: u16) -> Kwh
 
 // All of a row's figures.
 pub fn duty_of(terms: Terms, tariff: Hao, row: Row) -> Duty
-    requires { ⌜ Ranged row ⌝ }
+    requires { ⌜ Ranged row × (terms .percent ≤ 60) ⌝ }
     ensures { λ d. ⌜ d ≡ dutyOf terms (tariff .0) row ⌝ }
 {
     let bid1 = row.bid1;

@@ -11,6 +11,7 @@ use units::load;
 ghost use mathlib.Core.Path.{_≡_};
 ghost use mathlib.Core.Bool.{cond};
 ghost use Prim.Native.Nat.{_^_, _≤_};
+ghost use Rattle.units.specs.Load.{load};
 ghost use Rattle.duties.specs.Duty.{payer, thermalWeight, weight, cap};
 ghost use Rattle.duties.specs.Ranged.{Ranged};
 
@@ -37,20 +38,19 @@ fn counted(terms: Terms, row: Row) -> Kwh
 }
 
 // A thermal unit's energy above its baseline: once to 60 percent, twice to 70, three times above. What lies above 70
-// lies above 60 too and counts twice there, so that it is added once more.
+// percent lies above 60 and above the baseline too.
 pub fn thermal_weight(base: Kwh, capacity: u16, energy: Kwh) -> Kwh
-    requires { ⌜ energy .0 ≤ 2 ^ 30 ⌝ }
+    requires { ⌜ (energy .0 ≤ 2 ^ 30) × (base .0 ≤ load capacity 60) ⌝ }
     ensures { λ r. ⌜ r .0 ≡ thermalWeight (base .0) capacity (energy .0) ⌝ }
 {
     let low = load(capacity, SIXTY);
     let high = load(capacity, SEVENTY);
-    let once = energy.smaller(low).above(base);
-    Kwh(once.0 + 2 * energy.above(low).0 + energy.above(high).0)
+    Kwh(energy.above(base).0 + energy.above(low).0 + energy.above(high).0)
 }
 
 // The weight of a row, 0 for one that does not pay.
 pub fn weight(terms: Terms, row: Row) -> Kwh
-    requires { ⌜ Ranged row ⌝ }
+    requires { ⌜ Ranged row × (terms .percent ≤ 60) ⌝ }
     ensures { λ w. ⌜ w .0 ≡ weight terms row ⌝ }
 {
     let energy = counted(terms, row);

@@ -9,6 +9,7 @@
 --     tier-penalty-most     a tier's penalty at a call and a price of bounded size
 --     penalty-most          at most 100,000,000 fen for 250,000 kWh called in each tier at prices up to 1,000 li
 --     penalty-none          a row that delivered what it was called for in both tiers owes nothing
+--     penalty-free          the same by the test that the code makes
 --     li-to-fen             P11 of document 01: half a fen goes upward
 --     compensation-unique, penalty-unique     two results that the contract allows are equal
 use Prim.Native.Nat.{ℕ, _+_, _-_, _*_, _^_, _≤_, _<_}
@@ -17,7 +18,10 @@ use mathlib.Core.Logic.{⊎-elim}
 use mathlib.Core.List.{[], _∷_}
 use native.Mathlib.Nat.{le-refl, mul-le-mul, eq-zero-or-pos}
 use native.Mathlib.Omega.{arith}
-use borrow.Author.Tests.{lt-ltb, le-ltb}
+use mathlib.Core.Bool.{true, _&&_}
+use lib.Dec.{leb}
+use borrow.Author.Tests.{lt-ltb, le-ltb, leb-true}
+use Rattle.columns.proofs.First.{left-true, right-true}
 use Rattle.units.specs.Measure.{priced, toFen}
 use Rattle.columns.proofs.Unique.{One-result}
 use Rattle.pay.specs.Pay.{tierPay, compensation, tierPenalty, penalty}
@@ -87,6 +91,11 @@ module _ (call1 call2 delivered1 delivered2 price1 price2 : ℕ) where
       let free1 : (call1 - delivered1) * price1 ≡ 0 = rw none1 (omega arith) in
       let free2 : (call2 - delivered2) * price2 ≡ 0 = rw none2 (omega arith) in
       omega (arith, free1, free2)
+
+  pub penalty-free : leb call1 delivered1 && leb call2 delivered2 ≡ true → 0 ≡ penalty call1 call2 delivered1 delivered2 price1 price2
+  penalty-free e =
+      sym (penalty-none (leb-true call1 delivered1 (left-true (leb call1 delivered1) (leb call2 delivered2) e))
+      (leb-true call2 delivered2 (right-true (leb call1 delivered1) (leb call2 delivered2) e)))
 
 pub penalty-unique : One-result penalty-reads.Learnt
 penalty-unique κs a x y e f p q = ap (λ (m : ℕ). record { 0 = m }) (p ∙ sym q)

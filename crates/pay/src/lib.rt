@@ -53,7 +53,7 @@ fn tier_penalty(call: Kwh, delivered: Kwh, price: Li) -> Li
     once.plus(once)
 }
 
-// What a row owes for both tiers.
+// What a row owes for both tiers. Nearly all rows delivered what they were called for and are done at once.
 pub fn penalty(
     call1: Kwh,
     call2: Kwh,
@@ -65,6 +65,9 @@ pub fn penalty(
     requires { ⌜ (price1 .0 < 2 ^ 30) × (price2 .0 < 2 ^ 30) ⌝ }
     ensures { λ r. ⌜ r .0 ≡ penalty (call1 .0) (call2 .0) (delivered1 .0) (delivered2 .0) (price1 .0) (price2 .0) ⌝ }
 {
+    if (call1.0 <= delivered1.0) & (call2.0 <= delivered2.0) {
+        return Fen(0);
+    }
     let in1 = tier_penalty(call1, delivered1, price1);
     let in2 = tier_penalty(call2, delivered2, price2);
     together(in1, in2)

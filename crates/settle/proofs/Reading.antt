@@ -4,6 +4,7 @@
 --   source-inside, source-is, line-room, sofar-long     the next row's source is there and right, its line has room
 --   by-tariff      the lines by the head's tariff
 --   duty-put       a record of the fields of a row's duties is its line
+--   terms-low      the baseline is below 60 percent
 --   row-ranged, row-inside, row-read      of one row: it is in its ranges, and its line is that of its duties
 use Prim.Native.Nat.{ℕ, _+_, _≤_, _<_}
 use mathlib.Core.Path.{_≡_, refl, sym, ap, _∙_}
@@ -40,6 +41,10 @@ duty-put s t from id d w1 w2 e1 e2 w x1 x2 h1 h2 h3 h4 h5 h6 h7 made =
     ∙ (λ j. put s from
     (recordBytes letterL lineWidths
     (id ∷ h1 j ∷ h2 j ∷ h3 j ∷ h4 j ∷ h5 j ∷ d .cap .0 ∷ d .bid2 .0 ∷ d .bid1 .0 ∷ h6 j ∷ h7 j ∷ [])))
+
+pub terms-low : (s : List ℕ) (terms : Terms) → terms ≡ termsOf s → terms .percent ≤ 60
+unfolding termsOf
+terms-low s terms is = rw is (omega arith)
 
 module _ (n tariff : ℕ) (s k : List ℕ) (i : ℕ) (ok : verdictOf s k ≡ Accepted n) (l : i < n) (row : Row) (is : row ≡ countingRow s k i) where
   pub row-ranged : Ranged row

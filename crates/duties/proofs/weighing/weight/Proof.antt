@@ -1,6 +1,6 @@
 -- `duties::weight` meets its contract: the energy that counts, thermal energy by its bands.
 use borrow.Author.Needs.{needs}
-use Rattle.duties.proofs.Parts.{counted-le, weight-of}
+use Rattle.duties.proofs.Parts.{counted-le, low-base, weight-of}
 use Rattle.duties.proofs.weighing.weight.Statement.{statement}
 use Rattle.duties.proofs.weighing.weight.Tie as tie
 
@@ -11,7 +11,7 @@ baseline-requires : tie.Need-baseline-requires
 baseline-requires c κs = search needs
 
 thermal-weight-requires : tie.Need-thermal-weight-requires
-thermal-weight-requires c κs = search counted-le
+thermal-weight-requires c κs = (search counted-le, search low-base)
 
 or-requires : tie.Need-or-requires
 or-requires c κs = search needs

@@ -1,5 +1,5 @@
 -- `settle::rows::read_row` meets its contract: the line is that of the duties of the row that counts.
-use Rattle.settle.proofs.Reading.{row-ranged, row-inside, row-read}
+use Rattle.settle.proofs.Reading.{terms-low, row-ranged, row-inside, row-read}
 use borrow.Author.Needs.{needs}
 use Rattle.settle.proofs.rows.read_row.Statement.{statement}
 use Rattle.settle.proofs.rows.read_row.Tie as tie
@@ -11,7 +11,7 @@ terms-of-requires : tie.Need-terms-of-requires
 terms-of-requires c κs = search needs
 
 duty-of-requires : tie.Need-duty-of-requires
-duty-of-requires c κs = search row-ranged
+duty-of-requires c κs = (search row-ranged, search terms-low)
 
 put-duty-requires : tie.Need-put-duty-requires
 put-duty-requires c κs = (search row-inside, search needs)
