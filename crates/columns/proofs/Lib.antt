@@ -4,6 +4,7 @@ pub mod Table
 pub mod Whole
 pub mod Rank
 pub mod Fill
+pub mod Listed
 pub mod Mask
 pub mod Choice
 pub mod First

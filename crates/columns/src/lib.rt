@@ -4,7 +4,7 @@ ghost use mathlib.Core.Path.{_≡_};
 ghost use mathlib.Core.Bool.{cond};
 ghost use Prim.Native.Nat.{_+_, _-_, _/_, _^_, _<_, _≤_};
 ghost use lib.ListN.{length};
-ghost use Rattle.columns.specs.Sum.{whole};
+ghost use Rattle.columns.specs.Sum.{bit, whole};
 
 // A column's number with room to add up.
 pub fn wide(x: u32) -> u64
@@ -18,6 +18,20 @@ pub fn counted(t: bool, x: u32) -> u32
     ensures { λ r. ⌜ r ≡ cond t x 0 ⌝ }
 {
     x * (t as u32)
+}
+
+// 1 if a test passed.
+pub fn one_if(t: bool) -> usize
+    ensures { λ r. ⌜ (r ≡ bit t) × (r ≤ 1) ⌝ }
+{
+    t as usize
+}
+
+// A position, read from a list of them: it is below 256, so a byte holds it.
+pub fn position(i: u8) -> usize
+    ensures { λ r. ⌜ (r ≡ i) × (r < 256) ⌝ }
+{
+    i as usize
 }
 
 // The sum of a column.

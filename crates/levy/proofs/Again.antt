@@ -19,13 +19,14 @@ use native.Mathlib.Numerals.{add-one}
 use native.Mathlib.Omega.{arith}
 use lib.ListN.{length, take, replicate}
 use lib.Seq.{length-take-le}
+use Rattle.columns.specs.Lists.{Lists}
 use Rattle.columns.specs.Sum.{whole, countTo, sumWhere}
 use Rattle.columns.specs.Table.{at}
 use Rattle.columns.proofs.Sum.{sum-bound, count-le, count-zero}
 use Rattle.columns.proofs.Table.{table-is}
 use Rattle.levy.specs.Rounds.{Standing, isPayer, isOpen, opens, closes, closed, next, run, opening, final, visitsTold}
 use Rattle.levy.specs.Capped.{hasClosed}
-use Rattle.levy.specs.Asked.{standing, Levyable, Lists, Listed, Round, Shut, Ready, Ended, Countable, Finished}
+use Rattle.levy.specs.Asked.{standing, Levyable, Listed, Round, Shut, Ready, Ended, Countable, Finished}
 use Rattle.levy.specs.declared.Closed.{Closed}
 use Rattle.levy.proofs.Arrays.{zeros-at, zeros-are, take-replicate, drop-replicate}
 use Rattle.levy.proofs.Step.{Sound, sound-weight, closed-nobody, closed-somebody, closed-caps-le, closed-weights-le, next-sound, opening-sound}

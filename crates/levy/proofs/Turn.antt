@@ -20,6 +20,7 @@ use lib.Dec.{leb, ltb, eqb}
 use lib.ListN.{length, take, drop, set}
 use lib.Seq.{getD-set-other, getD-take, length-take-le, drop-set-lt}
 use borrow.Author.Tests.{eqb-true}
+use Rattle.columns.specs.Lists.{Lists}
 use Rattle.columns.specs.Sum.{bit, sumTo, countTo, sumWhere}
 use Rattle.columns.specs.Table.{at}
 use Rattle.columns.proofs.First.{left-true}
@@ -30,9 +31,9 @@ use Rattle.columns.proofs.Fill.{Reached, reached-none, reached-next, reached-sa
 use Rattle.columns.proofs.Mask.{where-next, where-bound, count-parts}
 use Rattle.columns.proofs.Rank.{test-or}
 use Rattle.levy.specs.Rounds.{Standing, isOpen, closes, next}
-use Rattle.levy.specs.Asked.{standing, Lists, Round, Shut}
+use Rattle.levy.specs.Asked.{standing, Round, Shut}
 use Rattle.levy.proofs.Step.{closed-is, open-parts}
-use Rattle.levy.proofs.Listed.{lists-none, lists-quiet, lists-next}
+use Rattle.columns.proofs.Listed.{lists-none, lists-quiet, lists-next}
 
 module _ (n : ℕ) (weights caps marks₀ : List ℕ) (money weight rounds : ℕ) (list₀ : List ℕ) where
   abbrev ws : List ℕ

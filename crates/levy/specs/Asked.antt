@@ -2,12 +2,13 @@
 -- 256; the numbers are those of the ranges, with room for what later requests need.
 use Prim.Native.Nat.{ℕ, _+_, _-_, _^_, _≤_, _<_}
 use mathlib.Core.Path.{_≡_}
-use mathlib.Core.Bool.{Bool, true, cond}
+use mathlib.Core.Bool.{cond}
 use mathlib.Core.List.{List}
 use lib.Dec.{eqb}
 use lib.ListN.{length, take, drop, replicate}
-use Rattle.columns.specs.Sum.{whole, countTo, sumWhere}
-use Rattle.columns.specs.Table.{at, Below}
+use Rattle.columns.specs.Lists.{Lists}
+use Rattle.columns.specs.Sum.{whole, sumWhere}
+use Rattle.columns.specs.Table.{at}
 use Rattle.share.specs.Share.{shares}
 use Rattle.levy.specs.Rounds.{Standing, isOpen, opens, closed, next, run, final, visits, openWeights, paid, shortfall, toCut, toReturn}
 use Rattle.levy.specs.declared.Closed.{Closed}
@@ -41,14 +42,7 @@ pub record Levyable (n : ℕ) (weights caps marks : List ℕ) (total : ℕ) : Ty
   pub held : Held n weights caps marks total
   pub blank : (i : ℕ) → at marks i ≡ 0
 
--- an array begins with the positions below n that pass a test, m of them in order: each stands at the place that is the number of
--- those before it
-pub record Lists (n : ℕ) (test : ℕ → Bool) (list : List ℕ) (m : ℕ) : Type 0 where
-  pub long : length list ≡ 256
-  pub many : m ≡ countTo n test
-  pub places : Below n (λ i. test i ≡ true → at list (countTo i test) ≡ i)
-
--- it begins with the open payers
+-- an array begins with the open payers, m of them in order
 abbrev pub Listed : ℕ → List ℕ → List ℕ → List ℕ → ℕ → Type 0
 Listed n weights marks list m = Lists n (isOpen (take n weights) (take n marks)) list m
 

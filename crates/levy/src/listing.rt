@@ -1,33 +1,19 @@
 // The list of open payers (02, request 12): their positions in order, so that a round looks at nobody else. A position is below
 // 256, so a byte holds it. Tests become numbers and not branches, since no processor can foresee who closes.
+use columns::one_if;
 use columns::wide;
 ghost use mathlib.Core.Path.{_≡_};
 ghost use mathlib.Core.Bool.{cond};
 ghost use Prim.Native.Nat.{_^_, _≤_, _<_};
 ghost use lib.ListN.{length, take};
-ghost use Rattle.columns.specs.Sum.{bit};
+ghost use Rattle.columns.specs.Lists.{Lists};
 ghost use Rattle.levy.specs.Rounds.{isPayer};
-ghost use Rattle.levy.specs.Asked.{Lists};
-
-// 1 if the test passed.
-pub fn one_if(t: bool) -> usize
-    ensures { λ r. ⌜ (r ≡ bit t) × (r ≤ 1) ⌝ }
-{
-    t as usize
-}
 
 // A figure that counts if the test passed, with room to add up.
 pub fn counted(t: bool, x: u32) -> u64
     ensures { λ r. ⌜ (r ≡ cond t x 0) × (r < 2 ^ 32) ⌝ }
 {
     wide(columns::counted(t, x))
-}
-
-// A position, read from the list.
-pub fn position(i: u8) -> usize
-    ensures { λ r. ⌜ (r ≡ i) × (r < 256) ⌝ }
-{
-    i as usize
 }
 
 // The list before the first round: whoever has weight. The result is how many they are.

@@ -4,6 +4,8 @@ pub mod Rests
 pub mod Laws
 pub mod Process
 pub mod Long
+pub mod Packed
 pub mod Steps
 pub mod Serving
+pub mod Lifting
 pub mod Handing

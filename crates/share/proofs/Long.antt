@@ -3,7 +3,7 @@
 --     carry-sum, carry-more, carry-over     one step: what comes to the remainder, with or without one for the quota
 --     twice-fits, digit-0, digit-1-ready, digit-1     one binary digit of the amount
 --     long-holds, long-ready, long-again, long-end    the loop over the digits
---     divided-none, divided-fits, divided-plain       the plain way
+--     divided-fits, divided-plain       the plain way
 --     quota-is, rest-is     there is one quota and one remainder
 use Prim.Native.Nat.{ℕ, suc, _+_, _-_, _*_, _/_, _%_, _^_, _≤_, _<_}
 use mathlib.Core.Path.{_≡_, ap, sym, _∙_}
@@ -15,6 +15,9 @@ use Rattle.columns.specs.Table.{at}
 use Rattle.share.specs.Share.{quota, rest}
 use Rattle.share.specs.declared.Division.{Division}
 use Rattle.share.specs.Steps.{Divided, Carries, Digits, Divisible}
+
+sum-some : (w W : ℕ) → Divisible w W → 0 < W
+sum-some w W c = omega (arith, c .some, c .most)
 
 -- a quota whose multiple is below m wholes is below m
 quota-fits : (q v W m : ℕ) → W * q ≤ v → v < W * m → q < m
@@ -64,7 +67,7 @@ digits a k w l = rw (← halved a k l) (last (a / 2 ^ (k - 1)))
     last x = let e : 2 * (x / 2) + x % 2 ≡ x = omega arith in omega (arith, ap (λ (y : ℕ). y * w) e)
 
 pub long-holds : (a w W : ℕ) → a < 2 ^ 64 → Divisible w W → Divided (a / 2 ^ 64 * w) W (record { quota = 0; rest = 0 })
-long-holds a w W f c = record { is = rw (div-eq-of-lt f) (omega arith); less = c .some }
+long-holds a w W f c = record { is = rw (div-eq-of-lt f) (omega arith); less = sum-some w W c }
 
 pub long-ready : (a w W k : ℕ) (d : Division) → a < 2 ^ 64 → Divisible w W → 0 < k → Divided (a / 2 ^ k * w) W d
     → Digits (d .quota) (d .rest) (a / 2 ^ (k - 1) % 2) w W
@@ -75,7 +78,7 @@ long-ready a w W k d f c l h =
       two = omega arith;
       fits =
           within (2 ^ 64) (h .is) (digits a k w l) (mul-le-mul (div-le-self a (2 ^ (k - 1))) (c .most))
-          (mul-lt-mul-of-pos-right f (c .some));
+          (mul-lt-mul-of-pos-right f (sum-some w W c));
     }
   where
     within : (m : ℕ) → W * d .quota + d .rest ≡ a / 2 ^ k * w → 2 * (a / 2 ^ k * w) + a / 2 ^ (k - 1) % 2 * w ≡ a / 2 ^ (k - 1) * w
@@ -94,14 +97,11 @@ long-end a w W k d l h =
 
 -- ---- the division
 
-pub divided-none : (a w W : ℕ) → w ≡ 0 → Divisible w W → Divided (a * w) W (record { quota = 0; rest = 0 })
-divided-none a w W e c = record { is = rw e (omega arith); less = c .some }
-
 pub divided-fits : (a w : ℕ) → a ≤ 18446744073709551615 / w → a * w < 2 ^ 64
 divided-fits a w l = omega (arith, mul-le-mul l (le-refl w), div-mul-le-self 18446744073709551615 w)
 
 pub divided-plain : (a w W : ℕ) → Divisible w W → Divided (a * w) W (record { quota = a * w / W; rest = a * w % W })
-divided-plain a w W c = record { is = div-add-mod (a * w) W; less = mod-lt (a * w) (c .some) }
+divided-plain a w W c = record { is = div-add-mod (a * w) W; less = mod-lt (a * w) (sum-some w W c) }
 
 -- there is one quota and one remainder
 pub quota-is : (v W : ℕ) (d : Division) → Divided v W d → d .quota ≡ v / W

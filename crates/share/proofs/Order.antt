@@ -1,5 +1,6 @@
 -- The order of service as one number for each position, its key: the smaller key is served first.
 --     turn-late, turn-early     the turn of a position from `first` on, and of one before it
+--     turn-front                the second also where turns begin past the last position
 --     turn-lt, turn-apart       turns are below n, and no two positions have the same
 --     key-apart                 no two positions have the same key
 --     before-key                standing before is having the smaller key
@@ -27,20 +28,23 @@ turn-late n first i h l =
     mod-eq-sub-mod {n = i + n - first} {m = n} (omega arith)
     ∙ (let e : i + n - first - n ≡ i - first = omega arith in rw e (mod-eq-of-lt (omega arith)))
 
-pub turn-early : (n first i : ℕ) → i < first → first < n → turn n first i ≡ i + n - first
+pub turn-front : (n first i : ℕ) → i < first → first ≤ n → turn n first i ≡ i + n - first
 unfolding turn
-turn-early n first i h l = mod-eq-of-lt (omega arith)
+turn-front n first i h l = mod-eq-of-lt (omega arith)
+
+pub turn-early : (n first i : ℕ) → i < first → first < n → turn n first i ≡ i + n - first
+turn-early n first i h l = turn-front n first i h (omega arith)
 
 pub turn-lt : (n first i : ℕ) → 0 < n → turn n first i < n
 unfolding turn
 turn-lt n first i h = mod-lt (i + n - first) h
 
-pub turn-apart : (n first : ℕ) → first < n → (i j : ℕ) → i < n → j < n → turn n first i ≡ turn n first j → i ≡ j
+pub turn-apart : (n first : ℕ) → first ≤ n → (i j : ℕ) → i < n → j < n → turn n first i ≡ turn n first j → i ≡ j
 turn-apart n first h i j k l e =
     ⊎-elim
-    (λ (p : i < first). ⊎-elim (λ (q : j < first). omega (arith, turn-early n first i p h, turn-early n first j q h))
-    (λ (q : first ≤ j). omega (arith, turn-early n first i p h, turn-late n first j q l)) (lt-or-le j first))
-    (λ (p : first ≤ i). ⊎-elim (λ (q : j < first). omega (arith, turn-late n first i p k, turn-early n first j q h))
+    (λ (p : i < first). ⊎-elim (λ (q : j < first). omega (arith, turn-front n first i p h, turn-front n first j q h))
+    (λ (q : first ≤ j). omega (arith, turn-front n first i p h, turn-late n first j q l)) (lt-or-le j first))
+    (λ (p : first ≤ i). ⊎-elim (λ (q : j < first). omega (arith, turn-late n first i p k, turn-front n first j q h))
     (λ (q : first ≤ j). omega (arith, turn-late n first i p k, turn-late n first j q l)) (lt-or-le j first))
     (lt-or-le i first)
 
@@ -91,7 +95,7 @@ module _ (a : ℕ) (ws : List ℕ) (first : ℕ) (some : 0 < whole ws) (inside :
   pub key-apart : Apart (length ws) (key a ws first)
   unfolding key
   key-apart i j k l e =
-      turn-apart (length ws) first inside i j k l
+      turn-apart (length ws) first (omega arith) i j k l
       (standing-turn (whole ws) (length ws) (rest a ws i) (turn (length ws) first i) (rest a ws j) (turn (length ws) first j)
       (turn-lt (length ws) first i (omega arith)) (turn-lt (length ws) first j (omega arith)) e)
 

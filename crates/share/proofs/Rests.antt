@@ -4,6 +4,7 @@
 --     row, rest-lt    the product taken apart: whole * quota + rest, and the rest is below the whole
 --     quotas-le, left-is      the quotas sum to at most the amount, and to the amount with what they leave
 --     left-le         at most one for each position is left
+--     left-some       at most one for each position with a remainder
 --     rest-none       without a remainder a position is not among the first to be served
 --     share-is        the share where a weight is above 0
 --     over, short     the share is off by less than one
@@ -79,7 +80,7 @@ module _ (a : ℕ) (ws : List ℕ) (some : 0 < whole ws) where
       (omega (arith, left-rests, sum-bound (length ws) (whole ws) (rest a ws) (λ i l. omega (arith, rest-lt i)))) some
 
   -- no more are left than there are positions with a remainder
-  left-some : left a ws ≤ countTo (length ws) (λ i. ltb 0 (rest a ws i))
+  pub left-some : left a ws ≤ countTo (length ws) (λ i. ltb 0 (rest a ws i))
   unfolding countTo
   left-some =
       le-of-mul-le-mul-left {k = whole ws}

@@ -1,41 +1,36 @@
--- What is left goes out: the line found by halving, and the pass over turns. Each law has the shape of one fact that the code asks for.
+-- Who is served: the line found by halving, and the pass over turns. Each law has the shape of one fact that the code asks for.
 --     reach-next, reach-fits, reach-end     the count of those who reach k
 --     Halved, halved-none, halved-low, halved-high     the search for the line
 --     line-exact, line-last     its two ends
 --     before-line               to be served by the line is to be among the first `left` by the order of service
---     liftable, lifted-all      where nobody at the line is served: one more to all above it
---     lifted-fits, lifted-next, lifted-end     the loop that gives it
---     turned-on, turned-round   the position of a turn
---     Handed, handed-none, handed-inside, handed-fits, met-fits, handed-next, handed-all     the pass
+--     start-none, start-next, start-end      the place in the list where turns begin
+--     turned-on, turned-round   the place of a turn
+--     Handed, handed-none, met-fits, handed-next, handed-all     the pass
 use Prim.Native.Nat.{ℕ, _+_, _-_, _^_, _≤_, _<_}
 use mathlib.Core.Path.{_≡_, refl, ap, sym, _∙_}
 use mathlib.Core.Logic.{_⊎_, inl, inr, ⊎-elim}
-use mathlib.Core.Bool.{Bool, true, false, cond, _&&_, _||_}
+use mathlib.Core.Bool.{Bool, true, false, cond, _&&_}
 use mathlib.Core.List.{List}
 use native.Mathlib.Omega.{arith}
 use lib.Dec.{ltb, leb, eqb}
-use lib.ListN.{length, set, length-set, List·getD-eq-default}
+use lib.ListN.{length, set, length-set}
 use lib.Seq.{getD-set-same, getD-set-other}
 use borrow.Author.Tests.{lt-ltb, le-ltb, le-leb, lt-leb, leb-true, eq-eqb, ne-eqb, eqb-true, eqb-false}
 use mir.Val.{boolByte}
 use Rattle.columns.specs.Sum.{bit, sumTo, countTo}
-use Rattle.columns.specs.Table.{at, table}
+use Rattle.columns.specs.Table.{at, table, Below}
 use Rattle.columns.proofs.Sum.{lt-or-le, sum-same, sum-add, sum-le, bit-le, count-next, count-le, count-none, count-all, count-sub, count-some}
 use Rattle.columns.proofs.Rank.{test-or, ltb-same, count-one}
 use Rattle.columns.proofs.First.{right-true}
-use Rattle.columns.proofs.Fill.{Reached, reached-now, reached-next, reached-all}
-use Rattle.columns.proofs.Table.{table-same, table-is}
+use Rattle.columns.proofs.Table.{table-is}
+use Rattle.columns.proofs.Listed.{one-is}
 use Rattle.share.specs.Share.{turn}
-use Rattle.share.specs.Steps.{goesBefore, place, raised, lifted, reach, Served, Serving, Handable, Liftable}
-use Rattle.share.proofs.Order.{turn-early, turn-late, turn-lt, turn-apart}
+use Rattle.share.specs.Steps.{goesBefore, place, marked, reach, startIn, Served, Serving, Turning}
+use Rattle.share.proofs.Order.{turn-front, turn-late, turn-lt, turn-apart}
 
 and-true : (b : Bool) → bit (b && true) ≡ bit b
 and-true true = refl
 and-true false = refl
-
-byte-bit : (b : Bool) → boolByte b ≡ bit b
-byte-bit true = refl
-byte-bit false = refl
 
 -- a test that passes at position i alone is counted there
 count-there : (n : ℕ) (p : ℕ → Bool) (i : ℕ) → i < n → ((j : ℕ) → j < n → p j ≡ true → j ≡ i) → countTo n p ≡ bit (p i)
@@ -53,12 +48,12 @@ count-there n p i l h =
 
 pub reach-next : (rs : List ℕ) (k i count : ℕ) → count ≡ countTo i (λ j. leb k (at rs j))
     → count + boolByte (leb k (at rs i)) ≡ countTo (i + 1) (λ j. leb k (at rs j))
-reach-next rs k i count e = omega (arith, byte-bit (leb k (at rs i)), count-next i (λ j. leb k (at rs j)))
+reach-next rs k i count e = omega (arith, one-is (leb k (at rs i)), count-next i (λ j. leb k (at rs j)))
 
 pub reach-fits : (rs : List ℕ) (k i count : ℕ) → length rs ≤ 256 → i < length rs → count ≡ countTo i (λ j. leb k (at rs j))
     → count + boolByte (leb k (at rs i)) < 2 ^ 64
 reach-fits rs k i count h l e =
-    omega (arith, byte-bit (leb k (at rs i)), bit-le (leb k (at rs i)), count-le i (λ j. leb k (at rs j)))
+    omega (arith, one-is (leb k (at rs i)), bit-le (leb k (at rs i)), count-le i (λ j. leb k (at rs j)))
 
 pub reach-end : (rs : List ℕ) (k i count : ℕ) → i ≤ length rs → length rs ≤ i → count ≡ countTo i (λ j. leb k (at rs j)) → count ≡ reach rs k
 unfolding reach
@@ -187,65 +182,31 @@ module _ (rs : List ℕ) (first left low ties : ℕ) (line : Served rs left low 
       (λ (o : passed rs first low (turn (length rs) first i) < ties). omega (arith, place-equal e, line .is))
       (λ (o : place rs first i < left). omega (arith, place-equal e, line .is)))) (lt-or-le (at rs i) low)) (lt-or-le low (at rs i))
 
--- ---- where nobody at the line is served
+-- ---- where turns begin
 
--- then to be served is to be above it
-lifted-raised : (qs rs : List ℕ) (first left low : ℕ) → Served rs left low 0 → (i : ℕ) → i < length rs
-    → lifted qs rs low i ≡ raised qs rs first left i
-unfolding lifted raised
-lifted-raised qs rs first left low line i l =
-    ap (λ (b : Bool). at qs i + bit b)
-    (above (ltb low (at rs i)) (eqb (at rs i) low) (passed rs first low (turn (length rs) first i)) ∙ before-line rs first left low 0 line i l)
-  where
-    above : (b c : Bool) (t : ℕ) → b ≡ (b || (c && ltb t 0))
-    above true c t = refl
-    above false true t = sym (le-ltb t 0 (omega arith))
-    above false false t = refl
+pub start-none : (list : List ℕ) (first : ℕ) → 0 ≡ startIn list 0 first
+unfolding startIn countTo sumTo
+start-none list first = refl
 
-module _ (qs rs : List ℕ) (W first left low ties : ℕ) (line : Served rs left low ties) (none : ties ≡ 0) where
-  exact : Served rs left low 0
-  exact = rw none at line
+pub start-next : (list : List ℕ) (first j count x b : ℕ) → count ≡ startIn list j first → x ≡ at list j → b ≡ bit (ltb x first)
+    → count + b ≡ startIn list (j + 1) first
+unfolding startIn
+start-next list first j count x b e x-is b-is =
+    omega (arith, e, b-is, ap (λ (y : ℕ). bit (ltb y first)) x-is, count-next j (λ k. ltb (at list k) first))
 
-  pub liftable : Handable qs rs W first left → Liftable qs rs low
-  unfolding lifted
-  liftable h =
-      record {
-        room = h .room;
-        fits =
-            λ i. ⊎-elim (λ (l : i < length rs). rw (lifted-raised qs rs first left low exact i l) (h .fits i))
-            (λ (l : length rs ≤ i). let end : length qs ≤ i = omega (arith, h .room) in
-            omega (arith, List·getD-eq-default qs 0 end, bit-le (ltb low (at rs i)))) (lt-or-le i (length rs));
-      }
-
-  pub lifted-all : (xs : List ℕ) → xs ≡ table (length rs) (lifted qs rs low) → xs ≡ table (length rs) (raised qs rs first left)
-  lifted-all xs e = e ∙ table-same (length rs) (lifted qs rs low) (raised qs rs first left) (λ i l. lifted-raised qs rs first left low exact i l)
-
-module _ (qs rs : List ℕ) (low : ℕ) (xs : List ℕ) (i : ℕ) (good : Liftable qs rs low) (r : Reached 0 (lifted qs rs low) qs xs i) where
-  lifted-now : at xs i + boolByte (ltb low (at rs i)) ≡ lifted qs rs low i
-  unfolding lifted
-  lifted-now = omega (arith, byte-bit (ltb low (at rs i)), reached-now 0 (lifted qs rs low) qs xs i r)
-
-  pub lifted-fits : at xs i + boolByte (ltb low (at rs i)) < 2 ^ 64
-  lifted-fits = omega (arith, lifted-now, good .fits i)
-
-  pub lifted-next : i < length rs → Reached 0 (lifted qs rs low) qs (set xs i (at xs i + boolByte (ltb low (at rs i)))) (i + 1)
-  lifted-next l =
-      reached-next 0 (lifted qs rs low) qs xs i (at xs i + boolByte (ltb low (at rs i))) r (omega (arith, r .room, good .room)) lifted-now
-
-  pub lifted-end : length rs ≤ i → xs ≡ table (length rs) (lifted qs rs low)
-  lifted-end l =
-      reached-all 0 (lifted qs rs low) qs xs i r (omega (arith, r .room, good .room)) ∙ ap (λ (n : ℕ). table n (lifted qs rs low)) (good .room)
+pub start-end : (list : List ℕ) (first j m count : ℕ) → j ≤ m → m ≤ j → count ≡ startIn list j first → count ≡ startIn list m first
+start-end list first j m count l q e = let n : j ≡ m = omega arith in rw (← n) e
 
 -- ---- the pass over turns
 
 pub turned-on : (n first t : ℕ) → first + t < n → turn n first (first + t) ≡ t
 turned-on n first t l = omega (arith, turn-late n first (first + t) (omega arith) l)
 
-pub turned-round : (n first t : ℕ) → first < n → t < n → n ≤ first + t → turn n first (first + t - n) ≡ t
-turned-round n first t h l m = omega (arith, turn-early n first (first + t - n) (omega arith) h)
+pub turned-round : (n first t : ℕ) → first ≤ n → t < n → n ≤ first + t → turn n first (first + t - n) ≡ t
+turned-round n first t h l m = omega (arith, turn-front n first (first + t - n) (omega arith) h)
 
 -- equal remainders met before turn t + 1 are those met before turn t, and the one at the position of turn t
-passed-next : (rs : List ℕ) (first k t i : ℕ) → first < length rs → i < length rs → turn (length rs) first i ≡ t
+passed-next : (rs : List ℕ) (first k t i : ℕ) → first ≤ length rs → i < length rs → turn (length rs) first i ≡ t
     → passed rs first k (t + 1) ≡ passed rs first k t + bit (eqb (at rs i) k)
 unfolding passed
 passed-next rs first k t i inside l e =
@@ -272,90 +233,78 @@ passed-next rs first k t i inside l e =
         (eqb-true (turn (length rs) first j) t (right-true (eqb (at rs j) k) (eqb (turn (length rs) first j) t) o) ∙ sym e))
         ∙ rw (e, eq-eqb t t refl) (and-true (eqb (at rs i) k))
 
--- before turn t: whoever has had its turn has what is due, and `met` equal remainders were met
-pub record Handed (qs rs : List ℕ) (first left low t met : ℕ) (xs : List ℕ) : Type 0 where
+-- before turn t: whoever has had its turn is marked, and `met` equal remainders were met
+pub record Handed (rs : List ℕ) (start left low t met : ℕ) (xs : List ℕ) : Type 0 where
   pub within : t ≤ length rs
   pub room : length xs ≡ length rs
-  pub met-is : met ≡ passed rs first low t
-  pub is : (i : ℕ) → i < length rs → at xs i ≡ at qs i + cond (ltb (turn (length rs) first i) t) (bit (ltb (place rs first i) left)) 0
+  pub met-is : met ≡ passed rs start low t
+  pub is : Below (length rs) (λ j. at xs j ≡ cond (ltb (turn (length rs) start j) t) (marked rs start left j) (at rs j))
 
-module _ (qs rs : List ℕ) (W first left low ties : ℕ) (good : Handable qs rs W first left) where
-  pub handed-none : Handed qs rs first left low 0 0 qs
+module _ (rs : List ℕ) (start left low ties : ℕ) (good : Turning rs start left low ties) where
+  pub handed-none : Handed rs start left low 0 0 rs
   unfolding passed
   handed-none =
       record {
         within = omega arith;
-        room = good .room;
+        room = refl;
         met-is =
-            sym (count-none (length rs) (λ j. eqb (at rs j) low && ltb (turn (length rs) first j) 0)
-            (λ j l. none (eqb (at rs j) low) (turn (length rs) first j)));
-        is = λ i l. rw (le-ltb (turn (length rs) first i) 0 (omega arith)) (omega arith);
+            sym (count-none (length rs) (λ j. eqb (at rs j) low && ltb (turn (length rs) start j) 0)
+            (λ j l. none (eqb (at rs j) low) (turn (length rs) start j)));
+        is = λ j l. rw (le-ltb (turn (length rs) start j) 0 (omega arith));
       }
     where
       none : (b : Bool) (u : ℕ) → b && ltb u 0 ≡ false
       none true u = le-ltb u 0 (omega arith)
       none false u = refl
 
-  pub handed-inside : (t : ℕ) → t < length rs → first < length rs
-  handed-inside t l = good .inside (omega arith)
+  module _ (t met : ℕ) (xs : List ℕ) (h : Handed rs start left low t met xs) where
+    pub met-fits : (b : Bool) → met + boolByte b < 2 ^ 64
+    met-fits b = omega (arith, h .met-is, passed-le rs start low t, one-is b, bit-le b, good .short)
 
-  module _ (line : Served rs left low ties) (t met i : ℕ) (xs : List ℕ) (h : Handed qs rs first left low t met xs)
-      (l : i < length rs) (e : turn (length rs) first i ≡ t) where
-    -- what the position of turn t has had so far, and what it gets
-    before-turn : at xs i ≡ at qs i
-    before-turn =
-        omega (
-          arith,
-          h .is i l,
-          ap (λ (b : Bool). cond b (bit (ltb (place rs first i) left)) 0) (le-ltb (turn (length rs) first i) t (omega arith)),
-        )
+    pub handed-all : length rs ≤ t → xs ≡ table (length rs) (marked rs start left)
+    handed-all m =
+        table-is 0 xs (length rs) (marked rs start left) (h .room)
+        (λ j l. h .is j l ∙ rw (lt-ltb (turn (length rs) start j) t (omega (arith, turn-lt (length rs) start j (omega arith)))))
 
-    due : (b : Bool) → b ≡ goesBefore (at rs i) met low ties → boolByte b ≡ bit (ltb (place rs first i) left)
-    due b f =
-        byte-bit b ∙ ap bit (f ∙ ap (λ (m : ℕ). goesBefore (at rs i) m low ties) (h .met-is ∙ ap (passed rs first low) (sym e))
-        ∙ before-line rs first left low ties line i l)
+    module _ (j : ℕ) (l : j < length rs) (e : turn (length rs) start j ≡ t) where
+      -- what stands at the place of turn t is still its remainder
+      before-turn : at xs j ≡ at rs j
+      before-turn = h .is j l ∙ rw (e, le-ltb t t (omega arith))
 
-    pub handed-fits : (b : Bool) → b ≡ goesBefore (at rs i) met low ties → at xs i + boolByte b < 2 ^ 64
-    unfolding raised
-    handed-fits b f = omega (arith, before-turn, due b f, good .fits i)
+      pub handed-next : (b : Bool) → b ≡ goesBefore (at xs j) met low ties
+          → Handed rs start left low (t + 1) (met + boolByte (eqb (at xs j) low)) (set xs j (boolByte b))
+      handed-next b f =
+          record {
+            within = omega (arith, turn-lt (length rs) start j (omega arith));
+            room = length-set xs j (boolByte b) ∙ h .room;
+            met-is =
+                rw before-turn
+                (omega (arith, h .met-is, one-is (eqb (at rs j) low), passed-next rs start low t j (good .inside) l e));
+            is = λ k m. each k m (test-or (eqb k j));
+          }
+        where
+          due : boolByte b ≡ marked rs start left j
+          due =
+              unfold marked in
+              one-is b .0
+              ∙ ap bit (f ∙ (λ i. goesBefore (before-turn i) ((h .met-is ∙ ap (passed rs start low) (sym e)) i) low ties)
+              ∙ before-line rs start left low ties (good .line) j l)
 
-    pub handed-next : (b : Bool) → b ≡ goesBefore (at rs i) met low ties
-        → Handed qs rs first left low (t + 1) (met + boolByte (eqb (at rs i) low)) (set xs i (at xs i + boolByte b))
-    handed-next b f =
-        record {
-          within = omega (arith, turn-lt (length rs) first i (omega arith));
-          room = length-set xs i (at xs i + boolByte b) ∙ h .room;
-          met-is = omega (arith, h .met-is, byte-bit (eqb (at rs i) low), passed-next rs first low t i (good .inside (omega arith)) l e);
-          is = λ j m. each j m (test-or (eqb j i));
-        }
-      where
-        -- no other position has turn t
-        later : (j : ℕ) → j < length rs → (j ≡ i → ⊥) → ltb (turn (length rs) first j) t ≡ ltb (turn (length rs) first j) (t + 1)
-        later j m apart =
-            ltb-same (turn (length rs) first j) t (turn (length rs) first j) (t + 1) (λ o. omega arith)
-            (λ (o : turn (length rs) first j < t + 1). ⊎-elim (λ (p : turn (length rs) first j < t). p)
-            (λ (p : t ≤ turn (length rs) first j).
-            absurd (apart (turn-apart (length rs) first (good .inside (omega arith)) j i m l (omega arith))))
-            (lt-or-le (turn (length rs) first j) t))
+          -- no other place has turn t
+          later : (k : ℕ) → k < length rs → (k ≡ j → ⊥) → ltb (turn (length rs) start k) t ≡ ltb (turn (length rs) start k) (t + 1)
+          later k m apart =
+              ltb-same (turn (length rs) start k) t (turn (length rs) start k) (t + 1) (λ o. omega arith)
+              (λ (o : turn (length rs) start k < t + 1). ⊎-elim (λ (p : turn (length rs) start k < t). p)
+              (λ (p : t ≤ turn (length rs) start k).
+              absurd (apart (turn-apart (length rs) start (good .inside) k j m l (omega arith))))
+              (lt-or-le (turn (length rs) start k) t))
 
-        each : (j : ℕ) → j < length rs → (eqb j i ≡ true) ⊎ (eqb j i ≡ false) → at (set xs i (at xs i + boolByte b)) j
-            ≡ at qs j + cond (ltb (turn (length rs) first j) (t + 1)) (bit (ltb (place rs first j) left)) 0
-        each j m (inl s) =
-            let same : j ≡ i = eqb-true j i s in
-            rw (same, e, lt-ltb t (t + 1) (omega arith))
-            (getD-set-same xs i (at xs i + boolByte b) 0 (omega (arith, h .room)) ∙ omega (arith, before-turn, due b f))
-        each j m (inr s) =
-            let apart : j ≡ i → ⊥ = eqb-false j i s in
-            getD-set-other xs i j (at xs i + boolByte b) 0 apart ∙ h .is j m
-            ∙ ap (λ (c : Bool). at qs j + cond c (bit (ltb (place rs first j) left)) 0) (later j m apart)
-
-  pub met-fits : (t met i : ℕ) (xs : List ℕ) → Handed qs rs first left low t met xs → met + boolByte (eqb (at rs i) low) < 2 ^ 64
-  met-fits t met i xs h =
-      omega (arith, h .met-is, passed-le rs first low t, byte-bit (eqb (at rs i) low), bit-le (eqb (at rs i) low), good .serving .short)
-
-  pub handed-all : (t met : ℕ) (xs : List ℕ) → Handed qs rs first left low t met xs → length rs ≤ t
-      → xs ≡ table (length rs) (raised qs rs first left)
-  unfolding raised
-  handed-all t met xs h m =
-      table-is 0 xs (length rs) (raised qs rs first left) (h .room)
-      (λ i l. h .is i l ∙ rw (lt-ltb (turn (length rs) first i) t (omega (arith, turn-lt (length rs) first i (omega arith)))))
+          each : (k : ℕ) → k < length rs → (eqb k j ≡ true) ⊎ (eqb k j ≡ false)
+              → at (set xs j (boolByte b)) k ≡ cond (ltb (turn (length rs) start k) (t + 1)) (marked rs start left k) (at rs k)
+          each k m (inl s) =
+              let same : k ≡ j = eqb-true k j s in
+              rw (same, e, lt-ltb t (t + 1) (omega arith)) (getD-set-same xs j (boolByte b) 0 (omega (arith, h .room)) ∙ due)
+          each k m (inr s) =
+              let apart : k ≡ j → ⊥ = eqb-false k j s in
+              getD-set-other xs j k (boolByte b) 0 apart ∙ h .is k m
+              ∙ ap (λ (c : Bool). cond c (marked rs start left k) (at rs k)) (later k m apart)

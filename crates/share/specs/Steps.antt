@@ -5,10 +5,10 @@ use mathlib.Core.Bool.{Bool, true, _&&_, _||_}
 use mathlib.Core.List.{List}
 use lib.Dec.{ltb, leb, eqb}
 use lib.ListN.{length}
-use Rattle.columns.specs.Sum.{bit, countTo}
-use Rattle.columns.specs.Table.{at, table}
-use Rattle.columns.specs.Sum.{whole}
-use Rattle.share.specs.Share.{quota, rest, turn}
+use Rattle.columns.specs.Lists.{Lists}
+use Rattle.columns.specs.Sum.{bit, countTo, whole}
+use Rattle.columns.specs.Table.{at, table, Below}
+use Rattle.share.specs.Share.{quota, rest, turn, left}
 use Rattle.share.specs.declared.Division.{Division}
 
 -- v divided by W: the quota, and a remainder below W
@@ -29,26 +29,44 @@ pub record Digits (q r digit w W : ℕ) : Type 0 where
   pub two : digit < 2
   pub fits : 2 * (W * q + r) + digit * w < W * 2 ^ 64
 
--- a weight, and the sum that it is part of
+-- a weight above 0, and the sum that it is part of
 pub record Divisible (w W : ℕ) : Type 0 where
-  pub some : 0 < W
+  pub some : 0 < w
   pub most : w ≤ W
 
 -- if it is said that the product fits 64 bits, it does
 abbrev pub Plain : Bool → ℕ → ℕ → Type 0
 Plain plain a w = plain ≡ true → a * w < 2 ^ 64
 
--- the sum of the weights, above 0, and two columns as long as theirs
-pub record Quotable (ws qs rs : List ℕ) (W : ℕ) : Type 0 where
+-- position i has weight
+unfoldable pub weighs : List ℕ → ℕ → Bool
+weighs ws i = ltb 0 (at ws i)
+
+-- the place of position i in the list of those of weight
+abbrev pub entry : List ℕ → ℕ → ℕ
+entry ws i = countTo i (weighs ws)
+
+-- quota and remainder of the position that stands at place j of the list
+unfoldable pub listedQuota : ℕ → List ℕ → List ℕ → ℕ → ℕ
+listedQuota a ws list j = quota a ws (at list j)
+
+unfoldable pub listedRest : ℕ → List ℕ → List ℕ → ℕ → ℕ
+listedRest a ws list j = rest a ws (at list j)
+
+-- the sum of the weights, above 0, a blank column as long as theirs, and room for as many remainders as there are listed positions
+pub record Quotable (ws qs rs list : List ℕ) (W : ℕ) : Type 0 where
+  pub short : length ws ≤ 256
   pub is : W ≡ whole ws
   pub some : 0 < W
-  pub quotas-room : length qs ≡ length ws
-  pub rests-room : length rs ≡ length ws
+  pub room : length qs ≡ length ws
+  pub blank : (i : ℕ) → at qs i ≡ 0
+  pub listed : Lists (length ws) (weighs ws) list (length rs)
 
--- the columns of quotas and of remainders
-pub record Quoted (a : ℕ) (ws qs rs : List ℕ) : Type 0 where
+-- the column of quotas, the remainders of the m listed positions, and what is left of the amount
+pub record Quoted (a : ℕ) (ws list : List ℕ) (m : ℕ) (qs rs : List ℕ) (remains : ℕ) : Type 0 where
   pub quotas : qs ≡ table (length ws) (quota a ws)
-  pub rests : rs ≡ table (length ws) (rest a ws)
+  pub rests : rs ≡ table m (listedRest a ws list)
+  pub leaves : remains ≡ left a ws
 
 -- remainder r at turn t is served before remainder s at turn u
 abbrev pub goesBefore : ℕ → ℕ → ℕ → ℕ → Bool
@@ -59,9 +77,9 @@ unfoldable pub place : List ℕ → ℕ → ℕ → ℕ
 place rs first i =
     countTo (length rs) (λ j. goesBefore (at rs j) (turn (length rs) first j) (at rs i) (turn (length rs) first i))
 
--- what position i has with one more if it is among the first `left` to be served
-unfoldable pub raised : List ℕ → List ℕ → ℕ → ℕ → ℕ → ℕ
-raised qs rs first left i = at qs i + bit (ltb (place rs first i) left)
+-- 1 for the remainder at place j if it is among the first `left` to be served
+unfoldable pub marked : List ℕ → ℕ → ℕ → ℕ → ℕ
+marked rs first left j = bit (ltb (place rs first j) left)
 
 -- how many remainders reach k
 unfoldable pub reach : List ℕ → ℕ → ℕ
@@ -78,21 +96,39 @@ pub record Serving (rs : List ℕ) (W left : ℕ) : Type 0 where
   pub under : (i : ℕ) → at rs i < W
   pub enough : left ≤ length rs
 
--- quotas and remainders of one length, over which what is left can go out
-pub record Handable (qs rs : List ℕ) (W first left : ℕ) : Type 0 where
+-- where the line is, with turns that begin at place `start`
+pub record Turning (rs : List ℕ) (start left low ties : ℕ) : Type 0 where
+  pub short : length rs ≤ 256
+  pub inside : start ≤ length rs
+  pub line : Served rs left low ties
+
+-- the place of the list where turns begin: how many positions before `first` stand in it
+unfoldable pub startIn : List ℕ → ℕ → ℕ → ℕ
+startIn list m first = countTo m (λ j. ltb (at list j) first)
+
+-- what position i has with one more if it has weight and its remainder, by the list, is among the first `left` to be served
+unfoldable pub raised : List ℕ → List ℕ → List ℕ → List ℕ → ℕ → ℕ → ℕ → ℕ
+raised ws qs rs list first left i =
+    at qs i + bit (weighs ws i && ltb (place rs (startIn list (length rs) first) (entry ws i)) left)
+
+-- quotas, and the remainders of the list, over which what is left can go out
+pub record Handable (ws qs rs list : List ℕ) (W first left : ℕ) : Type 0 where
   pub serving : Serving rs W left
-  pub room : length qs ≡ length rs
-  pub inside : 0 < length rs → first < length rs
-  pub fits : (i : ℕ) → raised qs rs first left i < 2 ^ 64
+  pub short : length ws ≤ 256
+  pub room : length qs ≡ length ws
+  pub listed : Lists (length ws) (weighs ws) list (length rs)
+  pub fits : Below (length ws) (λ i. raised ws qs rs list first left i < 2 ^ 64)
 
--- what position i has with one more if its remainder is above `low`
-unfoldable pub lifted : List ℕ → List ℕ → ℕ → ℕ → ℕ
-lifted qs rs low i = at qs i + bit (ltb low (at rs i))
+-- what position i has with one more if it has weight and its remainder, by the list, is above `low`
+unfoldable pub lifted : List ℕ → List ℕ → List ℕ → ℕ → ℕ → ℕ
+lifted ws qs rs low i = at qs i + bit (weighs ws i && ltb low (at rs (entry ws i)))
 
--- quotas and remainders of one length, over which it can go out
-pub record Liftable (qs rs : List ℕ) (low : ℕ) : Type 0 where
-  pub room : length qs ≡ length rs
-  pub fits : (i : ℕ) → lifted qs rs low i < 2 ^ 64
+-- quotas, and the remainders of the list, over which it can go out
+pub record Liftable (ws qs rs list : List ℕ) (low : ℕ) : Type 0 where
+  pub short : length ws ≤ 256
+  pub room : length qs ≡ length ws
+  pub listed : Lists (length ws) (weighs ws) list (length rs)
+  pub fits : Below (length ws) (λ i. lifted ws qs rs low i < 2 ^ 64)
 
 -- 0 for every position
 unfoldable pub nothing : ℕ → ℕ

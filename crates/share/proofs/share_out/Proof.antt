@@ -1,17 +1,11 @@
 -- `share::share_out` meets its contract: where the quotas leave nothing they are the shares.
-use Rattle.share.proofs.Handing.{quotas-fit, quotas-under, none-left, handable, handed}
+use Rattle.share.proofs.Handing.{none-left, handable, handed}
 use borrow.Author.Needs.{needs}
 use Rattle.share.proofs.share_out.Statement.{statement}
 use Rattle.share.proofs.share_out.Tie as tie
 
 quotas-of-requires : tie.Need-quotas-of-requires
 quotas-of-requires c κs = search needs
-
-whole-of-requires : tie.Need-whole-of-requires
-whole-of-requires c κs = search quotas-fit
-
-sub-left : tie.Need-sub-left
-sub-left c = search quotas-under
 
 same-length : tie.Need-same-length
 same-length c = search needs
@@ -39,8 +33,6 @@ share-out-spec =
     tie.close
     (tie.spec
     quotas-of-requires
-    whole-of-requires
-    sub-left
     same-length
     same-length-2
     returns

@@ -1,17 +1,20 @@
 -- `levy::list_payers` meets its contract: of the positions passed those of weight stand in the list.
 use Prim.Native.Nat.{_-_}
 use borrow.Author.Needs.{needs}
-use Rattle.levy.proofs.Listed.{Payers, payers-none, payers-room, payers-fit, payers-next, payers-end}
+use lib.ListN.{take}
+use Rattle.columns.proofs.Listed.{Listing, listing-none, listing-room, listing-fits, listing-end}
+use Rattle.levy.specs.Rounds.{isPayer}
+use Rattle.levy.proofs.Listed.{payers-next}
 use Rattle.levy.proofs.listing.list_payers.Statement.{statement}
 use Rattle.levy.proofs.listing.list_payers.Tie as tie
 
 abbrev Inv-loop : tie.InvT-loop
-Inv-loop n weights list₀ m₀ i₀ list m i = Payers n weights list m i
+Inv-loop n weights list₀ m₀ i₀ list m i = Listing n (isPayer (take n weights)) list m i
 
 abbrev μ-loop : tie.MeasureT-loop
 μ-loop n weights list₀ m₀ i₀ list m i = n - i
 
-ruleset mine = (payers-none, payers-room, payers-end, needs)
+ruleset mine = (listing-none, listing-room, listing-end, needs)
 
 loop-holds : tie.Need-loop-holds Inv-loop μ-loop
 loop-holds c = search mine
@@ -32,7 +35,7 @@ one-if-requires : tie.Need-one-if-requires Inv-loop μ-loop
 one-if-requires c κs = search mine
 
 add-m : tie.Need-add-m Inv-loop μ-loop
-add-m c = record { fits = search payers-fit }
+add-m c = record { fits = search listing-fits }
 
 add-i : tie.Need-add-i Inv-loop μ-loop
 add-i c = search mine
