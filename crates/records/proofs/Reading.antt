@@ -3,16 +3,22 @@
 --   number-bound   a number of w bytes is below 256 ^ w
 --   number-same    the same bytes make the same number, wherever they stand
 --   number-of2, number-of4     the number of two bytes, of four
+--   mark-told                  two bytes are a mark's if their number is
 --   shift-bound    one byte more keeps below the next power of 256
 --   room           below 256 ^ w with w at most 7, a byte more still fits 64 bits
 use mathlib.Core.Path.{_≡_, refl}
 use Prim.Native.Nat.{ℕ, zero, suc, _+_, _-_, _*_, _^_, _≤_, _<_}
 use native.Mathlib.Nat.{pow-suc, pow-le-pow-right, add-assoc, add-zero}
 use native.Mathlib.Omega.{arith}
+use mathlib.Core.Logic.{_⊎_, inl, inr}
+use mathlib.Core.Bool.{true, false, _&&_}
 use mathlib.Core.List.{List}
-use lib.Dec.{lit<}
+use lib.Dec.{lit<, eqb}
 use lib.ListN.{getD}
+use borrow.Author.Tests.{eq-eqb, ne-eqb, eqb-true, eqb-false}
+use Rattle.columns.proofs.Rank.{test-or}
 use Rattle.records.specs.Number.{numberAt}
+use Rattle.records.specs.Record.{letterP}
 
 pub number-next : (s : List ℕ) (at w i v : ℕ) → v ≡ numberAt (w - i) s (at + i) → 0 < i → i ≤ w
     → v * 256 + getD s (at + (i - 1)) 0 ≡ numberAt (w - (i - 1)) s (at + (i - 1))
@@ -45,6 +51,16 @@ room w v h l = omega (arith, pow-le-pow-right {n = 256} (lit< tt) l)
 pub number-of2 : (s : List ℕ) (at a b : ℕ) → a ≡ getD s at 0 → b ≡ getD s (at + 1) 0 → a + 256 * b ≡ numberAt 2 s at
 unfolding numberAt
 number-of2 s at a b e f = omega (arith, e, f)
+
+pub mark-told : (x y letter a b p l : ℕ) → (a ≡ x) × (a < 256) → (b ≡ y) × (b < 256) → (p ≡ letterP) × (p < 256) → (l ≡ letter) × (l < 256)
+    → eqb (a + 256 * b) (p + 256 * l) ≡ (eqb x letterP && eqb y letter)
+mark-told x y letter a b p l f g h k = go (test-or (eqb x letterP)) (test-or (eqb y letter))
+  where
+    go : (eqb x letterP ≡ true) ⊎ (eqb x letterP ≡ false) → (eqb y letter ≡ true) ⊎ (eqb y letter ≡ false)
+        → eqb (a + 256 * b) (p + 256 * l) ≡ (eqb x letterP && eqb y letter)
+    go (inl s) (inl t) = rw (s, t) (eq-eqb (a + 256 * b) (p + 256 * l) (omega (arith, eqb-true x letterP s, eqb-true y letter t)))
+    go (inl s) (inr t) = rw (s, t) (ne-eqb (a + 256 * b) (p + 256 * l) (λ e. eqb-false y letter t (omega arith)))
+    go (inr s) t = rw s (ne-eqb (a + 256 * b) (p + 256 * l) (λ e. eqb-false x letterP s (omega arith)))
 
 pub number-of4 : (s : List ℕ) (at a b c d : ℕ) → a ≡ getD s at 0 → b ≡ getD s (at + 1) 0 → c ≡ getD s (at + 2) 0 → d ≡ getD s (at + 3) 0
     → a + 256 * b + 65536 * c + 16777216 * d ≡ numberAt 4 s at

@@ -108,12 +108,12 @@ pub fn put_fields(out: &mut [u8], at: usize, widths: &[u8], fields: &[u64])
     }
 }
 
-// Whether a record's mark stands at a position: the letter P and the letter given.
+// Whether a record's mark stands at a position: the letter P and the letter given. Both bytes are one number, so that there is one test.
 pub fn marked(s: &[u8], at: usize, letter: u8) -> bool
     requires { ⌜ at + 2 ≤ length (now s) ⌝ }
     ensures { λ r. ⌜ r ≡ marked (now (s .entry)) at letter ⌝ }
 {
-    (s[at] == b'P') & (s[at + 1] == letter)
+    wide(s[at]) + 256 * wide(s[at + 1]) == wide(b'P') + 256 * wide(letter)
 }
 
 // The fields of the record whose mark stands at a position, each read in its own width.
