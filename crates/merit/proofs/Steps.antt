@@ -1,17 +1,19 @@
 -- What the small steps of the code come to, each lemma in the shape of one need.
 use Prim.Native.Nat.{ℕ, _+_, _-_, _*_, _≤_, _<_, min, max}
 use mathlib.Core.Path.{_≡_, refl, ap, sym, _∙_}
-use mathlib.Core.Bool.{Bool, true, cond, _&&_}
+use mathlib.Core.Bool.{Bool, true, false, cond, _&&_}
 use mathlib.Core.List.{List}
 use native.Mathlib.Omega.{arith}
+use mir.Syntax.{w32}
+use mir.Val.{Fits}
 use lib.Dec.{ltb, eqb}
 use lib.ListN.{length, set, take}
 use borrow.Author.Tests.{ltb-true}
 use Rattle.columns.proofs.First.{left-true, right-true}
-use Rattle.columns.specs.Sum.{sumTo, whole, maxTo, maxWhere}
+use Rattle.columns.specs.Sum.{bit, sumTo, whole, countTo, maxTo, maxWhere}
 use Rattle.columns.specs.Table.{at, table}
-use Rattle.columns.proofs.Sum.{sum-next, sum-bound, max-where-next}
-use Rattle.columns.proofs.Table.{table-list, table-length, front-long}
+use Rattle.columns.proofs.Sum.{sum-next, sum-bound, bit-le, count-next, count-same, max-where-next}
+use Rattle.columns.proofs.Table.{table-list, table-length, table-at, front-long}
 use Rattle.columns.proofs.Fill.{Reached, reached-none, reached-next, reached-all}
 use Rattle.columns.proofs.Whole.{whole-table}
 use Rattle.share.specs.Share.{shares}
@@ -19,10 +21,11 @@ use Rattle.share.specs.Split.{Splittable}
 use Rattle.share.proofs.Laws.{shares-are-weights}
 use Rattle.merit.specs.OneTier.{under, equal, below, groupIn}
 use Rattle.merit.specs.Price.{delivers, price}
-use Rattle.merit.specs.Ready.{Columns, Ready}
-use Rattle.merit.specs.Walk.{past, Margin, cheapIn, Room, Blank, partsIn, deliveredBid}
+use Rattle.merit.specs.Ready.{Columns}
+use Rattle.merit.specs.Walk.{past, Margin, cheapIn, Room, partsIn, bandsIn, Counts, alone, deliveredBid}
 use Rattle.merit.proofs.Keyed.{cond-le}
 use Rattle.merit.proofs.OneTier.{below-zero}
+use Rattle.merit.proofs.Alone.{shares-alone}
 
 pub delivered-is : (i : ℕ) (bs cs es : List ℕ) (x : ℕ) → x ≡ cond (delivers (at cs i) (at es i)) (at bs i) 0 → x ≡ deliveredBid i bs cs es
 unfolding deliveredBid
@@ -53,6 +56,16 @@ copied-next s start now i r e l = reached-next 0 (at s) start now i (at s i) r (
 pub copied-all : (s start now : List ℕ) (i : ℕ) → Reached 0 (at s) start now i → length start ≡ length s → length s ≤ i → now ≡ s
 copied-all s start now i r e l =
     reached-all 0 (at s) start now i r (omega (arith, r .room)) ∙ ap (λ (n : ℕ). table n (at s)) e ∙ sym (table-list 0 s)
+
+-- the loop over a group of one band
+module _ (left : ℕ) (g start now : List ℕ) (i : ℕ) (r : Reached 0 (alone left g) start now i) (room : length start ≡ length g) where
+  pub alone-next : (x : ℕ) → i < length g → x ≡ cond (ltb 0 (at g i)) left 0 → Reached 0 (alone left g) start (set now i x) (i + 1)
+  unfolding alone
+  alone-next x l e = reached-next 0 (alone left g) start now i x r (omega (arith, r .room)) e
+
+  pub alone-all : length g ≤ i → now ≡ table (length g) (alone left g)
+  alone-all l =
+      reached-all 0 (alone left g) start now i r (omega (arith, r .room)) ∙ ap (λ (n : ℕ). table n (alone left g)) room
 
 pub width-small : (ws bs : List ℕ) → Columns ws bs → (t : Bool) (i x : ℕ) → x ≡ cond t (at ws i) 0 → x ≤ 250000
 width-small ws bs r t i x e = omega (arith, cond-le t (at ws i), r .narrow i)
@@ -139,6 +152,53 @@ module _ (f : ℕ → ℕ) (n : ℕ) (start : List ℕ) where
     pub grouped-whole : n ≤ i → sum ≡ whole now
     grouped-whole l = summed-all f n sum i (r .summed) l ∙ sym (ap whole (grouped-all l) ∙ whole-table n f)
 
+one-is : (t : Bool) → cond t 1 0 ≡ bit t
+one-is true = refl
+one-is false = refl
+
+-- f stands in the first i positions, their sum is known, and how many are above 0
+pub record Banded (f : ℕ → ℕ) (n : ℕ) (start now : List ℕ) (sum bands i : ℕ) : Type 0 where
+  pub grouped : Grouped f n start now sum i
+  pub bands-are : bands ≡ countTo i (λ j. ltb 0 (f j))
+  pub few : bands ≤ i
+
+module _ (f : ℕ → ℕ) (n : ℕ) (start : List ℕ) where
+  pub banded-none : Banded f n start start 0 0 0
+  unfolding countTo sumTo
+  banded-none = record { grouped = grouped-none f n start; bands-are = refl; few = omega arith }
+
+  module _ (now : List ℕ) (sum bands i : ℕ) (r : Banded f n start now sum bands i) (room : length start ≡ n) where
+    pub banded-next : (v x : ℕ) → i < n → v ≡ f i → v ≤ 250000 → x ≡ cond (ltb 0 v) 1 0
+        → Banded f n start (set now i v) (sum + v) (bands + x) (i + 1)
+    banded-next v x l e h b =
+        let here : x ≡ bit (ltb 0 (f i)) = b ∙ one-is (ltb 0 v) ∙ ap (λ (w : ℕ). bit (ltb 0 w)) e in
+        record {
+          grouped = grouped-next f n start now sum i (r .grouped) room v l e h;
+          bands-are = omega (arith, r .bands-are, here, count-next i (λ j. ltb 0 (f j)));
+          few = omega (arith, r .few, here, bit-le (ltb 0 (f i)));
+        }
+
+    pub banded-counts : n ≤ i → Counts now sum bands
+    unfolding bandsIn
+    banded-counts l = record { sum-is = grouped-whole f n start now sum i (r .grouped) room l; bands-are = are }
+      where
+        is : now ≡ table n f
+        is = grouped-all f n start now sum i (r .grouped) room l
+
+        are : bands ≡ bandsIn now
+        are =
+            let s : i ≡ n = omega (arith, r .grouped .summed .within) in
+            let long : length now ≡ n = ap length is ∙ table-length n f in
+            r .bands-are
+            ∙ rw (s, long)
+            (count-same n (λ j. ltb 0 (f j)) (λ j. ltb 0 (at now j))
+            (λ j m. ap (ltb 0) (sym (ap (λ (l : List ℕ). at l j) is ∙ table-at 0 n f j m))))
+
+  pub banded-fits : (now : List ℕ) (sum bands i v x : ℕ) → Banded f n start now sum bands i → n ≤ 256 → x ≡ cond (ltb 0 v) 1 0
+      → Fits w32 (bands + x)
+  banded-fits now sum bands i v x r h b =
+      omega (arith, r .few, r .grouped .summed .within, b ∙ one-is (ltb 0 v), bit-le (ltb 0 v))
+
 -- what the loops over the bands of a bid end with; the code holds the bid in 32 bits as k
 module _ (ws bs : List ℕ) (k bid : ℕ) (is : k ≡ bid) (start now : List ℕ) (sum i : ℕ) (end : length ws ≤ i) where
   pub below-told : Summed (under ws bs k) (length ws) sum i → sum ≡ below ws bs bid
@@ -153,13 +213,10 @@ module _ (ws bs : List ℕ) (k bid : ℕ) (is : k ≡ bid) (start now : List ℕ
     pub cheap-sum : sum ≡ below ws bs bid
     cheap-sum = below-told (r .summed)
 
-  module _ (r : Grouped (equal ws bs k) (length ws) start now sum i) (room : length start ≡ length ws) where
+  module _ (bands : ℕ) (r : Banded (equal ws bs k) (length ws) start now sum bands i) (room : length start ≡ length ws) where
     pub group-told : now ≡ groupIn ws bs bid
     unfolding groupIn
-    group-told = rw (← is) (grouped-all (equal ws bs k) (length ws) start now sum i r room end)
-
-    pub group-sum : sum ≡ whole now
-    group-sum = grouped-whole (equal ws bs k) (length ws) start now sum i r room end
+    group-told = rw (← is) (grouped-all (equal ws bs k) (length ws) start now sum i (r .grouped) room end)
 
 module _ (k : ℕ) (ws bs : List ℕ) where
   group-small : Columns ws bs → whole (groupIn ws bs k) ≤ 250000 * length ws
@@ -179,15 +236,21 @@ module _ (k : ℕ) (ws bs : List ℕ) where
         inside = rw long (m .inside);
       })
 
-module _ (left sum : ℕ) (g out : List ℕ) (first : ℕ) (is : sum ≡ whole g) where
+module _ (left sum bands : ℕ) (g out : List ℕ) (first : ℕ) (c : Counts g sum bands) where
   pub called-in-full : sum ≤ left → out ≡ g → out ≡ partsIn left g first
   unfolding partsIn
   called-in-full l e =
-      let m : min left (whole g) ≡ whole g = omega arith in rw m (e ∙ sym (shares-are-weights (whole g) g first refl))
+      let m : min left (whole g) ≡ whole g = omega (arith, c .sum-is) in
+      rw m (e ∙ sym (shares-are-weights (whole g) g first refl))
 
   pub called-in-part : left < sum → out ≡ shares left g first → out ≡ partsIn left g first
   unfolding partsIn
-  called-in-part l e = let m : min left (whole g) ≡ left = omega arith in rw m e
+  called-in-part l e = let m : min left (whole g) ≡ left = omega (arith, c .sum-is) in rw m e
+
+  pub called-alone : (old : List ℕ) → Splittable g old first → left < sum → bands ≡ 1 → out ≡ table (length g) (alone left g)
+      → out ≡ partsIn left g first
+  unfolding bandsIn alone
+  called-alone old s l b e = called-in-part l (e ∙ sym (shares-alone left g first (sym (c .bands-are) ∙ b) (s .inside)))
 
 pub parts-of : (left : ℕ) (g h out : List ℕ) (first : ℕ) → out ≡ partsIn left g first → g ≡ h → out ≡ partsIn left h first
 parts-of left g h out first e f = rw (← f) e
@@ -198,12 +261,3 @@ front ws bs xs c e = front-long xs (length ws) 256 e (c .few)
 
 pub front-room : (ws bs xs : List ℕ) → Columns ws bs → length xs ≡ 256 → length (take (length ws) xs) ≡ length ws
 front-room ws bs xs c e = sym (front ws bs xs c e)
-
-pub front-ready : (ws bs : List ℕ) (first : ℕ) (cs xs : List ℕ) → Ready ws bs first cs → length xs ≡ 256
-    → length ws ≡ length (take (length ws) xs)
-front-ready ws bs first cs xs r e = front ws bs xs (r .columns) e
-
-pub blank : (ws bs : List ℕ) (first : ℕ) (cs xs : List ℕ) → Ready ws bs first cs → length xs ≡ 256
-    → Blank ws bs first cs (take (length ws) xs)
-blank ws bs first cs xs r e =
-    record { ready = r; parts = record { room = sym (front-ready ws bs first cs xs r e); inside = r .inside } }

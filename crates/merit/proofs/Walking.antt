@@ -6,6 +6,7 @@
 --     call-fits      and no call wraps
 --     ended-met      the walk may end as soon as nothing is left
 --     ended-past     or past every bid
+--     ended-full     and where it would begin there, nothing is left to call
 use Prim.Native.Nat.{ℕ, _+_, _-_, _≤_, _<_, min}
 use mathlib.Core.Path.{_≡_, refl, ap, sym, _∙_}
 use mathlib.Core.Logic.{⊎-elim}
@@ -36,10 +37,9 @@ use Rattle.merit.proofs.OneTier.{called-le, called-full, called-met, pa
 unfoldable pub done : ℕ → List ℕ → List ℕ → ℕ → ℕ → ℕ → ℕ
 done need ws bs first k j = cond (ltb (at bs j) k) (calledIn need ws bs first j) 0
 
-pub record Walked (need : ℕ) (ws bs : List ℕ) (first k left : ℕ) (cs ps : List ℕ) : Type 0 where
+pub record Walked (need : ℕ) (ws bs : List ℕ) (first k left : ℕ) (cs : List ℕ) : Type 0 where
   pub left-is : left ≡ need - below ws bs k
   pub room : length cs ≡ length ws
-  pub parts-room : length ps ≡ length ws
   pub is : (j : ℕ) → at cs j ≡ done need ws bs first k j
 
 -- at the start of the turn `start` was left and the column was cs₁; the parts are no more than that, and no call wraps
@@ -128,9 +128,9 @@ module _ (need : ℕ) (ws bs : List ℕ) (first : ℕ) where
       (λ (l : k ≤ at bs j). rw (le-ltb (at bs j) k l)) (lt-or-le (at bs j) k)
 
   -- the walk may end before bid k if the bands from k up are called for nothing
-  ended : (k left : ℕ) (cs ps : List ℕ) → Walked need ws bs first k left cs ps → ((j : ℕ) → k ≤ at bs j → calledIn need ws bs first j ≡ 0)
+  ended : (k left : ℕ) (cs : List ℕ) → Walked need ws bs first k left cs → ((j : ℕ) → k ≤ at bs j → calledIn need ws bs first j ≡ 0)
       → left ≡ need - whole ws → TierCalled need ws bs first left cs
-  ended k left cs ps w none e =
+  ended k left cs w none e =
       record {
         called = unfold tierCalls in table-is 0 cs (length ws) (calledIn need ws bs first) (w .room) (λ j l. w .is j ∙ all j);
         beyond = e;
@@ -159,7 +159,7 @@ ended-whole need ws bs first k s r cs m e t =
     let all : need - s + below ws bs k ≡ need = omega (arith, m .reached) in rw (← all) t
 
 -- the walk from bid k₀ on, with `start` left by the bands below it
-module _ (start : ℕ) (ws bs : List ℕ) (first k₀ : ℕ) (cs₀ ps₀ : List ℕ) (good : Begun ws bs first k₀ cs₀ ps₀) where
+module _ (start : ℕ) (ws bs : List ℕ) (first k₀ : ℕ) (cs₀ : List ℕ) (good : Begun ws bs first k₀ cs₀) where
   abbrev need : ℕ
   need = start + below ws bs k₀
 
@@ -167,13 +167,12 @@ module _ (start : ℕ) (ws bs : List ℕ) (first k₀ : ℕ) (cs₀ ps₀ : List
   unfolding cheapIn
   begun-long = ap length (good .is) ∙ table-length (length ws) (under ws bs k₀)
 
-  pub walked-first : Walked need ws bs first k₀ start cs₀ ps₀
+  pub walked-first : Walked need ws bs first k₀ start cs₀
   unfolding cheapIn
   walked-first =
       record {
         left-is = omega arith;
         room = begun-long;
-        parts-room = good .parts .room;
         is = λ j. ap (λ (l : List ℕ). at l j) (good .is) ∙ stands j ∙ sym (done-full need ws bs first k₀ j (omega arith));
       }
     where
@@ -182,19 +181,16 @@ module _ (start : ℕ) (ws bs : List ℕ) (first k₀ : ℕ) (cs₀ ps₀ : List
           ⊎-elim (λ (l : j < length ws). table-at 0 (length ws) (under ws bs k₀) j l)
           (λ (l : length ws ≤ j). table-past 0 (length ws) (under ws bs k₀) j l ∙ sym (under-past ws bs k₀ j l)) (lt-or-le j (length ws))
 
-  module _ (k left : ℕ) (cs ps : List ℕ) (w : Walked need ws bs first k left cs ps) where
-    pub walked-room : Room ws first ps
-    walked-room = record { room = w .parts-room; inside = good .parts .inside }
+  pub walked-room : (ps : List ℕ) → length ps ≡ length ws → Room ws first ps
+  walked-room ps e = record { room = e; inside = good .inside }
 
+  module _ (k left : ℕ) (cs : List ℕ) (w : Walked need ws bs first k left cs) where
     pub walked-calls : length cs ≡ length cs₀
     walked-calls = w .room ∙ sym begun-long
 
-    pub walked-parts : length ps ≡ length ps₀
-    walked-parts = w .parts-room ∙ sym (good .parts .room)
-
     pub ended-past : past ≤ k → TierCalled need ws bs first left cs
     ended-past h =
-        ended need ws bs first k left cs ps w (λ j m. absurd (omega (arith, low j)))
+        ended need ws bs first k left cs w (λ j m. absurd (omega (arith, low j)))
         (w .left-is ∙ ap (λ (x : ℕ). need - x) (below-all ws bs k low))
       where
         low : (j : ℕ) → at bs j < k
@@ -202,12 +198,12 @@ module _ (start : ℕ) (ws bs : List ℕ) (first k₀ : ℕ) (cs₀ ps₀ : List
 
     ended-none : left ≡ 0 → TierCalled need ws bs first left cs
     ended-none z =
-        ended need ws bs first k left cs ps w
+        ended need ws bs first k left cs w
         (λ j m. called-met need ws bs first j (omega (arith, w .left-is, below-rise ws bs k (at bs j) m)))
         (omega (arith, w .left-is, below-le ws bs k))
 
   -- the turn of one bid, from the column cs₁, with `now` left
-  module _ (k now : ℕ) (cs₁ qs ps : List ℕ) (w : Walked need ws bs first k now cs₁ qs) (e : ps ≡ partsIn now (groupIn ws bs k) first) where
+  module _ (k now : ℕ) (cs₁ ps : List ℕ) (w : Walked need ws bs first k now cs₁) (e : ps ≡ partsIn now (groupIn ws bs k) first) where
     parts-are : ps ≡ partsOf need ws bs first k
     parts-are = e ∙ ap (λ (x : ℕ). partsIn x (groupIn ws bs k) first) (w .left-is)
 
@@ -217,7 +213,7 @@ module _ (start : ℕ) (ws bs : List ℕ) (first k₀ : ℕ) (cs₀ ps₀ : List
     parts-total : sumTo (length ps) (at ps) ≡ min now (whole (groupIn ws bs k))
     parts-total =
         rw parts-long
-        (ap (λ (l : List ℕ). sumTo (length ws) (at l)) parts-are ∙ parts-sum need ws bs first (good .parts .inside) k
+        (ap (λ (l : List ℕ). sumTo (length ws) (at l)) parts-are ∙ parts-sum need ws bs first (good .inside) k
         ∙ ap (λ (x : ℕ). min x (whole (groupIn ws bs k))) (sym (w .left-is)))
 
     -- what row j is called for below the next bid
@@ -240,28 +236,34 @@ module _ (start : ℕ) (ws bs : List ℕ) (first k₀ : ℕ) (cs₀ ps₀ : List
         }
 
     module _ (i left : ℕ) (cs : List ℕ) (t : Turned now cs₁ ps i left cs) where
-      turn-done : sumTo i (at ps) ≡ sumTo (length ps) (at ps) → Walked need ws bs first (k + 1) left cs ps
+      turn-done : sumTo i (at ps) ≡ sumTo (length ps) (at ps) → Walked need ws bs first (k + 1) left cs
       turn-done all =
           record {
             left-is = rw (add-one k) (omega (arith, t .left-is, all, parts-total, w .left-is, below-next ws bs k));
             room = t .room ∙ w .room;
-            parts-room = parts-long;
             is = λ j. all-called now cs₁ ps i left cs t all j ∙ called-next j;
           }
 
-      pub walked-next : length ps ≤ i → Walked need ws bs first (k + 1) left cs ps
+      pub walked-next : length ps ≤ i → Walked need ws bs first (k + 1) left cs
       walked-next l = let all : i ≡ length ps = omega (arith, t .within) in turn-done (ap (λ (m : ℕ). sumTo m (at ps)) all)
 
       pub turned-calls : (x : ℕ) → length (set cs i x) ≡ length cs₀
       turned-calls x = length-set cs i x ∙ t .room ∙ w .room ∙ sym begun-long
 
-      pub turned-parts : length ps ≡ length ps₀
-      turned-parts = parts-long ∙ sym (good .parts .room)
-
     pub ended-met : (i left : ℕ) (cs : List ℕ) → Turned now cs₁ ps i left cs → i < length ps → left - at ps i ≡ 0
         → TierCalled need ws bs first (left - at ps i) (set cs i (at cs i + at ps i))
     ended-met i left cs t l z =
         let next : Turned now cs₁ ps (i + 1) (left - at ps i) (set cs i (at cs i + at ps i)) = turned-next now cs₁ ps i left cs t l in
-        ended-none (k + 1) (left - at ps i) (set cs i (at cs i + at ps i)) ps
+        ended-none (k + 1) (left - at ps i) (set cs i (at cs i + at ps i))
         (turn-done (i + 1) (left - at ps i) (set cs i (at cs i + at ps i)) next
         (omega (arith, next .left-is, next .covered, sum-shorter (i + 1) (length ps) (at ps) (omega arith)))) z
+
+-- past every bid there is no walk: the bands that are called in full are all
+module _ (need : ℕ) (ws bs : List ℕ) (first k s : ℕ) (cs₀ cs : List ℕ) (r : Ready ws bs first cs₀) (is : cs ≡ cheapIn ws bs k) where
+  begun : Begun ws bs first k cs
+  begun = record { columns = r .columns; inside = r .inside; is = is }
+
+  pub ended-full : Margin need ws bs k → s ≡ below ws bs k → past ≤ k → TierCalled need ws bs first (need - s) cs
+  ended-full m e h =
+      ended-whole need ws bs first k s (need - s) cs m e
+      (ended-past (need - s) ws bs first k cs begun k (need - s) cs (walked-first (need - s) ws bs first k cs begun) h)

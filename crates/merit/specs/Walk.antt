@@ -3,13 +3,14 @@ use Prim.Native.Nat.{ℕ, _+_, _≤_, _<_, min}
 use mathlib.Core.Path.{_≡_}
 use mathlib.Core.Bool.{cond}
 use mathlib.Core.List.{List}
+use lib.Dec.{ltb}
 use lib.ListN.{length}
-use Rattle.columns.specs.Sum.{whole}
+use Rattle.columns.specs.Sum.{countTo, whole}
 use Rattle.columns.specs.Table.{at, table}
 use Rattle.share.specs.Share.{shares}
 use Rattle.merit.specs.OneTier.{under, below}
 use Rattle.merit.specs.Price.{delivers}
-use Rattle.merit.specs.Ready.{Columns, Ready}
+use Rattle.merit.specs.Ready.{Columns}
 
 -- past every bid
 abbrev pub past : ℕ
@@ -29,21 +30,29 @@ cheapIn ws bs k = table (length ws) (under ws bs k)
 unfoldable pub partsIn : ℕ → List ℕ → ℕ → List ℕ
 partsIn left g first = shares (min left (whole g)) g first
 
+-- how many bands a group has: a row that has none at this bid stands in it with 0
+unfoldable pub bandsIn : List ℕ → ℕ
+bandsIn g = countTo (length g) (λ i. ltb 0 (at g i))
+
+-- what a group comes to: the sum of its widths, and how many bands it has
+pub record Counts (g : List ℕ) (sum bands : ℕ) : Type 0 where
+  pub sum-is : sum ≡ whole g
+  pub bands-are : bands ≡ bandsIn g
+
+-- what row i of a group of one band is called for
+unfoldable pub alone : ℕ → List ℕ → ℕ → ℕ
+alone left g i = cond (ltb 0 (at g i)) left 0
+
 -- room for what the bands of one bid are called for, and a position inside
 pub record Room (ws : List ℕ) (first : ℕ) (out : List ℕ) : Type 0 where
   pub room : length out ≡ length ws
   pub inside : 0 < length ws → first < length ws
 
--- columns at the start of the walk: the bands that are bid below k are called in full, and there is room for the parts of one bid
-pub record Begun (ws bs : List ℕ) (first k : ℕ) (cs ps : List ℕ) : Type 0 where
+-- columns at the start of the walk: the bands that are bid below k are called in full
+pub record Begun (ws bs : List ℕ) (first k : ℕ) (cs : List ℕ) : Type 0 where
   pub columns : Columns ws bs
+  pub inside : 0 < length ws → first < length ws
   pub is : cs ≡ cheapIn ws bs k
-  pub parts : Room ws first ps
-
--- columns before the tier is called: nobody is called yet, and there is room for the parts of one bid
-pub record Blank (ws bs : List ℕ) (first : ℕ) (cs ps : List ℕ) : Type 0 where
-  pub ready : Ready ws bs first cs
-  pub parts : Room ws first ps
 
 -- the bid of row i if the row delivers, and 0 if not
 unfoldable pub deliveredBid : ℕ → List ℕ → List ℕ → List ℕ → ℕ

@@ -3,12 +3,12 @@
 ghost use mathlib.Core.Path.{_≡_};
 ghost use Prim.Native.Nat.{_+_, _<_, _≤_, max};
 ghost use lib.ListN.{length};
-ghost use Rattle.columns.specs.Sum.{whole};
+ghost use Rattle.columns.specs.Table.{table};
 ghost use Rattle.share.specs.Split.{Splittable};
 ghost use Rattle.merit.specs.OneTier.{under, equal, below, groupIn};
 ghost use Rattle.merit.specs.Price.{price};
 ghost use Rattle.merit.specs.Ready.{Columns, Ready, TierCalled, OneLength};
-ghost use Rattle.merit.specs.Walk.{past, Margin, cheapIn, Room, Blank, Begun, partsIn, deliveredBid};
+ghost use Rattle.merit.specs.Walk.{past, Margin, cheapIn, Room, Begun, partsIn, Counts, alone, deliveredBid};
 use columns::counted;
 use units::Kwh;
 use units::Li;
@@ -100,21 +100,30 @@ fn call_below(bid: Li, widths: &[u32], bids: &[u32], called: &mut [u32]) -> Kwh
     sum
 }
 
-// The bands of one bid, into `out`; answers the sum of their widths.
-fn group_of(bid: Li, widths: &[u32], bids: &[u32], out: &mut [u64]) -> Kwh
+// The bands of one bid: the sum of their widths, and how many they are.
+struct Group {
+    sum: Kwh,
+    bands: u32,
+}
+
+// The bands of one bid, into `out`; answers what they come to.
+fn group_of(bid: Li, widths: &[u32], bids: &[u32], out: &mut [u64]) -> Group
     requires { ⌜ Columns (now widths) (now bids) × (bid .0 < past) × (length (now out) ≡ length (now widths)) ⌝ }
-    ensures { λ r. ⌜ (now (out .exit) ≡ groupIn (now (widths .entry)) (now (bids .entry)) (bid .0)) × (r .0 ≡ whole (now (out .exit))) ⌝ }
+    ensures { λ r. ⌜ (now (out .exit) ≡ groupIn (now (widths .entry)) (now (bids .entry)) (bid .0))
+        × Counts (now (out .exit)) (r .sum .0) (r .bands) ⌝ }
 {
     let k = bid.column();
     let mut sum = Kwh(0);
+    let mut bands: u32 = 0;
     let mut i = 0;
     while i < widths.len() {
         let width = member(k, i, widths, bids);
         out[i] = width.0 as u64;
         sum = Kwh(sum.0 + width.0);
+        bands += counted(0 < width.0, 1);
         i += 1;
     }
-    sum
+    Group { sum, bands }
 }
 
 fn copy(from: &[u64], out: &mut [u64])
@@ -128,13 +137,29 @@ fn copy(from: &[u64], out: &mut [u64])
     }
 }
 
-// What of `left` each band of a group is called for: in full if it lasts, else each its share.
-fn share_group(left: Kwh, sum: Kwh, group: &[u64], first: usize, out: &mut [u64])
-    requires { ⌜ Splittable (now group) (now out) first × (sum .0 ≡ whole (now group)) ⌝ }
+// A band that is alone in its group is called for all that is left.
+fn call_one(left: Kwh, group: &[u64], out: &mut [u64])
+    requires { ⌜ length (now out) ≡ length (now group) ⌝ }
+    ensures { λ _. ⌜ now (out .exit) ≡ table (length (now (group .entry))) (alone (left .0) (now (group .entry))) ⌝ }
+{
+    let mut i = 0;
+    while i < group.len() {
+        out[i] = counted(0 < group[i], left.0) as u64;
+        i += 1;
+    }
+}
+
+// What of `left` each band of a group is called for: in full if it lasts, else each its share. Sharing is costly, and a band alone needs none.
+fn share_group(left: Kwh, all: Group, group: &[u64], first: usize, out: &mut [u64])
+    requires { ⌜ Splittable (now group) (now out) first × Counts (now group) (all .sum .0) (all .bands) ⌝ }
     ensures { λ _. ⌜ now (out .exit) ≡ partsIn (left .0) (now (group .entry)) first ⌝ }
 {
-    if sum.0 <= left.0 {
+    if all.sum.0 <= left.0 {
         copy(group, out);
+        return;
+    }
+    if all.bands == 1 {
+        call_one(left, group, out);
         return;
     }
     share::split(left.0 as u64, group, first, out);
@@ -153,8 +178,8 @@ fn parts_in(
     requires { ⌜ Columns (now widths) (now bids) × (bid .0 < past) × Room (now widths) first (now out) × (length (now group) ≡ length (now widths)) ⌝ }
     ensures { λ _. ⌜ now (out .exit) ≡ partsIn (left .0) (groupIn (now (widths .entry)) (now (bids .entry)) (bid .0)) first ⌝ }
 {
-    let sum = group_of(bid, widths, bids, group);
-    share_group(left, sum, group, first, out);
+    let all = group_of(bid, widths, bids, group);
+    share_group(left, all, group, first, out);
 }
 
 // The walk over bids and bands, by rising bid, from a bid below which all bands are called in full; `need` is what they leave of it.
@@ -169,7 +194,8 @@ fn walk(
     group: &mut [u64],
     parts: &mut [u64],
 ) -> Kwh
-    requires { ⌜ Begun (now widths) (now bids) first (start .0) (now called) (now parts) × (length (now group) ≡ length (now widths)) ⌝ }
+    requires { ⌜ Begun (now widths) (now bids) first (start .0) (now called) × (length (now group) ≡ length (now widths))
+        × (length (now parts) ≡ length (now widths)) ⌝ }
     ensures { λ r. ⌜ TierCalled (need .0 + below (now (widths .entry)) (now (bids .entry)) (start .0)) (now (widths .entry)) (now (bids .entry)) first
         (r .0) (now (called .exit)) ⌝ }
 {
@@ -192,37 +218,24 @@ fn walk(
     left
 }
 
-// Finds the bid at which the need is passed, calls lower bids in full, and walks on from there.
-fn call_from(
+// Lends the walk its room. The arrays are zeroed where they are made, so they are made only where there is a bid to walk over.
+fn walk_from(
+    start: Li,
     need: Kwh,
     first: usize,
     widths: &[u32],
     bids: &[u32],
     called: &mut [u32],
-    group: &mut [u64],
-    parts: &mut [u64],
 ) -> Kwh
-    requires { ⌜ Blank (now widths) (now bids) first (now called) (now parts) × (length (now group) ≡ length (now widths)) ⌝ }
-    ensures { λ r. ⌜ TierCalled (need .0) (now (widths .entry)) (now (bids .entry)) first (r .0) (now (called .exit)) ⌝ }
+    requires { ⌜ Begun (now widths) (now bids) first (start .0) (now called) ⌝ }
+    ensures { λ r. ⌜ TierCalled (need .0 + below (now (widths .entry)) (now (bids .entry)) (start .0)) (now (widths .entry)) (now (bids .entry)) first
+        (r .0) (now (called .exit)) ⌝ }
 {
-    let start = margin(need, widths, bids);
-    let sum = call_below(start, widths, bids, called);
-    let left = Kwh(need.0 - sum.0);
-    walk(start, left, first, widths, bids, called, group, parts)
-}
-
-// What each row is called for in one tier, from a column of 0; answers the need beyond all its bands.
-pub fn call_tier(need: Kwh, first: usize, widths: &[u32], bids: &[u32], called: &mut [u32]) -> Kwh
-    requires { ⌜ Ready (now widths) (now bids) first (now called) ⌝ }
-    ensures { λ r. ⌜ TierCalled (need .0) (now (widths .entry)) (now (bids .entry)) first (r .0) (now (called .exit)) ⌝ }
-{
-    if need.0 == 0 {
-        return need;
-    }
     let n = widths.len();
     let mut group = [0u64; 256];
     let mut parts = [0u64; 256];
-    call_from(
+    walk(
+        start,
         need,
         first,
         widths,
@@ -231,6 +244,24 @@ pub fn call_tier(need: Kwh, first: usize, widths: &[u32], bids: &[u32], called: 
         &mut group[..n],
         &mut parts[..n],
     )
+}
+
+// What each row is called for in one tier, from a column of 0; answers the need beyond all its bands. Bids below the one at which the need
+// is passed are called in full, and the walk begins there.
+pub fn call_tier(need: Kwh, first: usize, widths: &[u32], bids: &[u32], called: &mut [u32]) -> Kwh
+    requires { ⌜ Ready (now widths) (now bids) first (now called) ⌝ }
+    ensures { λ r. ⌜ TierCalled (need .0) (now (widths .entry)) (now (bids .entry)) first (r .0) (now (called .exit)) ⌝ }
+{
+    if need.0 == 0 {
+        return need;
+    }
+    let start = margin(need, widths, bids);
+    let sum = call_below(start, widths, bids, called);
+    let left = Kwh(need.0 - sum.0);
+    if PAST <= start.0 {
+        return left;
+    }
+    walk_from(start, left, first, widths, bids, called)
 }
 
 // The bid of row i if the row delivers, and 0 if not: it was called and has energy to be paid for.

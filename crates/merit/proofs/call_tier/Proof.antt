@@ -1,6 +1,6 @@
--- `merit::call_tier` meets its contract: a need of 0 calls nobody; else it only lends room for the bands of one bid and their parts.
-use Rattle.merit.proofs.Steps.{front-ready, front-room, blank}
-use Rattle.merit.proofs.Walking.{ended-unneeded}
+-- `merit::call_tier` meets its contract: a need of 0 calls nobody; where all bands do not pass it they are called in full; else what lower bids
+-- took and what the walk begins with are the need.
+use Rattle.merit.proofs.Walking.{ended-unneeded, ended-full, ended-whole}
 use borrow.Author.Needs.{needs}
 use Rattle.merit.proofs.call_tier.Statement.{statement}
 use Rattle.merit.proofs.call_tier.Tie as tie
@@ -8,36 +8,40 @@ use Rattle.merit.proofs.call_tier.Tie as tie
 returns : tie.Need-returns
 returns c = search ended-unneeded
 
-array-borrow-prefix-group : tie.Need-array-borrow-prefix-group
-array-borrow-prefix-group c = search needs
+margin-requires : tie.Need-margin-requires
+margin-requires c κs = search needs
 
-slice-aggregate-call-from : tie.Need-slice-aggregate-call-from
-slice-aggregate-call-from c = search front-ready
+call-below-requires : tie.Need-call-below-requires
+call-below-requires c κs = search needs
 
-array-borrow-prefix-parts : tie.Need-array-borrow-prefix-parts
-array-borrow-prefix-parts c = search needs
-
-slice-aggregate-call-from-2 : tie.Need-slice-aggregate-call-from-2
-slice-aggregate-call-from-2 c = search front-ready
-
-call-from-requires : tie.Need-call-from-requires
-call-from-requires c κs = (search blank, search front-room)
+sub-t12 : tie.Need-sub-t12
+sub-t12 c = search needs
 
 same-length : tie.Need-same-length
 same-length c = search needs
 
 returns-2 : tie.Need-returns-2
-returns-2 c = search needs
+returns-2 c = search ended-full
+
+walk-from-requires : tie.Need-walk-from-requires
+walk-from-requires c κs = search needs
+
+same-length-2 : tie.Need-same-length-2
+same-length-2 c = search needs
+
+returns-3 : tie.Need-returns-3
+returns-3 c = search ended-whole
 
 pub call-tier-spec : {M : Type 1} → statement M
 call-tier-spec =
     tie.close
     (tie.spec
     returns
-    array-borrow-prefix-group
-    slice-aggregate-call-from
-    array-borrow-prefix-parts
-    slice-aggregate-call-from-2
-    call-from-requires
+    margin-requires
+    call-below-requires
+    sub-t12
     same-length
-    returns-2)
+    returns-2
+    walk-from-requires
+    same-length-2
+    returns-3)

@@ -1,23 +1,23 @@
--- `merit::group_of` meets its contract: the positions passed are written, and the sum is theirs.
+-- `merit::group_of` meets its contract: the positions passed are written, and sum and number are theirs.
 use Prim.Native.Nat.{_-_}
 use lib.ListN.{length}
 use Rattle.merit.specs.OneTier.{equal}
-use Rattle.merit.proofs.Steps.{Grouped, grouped-none, grouped-next, group-told, group-sum}
+use Rattle.merit.proofs.Steps.{Banded, banded-none, banded-next, banded-fits, banded-counts, group-told}
 use borrow.Author.Needs.{needs}
 use Rattle.merit.proofs.group_of.Statement.{statement}
 use Rattle.merit.proofs.group_of.Tie as tie
 
 abbrev Inv-loop : tie.InvT-loop
-Inv-loop widths bids out₀ k sum₀ i₀ out sum i = Grouped (equal widths bids k) (length widths) out₀ out (sum .0) i
+Inv-loop widths bids out₀ k sum₀ bands₀ i₀ out sum bands i = Banded (equal widths bids k) (length widths) out₀ out (sum .0) bands i
 
 abbrev μ-loop : tie.MeasureT-loop
-μ-loop widths bids out₀ k sum₀ i₀ out sum i = length widths - i
+μ-loop widths bids out₀ k sum₀ bands₀ i₀ out sum bands i = length widths - i
 
 column-requires : tie.Need-column-requires Inv-loop μ-loop
 column-requires c κs = search needs
 
 loop-holds : tie.Need-loop-holds Inv-loop μ-loop
-loop-holds c = search grouped-none
+loop-holds c = search banded-none
 
 member-requires : tie.Need-member-requires Inv-loop μ-loop
 member-requires c κs = search needs
@@ -31,8 +31,14 @@ mul-out c = search needs
 slice-write-out : tie.Need-slice-write-out Inv-loop μ-loop
 slice-write-out c = search needs
 
-add-t13 : tie.Need-add-t13 Inv-loop μ-loop
-add-t13 c = search needs
+add-bands : tie.Need-add-bands Inv-loop μ-loop
+add-bands c = search needs
+
+counted-requires : tie.Need-counted-requires Inv-loop μ-loop
+counted-requires c κs = search needs
+
+add-bands-2 : tie.Need-add-bands-2 Inv-loop μ-loop
+add-bands-2 c = search banded-fits
 
 add-i : tie.Need-add-i Inv-loop μ-loop
 add-i c = search needs
@@ -41,13 +47,13 @@ loop-less : tie.Need-loop-less Inv-loop μ-loop
 loop-less c = search needs
 
 loop-again : tie.Need-loop-again Inv-loop μ-loop
-loop-again c = search grouped-next
+loop-again c = search banded-next
 
 same-length : tie.Need-same-length Inv-loop μ-loop
 same-length c = search needs
 
 returns : tie.Need-returns Inv-loop μ-loop
-returns c = (search group-told, search group-sum)
+returns c = (search group-told, search banded-counts)
 
 pub group-of-spec : {M : Type 1} → statement M
 group-of-spec =
@@ -61,7 +67,9 @@ group-of-spec =
     cast-out
     mul-out
     slice-write-out
-    add-t13
+    add-bands
+    counted-requires
+    add-bands-2
     add-i
     loop-less
     loop-again

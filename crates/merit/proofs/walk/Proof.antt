@@ -4,8 +4,8 @@ use mathlib.Core.Path.{_≡_}
 use lib.ListN.{length}
 use Rattle.merit.specs.OneTier.{below}
 use Rattle.merit.specs.Walk.{past}
-use Rattle.merit.proofs.Walking.{Walked, walked-first, walked-room, walked-calls, walked-parts, walked-next}
-use Rattle.merit.proofs.Walking.{Turned, turned-first, turned-room, turned-calls, turned-parts, turned-next}
+use Rattle.merit.proofs.Walking.{Walked, walked-first, walked-room, walked-calls, walked-next}
+use Rattle.merit.proofs.Walking.{Turned, turned-first, turned-room, turned-calls, turned-next}
 use Rattle.merit.proofs.Walking.{part-small, part-fits, call-fits, turn-fits, ended-met, ended-past}
 use borrow.Author.Needs.{needs}
 use Rattle.merit.proofs.walk.Statement.{statement}
@@ -19,13 +19,14 @@ abbrev μ-loop : tie.MeasureT-loop
 
 abbrev Inv-walk : tie.InvT-walk
 Inv-walk first widths bids called₀ group₀ parts₀ left₀ bid₀ called group parts left bid =
-    Walked (left₀ .0 + below widths bids (bid₀ .0)) widths bids first (bid .0) (left .0) called parts × (length group ≡ length widths)
+    Walked (left₀ .0 + below widths bids (bid₀ .0)) widths bids first (bid .0) (left .0) called
+    × (length group ≡ length widths) × (length parts ≡ length widths)
 
 abbrev μ-walk : tie.MeasureT-walk
 μ-walk first widths bids called₀ group₀ parts₀ left₀ bid₀ called group parts left bid = past - bid .0
 
 walk-holds : tie.Need-walk-holds Inv-loop μ-loop Inv-walk μ-walk
-walk-holds c = (search walked-first, search needs)
+walk-holds c = (search walked-first, search needs, search needs)
 
 parts-in-requires : tie.Need-parts-in-requires Inv-loop μ-loop Inv-walk μ-walk
 parts-in-requires c κs = (search needs, search needs, search walked-room, search needs)
@@ -78,7 +79,8 @@ walk-again c =
     let shared = turn .before .before .before .before .before in
     let walk = shared .before .before .before .before .before in
     let start = walk .before .before .before .before .before .before in (
-      walked-next _ _ _ _ _ _ _ (start .pre .0) _ _ _ _ _ (walk .walk .inv .0) (shared .parts-in .ensures) _ _ _ (turn .loop .inv) (search needs),
+      walked-next _ _ _ _ _ _ (start .pre .0) _ _ _ _ (walk .walk .inv .0) (shared .parts-in .ensures) _ _ _ (turn .loop .inv) (search needs),
+      search needs,
       search needs,
     )
 
@@ -89,7 +91,7 @@ same-length-2 : tie.Need-same-length-2 Inv-loop μ-loop Inv-walk μ-walk
 same-length-2 c = search needs
 
 same-length-3 : tie.Need-same-length-3 Inv-loop μ-loop Inv-walk μ-walk
-same-length-3 c = search walked-parts
+same-length-3 c = search needs
 
 returns : tie.Need-returns Inv-loop μ-loop Inv-walk μ-walk
 returns c = search ended-past
@@ -101,7 +103,7 @@ same-length-5 : tie.Need-same-length-5 Inv-loop μ-loop Inv-walk μ-walk
 same-length-5 c = search needs
 
 same-length-6 : tie.Need-same-length-6 Inv-loop μ-loop Inv-walk μ-walk
-same-length-6 c = search turned-parts
+same-length-6 c = search needs
 
 returns-2 : tie.Need-returns-2 Inv-loop μ-loop Inv-walk μ-walk
 returns-2 c = search ended-met
