@@ -1,5 +1,5 @@
 -- A list of the positions below n that pass a test (specs/Lists.antt), and the loops that make it and go over it.
---     one-is               a test as a number
+--     one-is, cond-bit     a test as a number
 --     lists-none           the list of nobody
 --     lists-room           there is a place in the list for each position
 --     lists-next           one position more, listed if it passes
@@ -37,6 +37,10 @@ use Rattle.columns.specs.Lists.{Lists}
 pub one-is : (t : Bool) → (boolByte t ≡ bit t) × (boolByte t ≤ 1)
 one-is true = (refl, omega arith)
 one-is false = (refl, omega arith)
+
+pub cond-bit : (t : Bool) → cond t 1 0 ≡ bit t
+cond-bit true = refl
+cond-bit false = refl
 
 -- ---- the list is made
 
@@ -139,11 +143,7 @@ sum-listed (suc n) p list g h =
 
 all : (n : ℕ) (p : ℕ → Bool) → sumWhere n p (λ i. bit (ltb i n)) ≡ countTo n p
 unfolding countTo sumWhere
-all n p = sum-same n (λ i. cond (p i) (bit (ltb i n)) 0) (λ i. bit (p i)) (λ i l. rw (lt-ltb i n l) (one (p i)))
-  where
-    one : (t : Bool) → cond t 1 0 ≡ bit t
-    one true = refl
-    one false = refl
+all n p = sum-same n (λ i. cond (p i) (bit (ltb i n)) 0) (λ i. bit (p i)) (λ i l. rw (lt-ltb i n l) (cond-bit (p i)))
 
 pub front-count : (n : ℕ) (p : ℕ → Bool) (k : ℕ) → k ≤ n → sumWhere n p (λ i. bit (ltb i k)) ≡ countTo k p
 front-count zero p k h = let e : k ≡ 0 = omega arith in rw e (unfold countTo sumWhere sumTo in refl)

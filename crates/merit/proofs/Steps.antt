@@ -13,6 +13,7 @@ use Rattle.columns.proofs.First.{left-true, right-true}
 use Rattle.columns.specs.Sum.{bit, sumTo, whole, countTo, maxTo, maxWhere}
 use Rattle.columns.specs.Table.{at, table}
 use Rattle.columns.proofs.Sum.{sum-next, sum-bound, bit-le, count-next, count-same, max-where-next}
+use Rattle.columns.proofs.Listed.{cond-bit}
 use Rattle.columns.proofs.Table.{table-list, table-length, table-at, front-long}
 use Rattle.columns.proofs.Fill.{Reached, reached-none, reached-next, reached-all}
 use Rattle.columns.proofs.Whole.{whole-table}
@@ -152,10 +153,6 @@ module _ (f : ℕ → ℕ) (n : ℕ) (start : List ℕ) where
     pub grouped-whole : n ≤ i → sum ≡ whole now
     grouped-whole l = summed-all f n sum i (r .summed) l ∙ sym (ap whole (grouped-all l) ∙ whole-table n f)
 
-one-is : (t : Bool) → cond t 1 0 ≡ bit t
-one-is true = refl
-one-is false = refl
-
 -- f stands in the first i positions, their sum is known, and how many are above 0
 pub record Banded (f : ℕ → ℕ) (n : ℕ) (start now : List ℕ) (sum bands i : ℕ) : Type 0 where
   pub grouped : Grouped f n start now sum i
@@ -171,7 +168,7 @@ module _ (f : ℕ → ℕ) (n : ℕ) (start : List ℕ) where
     pub banded-next : (v x : ℕ) → i < n → v ≡ f i → v ≤ 250000 → x ≡ cond (ltb 0 v) 1 0
         → Banded f n start (set now i v) (sum + v) (bands + x) (i + 1)
     banded-next v x l e h b =
-        let here : x ≡ bit (ltb 0 (f i)) = b ∙ one-is (ltb 0 v) ∙ ap (λ (w : ℕ). bit (ltb 0 w)) e in
+        let here : x ≡ bit (ltb 0 (f i)) = b ∙ cond-bit (ltb 0 v) ∙ ap (λ (w : ℕ). bit (ltb 0 w)) e in
         record {
           grouped = grouped-next f n start now sum i (r .grouped) room v l e h;
           bands-are = omega (arith, r .bands-are, here, count-next i (λ j. ltb 0 (f j)));
@@ -197,7 +194,7 @@ module _ (f : ℕ → ℕ) (n : ℕ) (start : List ℕ) where
   pub banded-fits : (now : List ℕ) (sum bands i v x : ℕ) → Banded f n start now sum bands i → n ≤ 256 → x ≡ cond (ltb 0 v) 1 0
       → Fits w32 (bands + x)
   banded-fits now sum bands i v x r h b =
-      omega (arith, r .few, r .grouped .summed .within, b ∙ one-is (ltb 0 v), bit-le (ltb 0 v))
+      omega (arith, r .few, r .grouped .summed .within, b ∙ cond-bit (ltb 0 v), bit-le (ltb 0 v))
 
 -- what the loops over the bands of a bid end with; the code holds the bid in 32 bits as k
 module _ (ws bs : List ℕ) (k bid : ℕ) (is : k ≡ bid) (start now : List ℕ) (sum i : ℕ) (end : length ws ≤ i) where

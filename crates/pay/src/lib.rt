@@ -53,7 +53,7 @@ fn tier_penalty(call: Kwh, delivered: Kwh, price: Li) -> Li
     once.plus(once)
 }
 
-// What a row owes for both tiers. Nearly all rows delivered what they were called for and are done at once.
+// What a row owes for both tiers. Nearly all rows owe nothing and are done with at one test.
 pub fn penalty(
     call1: Kwh,
     call2: Kwh,

@@ -3,6 +3,7 @@
 --                      its start, what a line asks, a turn, its end
 --   WrittenTo          how far the writing loop has come; written-none, written-inside, written-one-room, written-two-room, written-next,
 --                      written-all: the same of it
+--   both, former, latter     two fields of four bytes side by side, and each of them
 --   side-by-side       numbers put into two fields of four bytes as one: they stand in the first, and 0 in the second
 use Prim.Native.Nat.{ℕ, zero, suc, _+_, _*_, _/_, _%_, _^_, _≤_, _<_}
 use mathlib.Core.Path.{_≡_, refl, sym, ap, _∙_}
@@ -132,13 +133,13 @@ eight x l =
     ap (λ (y : ℕ). (x % 256) ∷ (x / 256 % 256) ∷ (x / 256 / 256 % 256) ∷ (x / 256 / 256 / 256 % 256) ∷ numberBytes 4 y) e
 
 module _ (start stride offset : ℕ) where
-  abbrev both : Field
+  abbrev pub both : Field
   both = record { start = start; stride = stride; offset = offset; width = 8 }
 
-  abbrev former : Field
+  abbrev pub former : Field
   former = record { start = start; stride = stride; offset = offset; width = 4 }
 
-  abbrev latter : Field
+  abbrev pub latter : Field
   latter = record { start = start; stride = stride; offset = offset + 4; width = 4 }
 
   side-cell : (i x : ℕ) (s : List ℕ) → x < 2 ^ 32 → cellAt both i + 8 ≤ length s → withCell both i x s ≡ withCell latter i 0 (withCell former i x s)

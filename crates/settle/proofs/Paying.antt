@@ -41,13 +41,20 @@ pub record Sofar (n p1 p2 : ℕ) (s₀ s : List ℕ) (total penalties i : ℕ) :
   pub penalties-small : penalties ≤ i * 100000000
 
 module _ (n p1 p2 : ℕ) (s₀ : List ℕ) (asked : Accountable n p1 p2 s₀) where
+  -- the columns of both figures
+  abbrev pays : List ℕ
+  pays = figures paying n p1 p2 s₀
+
+  abbrev owes : List ℕ
+  owes = figures owing n p1 p2 s₀
+
   count : (g : Pricing) → length (figures g n p1 p2 s₀) ≡ n
   count g = table-length n (pricedAt g p1 p2 s₀)
 
-  pay-lined : Lined line.pay (length (figures paying n p1 p2 s₀)) s₀
+  pay-lined : Lined line.pay (length pays) s₀
   pay-lined = rw (count paying) (asked .pay-lined)
 
-  owed-lined : Lined line.owed (length (figures owing n p1 p2 s₀)) s₀
+  owed-lined : Lined line.owed (length owes) s₀
   owed-lined = rw (count owing) (asked .owed-lined)
 
   pub sofar-none : Sofar n p1 p2 s₀ s₀ 0 0 0
@@ -55,7 +62,7 @@ module _ (n p1 p2 : ℕ) (s₀ : List ℕ) (asked : Accountable n p1 p2 s₀) wh
   sofar-none =
       record {
         written =
-            written-none line.pay line.owed (figures paying n p1 p2 s₀) (figures owing n p1 p2 s₀) s₀ (count owing ∙ sym (count paying));
+            written-none line.pay line.owed pays owes s₀ (count owing ∙ sym (count paying));
         total-is = refl;
         total-small = omega arith;
         penalties-are = refl;
@@ -67,7 +74,7 @@ module _ (n p1 p2 : ℕ) (s₀ : List ℕ) (asked : Accountable n p1 p2 s₀) wh
     sofar-long = sofar .written .long
 
     module _ (l : i < n) where
-      inside : i < length (figures paying n p1 p2 s₀)
+      inside : i < length pays
       inside = omega (arith, count paying)
 
       pub line-there : lineStart (i + 1) ≤ length s
@@ -75,23 +82,22 @@ module _ (n p1 p2 : ℕ) (s₀ : List ℕ) (asked : Accountable n p1 p2 s₀) wh
 
       pub pay-there : cellAt line.pay i + 8 ≤ length s
       pay-there =
-          written-one-room line.pay line.owed (figures paying n p1 p2 s₀) (figures owing n p1 p2 s₀) s₀ s i (sofar .written) pay-lined inside
+          written-one-room line.pay line.owed pays owes s₀ s i (sofar .written) pay-lined inside
 
       pub owed-there : (x : ℕ) (t : List ℕ) → t ≡ withCell line.pay i x s → cellAt line.owed i + 8 ≤ length t
       owed-there x t put-pay =
-          written-two-room line.pay line.owed (figures paying n p1 p2 s₀) (figures owing n p1 p2 s₀) s₀ s i (sofar .written) pay-lined inside x t
+          written-two-room line.pay line.owed pays owes s₀ s i (sofar .written) pay-lined inside x t
           put-pay owed-lined
 
       -- what was put into the lines before is not seen in this one
       later : (j : ℕ) → cell (lineField j) s i ≡ cell (lineField j) s₀ i
       later j =
-          let xs = figures paying n p1 p2 s₀ in
-          let t = withCells line.pay i xs s₀ in
-          let t-long : length t ≡ length s₀ = cells-length line.pay n i xs s₀ (asked .pay-lined) (omega arith) in
+          let t = withCells line.pay i pays s₀ in
+          let t-long : length t ≡ length s₀ = cells-length line.pay n i pays s₀ (asked .pay-lined) (omega arith) in
           ap (λ (x : List ℕ). cell (lineField j) x i) (sofar .written .is)
-          ∙ cell-later line.owed (lineField j) n (figures owing n p1 p2 s₀) t i i refl refl
+          ∙ cell-later line.owed (lineField j) n owes t i i refl refl
           (record { inside = asked .owed-lined .inside; room = omega (arith, t-long, asked .owed-lined .room) }) (omega arith) l
-          ∙ cell-later line.pay (lineField j) n xs s₀ i i refl refl (asked .pay-lined) (omega arith) l
+          ∙ cell-later line.pay (lineField j) n pays s₀ i i refl refl (asked .pay-lined) (omega arith) l
 
       same-figure : (g : Pricing) → pricedAt g p1 p2 s i ≡ pricedAt g p1 p2 s₀ i
       same-figure g = λ j. g .rule (later 1 j) (later 2 j) (later (g .into) j) (later (g .beside) j) p1 p2
@@ -106,18 +112,18 @@ module _ (n p1 p2 : ℕ) (s₀ : List ℕ) (asked : Accountable n p1 p2 s₀) wh
         pub sofar-more : (t : List ℕ) → t ≡ withCell line.pay i (pay .0) s → (u : List ℕ) → u ≡ withCell line.owed i (owed .0) t
             → Sofar n p1 p2 s₀ u (total + pay .0) (penalties + owed .0) (i + 1)
         sofar-more t put-pay u put-owed =
-            let pays = pay-is ∙ same-figure paying in
-            let owes = owed-is ∙ same-figure owing in
+            let paid-now = pay-is ∙ same-figure paying in
+            let owed-now = owed-is ∙ same-figure owing in
             record {
               written =
-                  written-next line.pay line.owed (figures paying n p1 p2 s₀) (figures owing n p1 p2 s₀) s₀ s i (sofar .written) pay-lined inside
+                  written-next line.pay line.owed pays owes s₀ s i (sofar .written) pay-lined inside
                   (pay .0) t put-pay owed-lined (record { start = refl; stride = refl })
-                  (pays ∙ sym (table-at 0 n (pricedAt paying p1 p2 s₀) i l)) (owed .0)
-                  (owes ∙ sym (table-at 0 n (pricedAt owing p1 p2 s₀) i l)) u put-owed;
-              total-is = omega (arith, pays, sofar .total-is, sum-next i (pricedAt paying p1 p2 s₀));
-              total-small = omega (arith, pays, asked .pay-small i l, sofar .total-small);
-              penalties-are = omega (arith, owes, sofar .penalties-are, sum-next i (pricedAt owing p1 p2 s₀));
-              penalties-small = omega (arith, owes, asked .owed-small i l, sofar .penalties-small);
+                  (paid-now ∙ sym (table-at 0 n (pricedAt paying p1 p2 s₀) i l)) (owed .0)
+                  (owed-now ∙ sym (table-at 0 n (pricedAt owing p1 p2 s₀) i l)) u put-owed;
+              total-is = omega (arith, paid-now, sofar .total-is, sum-next i (pricedAt paying p1 p2 s₀));
+              total-small = omega (arith, paid-now, asked .pay-small i l, sofar .total-small);
+              penalties-are = omega (arith, owed-now, sofar .penalties-are, sum-next i (pricedAt owing p1 p2 s₀));
+              penalties-small = omega (arith, owed-now, asked .owed-small i l, sofar .penalties-small);
             }
 
     pub sofar-all : n ≤ i → (r : Accounts) → r .total .0 ≡ total → r .penalties .0 ≡ penalties → Accounted n p1 p2 s₀ s r
@@ -125,7 +131,7 @@ module _ (n p1 p2 : ℕ) (s₀ : List ℕ) (asked : Accountable n p1 p2 s₀) wh
         let e : i ≡ n = omega (arith, sofar .written .within, count paying) in
         record {
           bytes =
-              written-all line.pay line.owed (figures paying n p1 p2 s₀) (figures owing n p1 p2 s₀) s₀ s i (sofar .written) (omega (arith, count paying));
+              written-all line.pay line.owed pays owes s₀ s i (sofar .written) (omega (arith, count paying));
           total =
               total-told ∙ sofar .total-is ∙ ap (λ (m : ℕ). sumTo m (pricedAt paying p1 p2 s₀)) e ∙ sym (whole-table n (pricedAt paying p1 p2 s₀));
           penalties =

@@ -37,7 +37,7 @@ use Rattle.settle.specs.Work.{lined, lineField, Ruled, tierOne, tierTwo,
 use Rattle.settle.specs.Work.{Leviable, standingIn, Levied, cutting, returning, Shareable, sharedOut, dividedTo, Divisible}
 use Rattle.settle.specs.declared.market.Accounts.{Accounts}
 use Rattle.settle.specs.declared.market.Cleared.{Cleared}
-use Rattle.settle.proofs.LineByLine.{side-by-side}
+use Rattle.settle.proofs.LineByLine.{both, former, latter, side-by-side}
 use Rattle.settle.proofs.Sizes.{Sized, Long, figures-long, figures-sized}
 
 -- ---- n lines in a buffer with room for them
@@ -63,22 +63,26 @@ module _ (n : ℕ) (out : List ℕ) (room : lineStart n ≤ length out) where
     ruled j inside narrow =
         record { lined = record { inside = inside; room = omega (arith, lines-long, room) }; narrow = narrow }
 
-    -- a column put into two fields side by side is the former in every line, and the latter is 0
-    pub written-beside : (both : Field) (j : ℕ) → j + 1 < 11 → (xs : List ℕ) → length xs ≡ n
-        → withColumn both xs (lined out n g) ≡ withColumn (lineField (j + 1)) (replicate n 0) (withColumn (lineField j) xs (lined out n g))
-        → withColumn both xs (lined out n g) ≡ lined out n (λ i. set (set (g i) j (at xs i)) (j + 1) 0)
-    written-beside both j known xs long apart =
-        apart ∙ ap (withColumn (lineField (j + 1)) (replicate n 0)) (written j (omega arith) xs long)
-        ∙ sheet-with headSize letterL lineWidths out n (λ i. set (g i) j (at xs i)) (j + 1) (replicate n 0)
-        (λ i. length-set (g i) j (at xs i) ∙ full i) known (omega arith) (length-replicate n 0)
-        ∙ sheet-same headSize letterL lineWidths out n (λ i. set (set (g i) j (at xs i)) (j + 1) (at (replicate n 0) i))
-        (λ i. set (set (g i) j (at xs i)) (j + 1) 0) (λ i l. ap (set (set (g i) j (at xs i)) (j + 1)) (zeros-at n i))
-
-    -- their cells lie inside the lines
+    -- the cells of two fields side by side lie inside the lines
     pub beside-lined : (both : Field) → both .start ≡ headSize → both .stride ≡ lineSize → both .offset + both .width ≤ lineSize
         → Lined both n (lined out n g)
     beside-lined both start stride inside =
         record { inside = omega (arith, stride); room = rw (start, stride) (omega (arith, lines-long, room)) }
+
+    -- a column put into fields j and j + 1 as one of eight bytes at offset o is the former in every line, and the latter is 0
+    pub written-beside : (j o : ℕ) → j + 1 < 11 → lineField j ≡ former headSize lineSize o → lineField (j + 1) ≡ latter headSize lineSize o
+        → o + 8 ≤ lineSize → (xs : List ℕ) → length xs ≡ n → ((i : ℕ) → at xs i < 2 ^ 32)
+        → withColumn (both headSize lineSize o) xs (lined out n g) ≡ lined out n (λ i. set (set (g i) j (at xs i)) (j + 1) 0)
+    written-beside j o known one two inside xs long small =
+        let zs : List ℕ = replicate n 0 in
+        side-by-side headSize lineSize o xs zs (lined out n g) (rw long (beside-lined (both headSize lineSize o) refl refl inside))
+        (length-replicate n 0 ∙ sym long) small (zeros-at n)
+        ∙ sym (λ k. withColumn (two k) zs (withColumn (one k) xs (lined out n g)))
+        ∙ ap (withColumn (lineField (j + 1)) zs) (written j (omega arith) xs long)
+        ∙ sheet-with headSize letterL lineWidths out n (λ i. set (g i) j (at xs i)) (j + 1) zs
+        (λ i. length-set (g i) j (at xs i) ∙ full i) known (omega arith) (length-replicate n 0)
+        ∙ sheet-same headSize letterL lineWidths out n (λ i. set (set (g i) j (at xs i)) (j + 1) (at zs i))
+        (λ i. set (set (g i) j (at xs i)) (j + 1) 0) (λ i l. ap (set (set (g i) j (at xs i)) (j + 1)) (zeros-at n i))
 
 -- ---- the stages, of any columns within sizes
 
@@ -226,7 +230,7 @@ module _ (n : ℕ) (d : Duties) (within : Within n d) (need first : ℕ) (turn :
   module _ (g : Pricing) (energies1 energies2 : List ℕ) (known1 : g .into < 11) (known2 : g .beside < 11)
       (is1 : (i : ℕ) → at (lines2 i) (g .into) ≡ at energies1 i) (fits1 : (i : ℕ) → at energies1 i < 256 ^ at lineWidths (g .into))
       (is2 : (i : ℕ) → at (lines2 i) (g .beside) ≡ at energies2 i) (fits2 : (i : ℕ) → at energies2 i < 256 ^ at lineWidths (g .beside))
-      (xs : List ℕ) (long-x : length xs ≡ n)
+      (xs : List ℕ)
       (made : (i : ℕ) → i < n
       → at xs i ≡ g .rule (at (f .called1) i) (at (f .called2) i) (at energies1 i) (at energies2 i) (f .price1) (f .price2)) where
     -- a cell is the figure that stands there
@@ -242,10 +246,12 @@ module _ (n : ℕ) (d : Duties) (within : Within n d) (need first : ℕ) (turn :
         let e2 = stands (g .beside) known2 (at energies2 i) i l (is2 i) (fits2 i) in
         (λ j. g .rule (c1 j) (c2 j) (e1 j) (e2 j) (f .price1) (f .price2)) ∙ sym (made i l)
 
-    priced-all : table n (pricedAt g (f .price1) (f .price2) (lined out n lines2)) ≡ xs
-    priced-all =
-        table-same n (pricedAt g (f .price1) (f .price2) (lined out n lines2)) (at xs) priced-is
-        ∙ ap (λ (m : ℕ). table m (at xs)) (sym long-x) ∙ sym (table-list 0 xs)
+  priced-all : (g : Pricing) (xs : List ℕ) → length xs ≡ n
+      → ((i : ℕ) → i < n → pricedAt g (f .price1) (f .price2) (lined out n lines2) i ≡ at xs i)
+      → table n (pricedAt g (f .price1) (f .price2) (lined out n lines2)) ≡ xs
+  priced-all g xs long-x each =
+      table-same n (pricedAt g (f .price1) (f .price2) (lined out n lines2)) (at xs) each ∙ ap (λ (m : ℕ). table m (at xs)) (sym long-x)
+      ∙ sym (table-list 0 xs)
 
   pay-made : (i : ℕ) → i < n
       → at (f .compensations) i
@@ -259,12 +265,12 @@ module _ (n : ℕ) (d : Duties) (within : Within n d) (need first : ℕ) (turn :
   pay-is : (i : ℕ) → i < n → pricedAt paying (f .price1) (f .price2) (lined out n lines2) i ≡ at (f .compensations) i
   pay-is =
       priced-is paying (d .energies1) (d .energies2) (omega arith) (omega arith) (λ i. refl) (λ i. omega (arith, within .delivered i)) (λ i. refl)
-      (λ i. omega (arith, within .delivered i)) (f .compensations) (long .compensations) pay-made
+      (λ i. omega (arith, within .delivered i)) (f .compensations) pay-made
 
   owed-is : (i : ℕ) → i < n → pricedAt owing (f .price1) (f .price2) (lined out n lines2) i ≡ at (f .penalties) i
   owed-is =
       priced-is owing (d .credits1) (d .credits2) (omega arith) (omega arith) (λ i. refl) (λ i. omega (arith, within .credited1 i)) (λ i. refl)
-      (λ i. omega (arith, within .credited2 i)) (f .penalties) (long .penalties) owed-made
+      (λ i. omega (arith, within .credited2 i)) (f .penalties) owed-made
 
   pub account-asked : Accountable n (f .price1) (f .price2) (lined out n lines2)
   account-asked =
@@ -284,29 +290,21 @@ module _ (n : ℕ) (d : Duties) (within : Within n d) (need first : ℕ) (turn :
 
   module _ (t : List ℕ) (r : Accounts) (now : Accounted n (f .price1) (f .price2) (lined out n lines2) t r) where
     pays : table n (pricedAt paying (f .price1) (f .price2) (lined out n lines2)) ≡ f .compensations
-    pays =
-        priced-all paying (d .energies1) (d .energies2) (omega arith) (omega arith) (λ i. refl) (λ i. omega (arith, within .delivered i)) (λ i. refl)
-        (λ i. omega (arith, within .delivered i)) (f .compensations) (long .compensations) pay-made
+    pays = priced-all paying (f .compensations) (long .compensations) pay-is
 
     owes : table n (pricedAt owing (f .price1) (f .price2) (lined out n lines2)) ≡ f .penalties
-    owes =
-        priced-all owing (d .credits1) (d .credits2) (omega arith) (omega arith) (λ i. refl) (λ i. omega (arith, within .credited1 i)) (λ i. refl)
-        (λ i. omega (arith, within .credited2 i)) (f .penalties) (long .penalties) owed-made
+    owes = priced-all owing (f .penalties) (long .penalties) owed-is
 
     -- both columns in their fields, with 0 behind them
     pay-put : withColumn line.pay (f .compensations) (lined out n lines2) ≡ lined out n lines3
     pay-put =
-        written-beside n out room lines2 (λ i. refl) line.pay 3 (omega arith) (f .compensations) (long .compensations)
-        (side-by-side headSize lineSize 12 (f .compensations) (replicate n 0) (lined out n lines2)
-        (rw (long .compensations) (beside-lined n out room lines2 (λ i. refl) line.pay refl refl (omega arith)))
-        (length-replicate n 0 ∙ sym (long .compensations)) (λ i. omega (arith, sized .compensations i)) (zeros-at n))
+        written-beside n out room lines2 (λ i. refl) 3 12 (omega arith) refl refl (omega arith) (f .compensations) (long .compensations)
+        (λ i. omega (arith, sized .compensations i))
 
     owed-put : withColumn line.owed (f .penalties) (lined out n lines3) ≡ lined out n lines4
     owed-put =
-        written-beside n out room lines3 (λ i. refl) line.owed 9 (omega arith) (f .penalties) (long .penalties)
-        (side-by-side headSize lineSize 34 (f .penalties) (replicate n 0) (lined out n lines3)
-        (rw (long .penalties) (beside-lined n out room lines3 (λ i. refl) line.owed refl refl (omega arith)))
-        (length-replicate n 0 ∙ sym (long .penalties)) (λ i. omega (arith, sized .penalties i)) (zeros-at n))
+        written-beside n out room lines3 (λ i. refl) 9 34 (omega arith) refl refl (omega arith) (f .penalties) (long .penalties)
+        (λ i. omega (arith, sized .penalties i))
 
     pub account-lines : t ≡ lined out n lines4
     account-lines =
