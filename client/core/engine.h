@@ -1,0 +1,113 @@
+// The proved engine (include/wheatrudder.h) in the client's types. Every figure of a statement comes through here;
+// nothing is kept from one call to the next.
+#pragma once
+
+#include "calendar.h"
+#include "figures.h"
+
+#include <array>
+#include <compare>
+#include <cstdint>
+#include <optional>
+#include <span>
+#include <variant>
+#include <vector>
+
+namespace client {
+
+using Bytes = std::vector<std::uint8_t>;
+using View = std::span<const std::uint8_t>;
+
+// What a row is called by, in files and statements: no place in a file.
+struct RowId {
+    std::uint16_t number = 0;
+    friend constexpr auto operator<=>(RowId, RowId) = default;
+};
+
+enum class Kind : std::uint8_t { thermal = 1, wind = 2, solar = 3 };
+enum class Status : std::uint8_t { normal = 0, starting = 1, reduced = 2, accident = 3 };
+
+// What counts of a row, but for its offer: a neighbour's bids and minimum are nobody else's business.
+struct Row {
+    RowId id;
+    Kind kind = Kind::thermal;
+    std::int64_t capacity = 0; // MW
+    Kwh metered;
+    Status status = Status::normal;
+
+    friend bool operator==(const Row &, const Row &) = default;
+    // The energy of a quarter hour at so many percent of full load; full load is 250 kWh for each MW.
+    Kwh at_percent(int percent) const { return {capacity * percent * 5 / 2}; }
+};
+
+// One line of a statement.
+struct Line {
+    RowId id;
+    std::array<Kwh, 2> called; // by tier
+    Fen compensation;
+    Fen cut;
+    Kwh weight;
+    Fen cap;
+    Fen paid;
+    unsigned closing = 0; // the round in which it reached its cap, 0 if it did not
+    Fen penalty;
+    Fen returned;
+
+    friend bool operator==(const Line &, const Line &) = default;
+    // What the quarter brings the row, below 0 where it costs.
+    Fen net() const { return compensation - cut - paid - penalty + returned; }
+};
+
+// A statement that the engine has written: its bytes, read by the header's readers.
+class Statement {
+  public:
+    explicit Statement(Bytes bytes);
+
+    View bytes() const { return bytes_; }
+    Slot slot() const;
+    std::array<Li, 2> prices() const;
+    Fen total() const;
+    Fen shortfall() const;
+    unsigned rounds() const;
+    Kwh uncovered() const;
+    std::uint32_t visits() const;
+    std::size_t rows() const;
+    // Line i, counted from 0 and below rows().
+    Line line(std::size_t i) const;
+    std::vector<Line> lines() const;
+    // The line of a row, if it has one.
+    std::optional<Line> of(RowId id) const;
+
+  private:
+    Bytes bytes_;
+};
+
+// The number of the check that failed, and its place: an entry counted from 1, or 0 for a head or a length.
+struct Refusal {
+    unsigned number = 0;
+    unsigned place = 0;
+    friend bool operator==(const Refusal &, const Refusal &) = default;
+};
+
+// Settles an interval file with its correction, which is empty where there is none.
+std::variant<Statement, Refusal> settle(View interval, View correction);
+
+// The row that counts: the correction's where it names the id, else the interval file's. None where the files are
+// refused, or nobody names it.
+std::optional<Row> counting_row(View interval, View correction, RowId id);
+
+// The rows that count for the lines of a statement made from the same files, in the same order.
+std::vector<Row> counting_rows(View interval, View correction, const Statement &statement);
+
+// The head of an interval file that was accepted.
+struct Terms {
+    Hao tariff;
+    Kwh need;
+};
+Terms terms_of(View accepted_interval);
+
+// Forms of the files, for who looks at them before the engine does.
+inline constexpr std::size_t interval_head = 15;
+inline constexpr std::size_t correction_head = 9;
+
+} // namespace client

@@ -1,0 +1,32 @@
+// Phrases that several sentences have in common.
+#pragma once
+
+#include "duties.h"
+#include "words.h"
+
+#include <vector>
+
+namespace client {
+
+Word kind_word(Kind kind);
+Word status_word(Status status);
+Word tier_word(std::size_t tier); // 0 for tier 1
+std::string number(RowId id);
+
+// A load in percent: "79.99…".
+std::string load(const Row &row);
+// Fen for each kWh; the weight is above 0.
+std::string rate(Fen money, Kwh weight);
+// amount × weight ÷ weights, in yuan; the weights are above 0.
+std::string part_of(Fen amount, std::int64_t weight, std::int64_t weights);
+// Money in li, shown in yuan.
+std::string in_yuan(std::int64_t li);
+
+// An exact amount and, where it is no whole number of fen, what it is cut to.
+Said cut_to_fen(const Exactly &fen);
+// A sum of li and, where it is no whole number of fen, what it is rounded to.
+Said rounded_to_fen(const Due &due);
+// Ids, of which there is at least one: "3, 7 and 45 more".
+Said listed(const std::vector<RowId> &ids);
+
+} // namespace client

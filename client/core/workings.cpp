@@ -1,0 +1,250 @@
+#include "workings.h"
+
+#include "wheatrudder.h"
+
+#include <algorithm>
+#include <optional>
+
+namespace client {
+
+namespace {
+
+using Failed = std::optional<Said>;
+
+bool has_whole_lines(const Statement &statement) {
+    const std::size_t length = statement.bytes().size();
+    return length >= WHEATRUDDER_HEAD_LENGTH && length == WHEATRUDDER_STATEMENT_LENGTH(statement.rows());
+}
+
+// The stages of a quarter, each of which works something out and checks it. Of the statement only calls and prices are
+// taken over; every other figure of it is only compared, so that no stage depends on a figure that may be wrong.
+class Work {
+  public:
+    Work(const Statement &statement, const std::vector<Row> &rows, Hao tariff) : statement_(statement) {
+        is_.rows = rows;
+        is_.tariff = tariff;
+    }
+
+    std::variant<Workings, Said> done() {
+        using Stage = Failed (Work::*)();
+        for (const Stage stage : {&Work::read, &Work::add_up, &Work::weigh, &Work::earn, &Work::owe, &Work::close,
+                                  &Work::pay, &Work::cover}) {
+            if (Failed failed = (this->*stage)()) {
+                return *failed;
+            }
+        }
+        return std::move(is_);
+    }
+
+  private:
+    Failed read();
+    Failed add_up();
+    Failed weigh();
+    Failed earn();
+    Failed owe();
+    Failed close();
+    Failed pay();
+    Failed cover();
+
+    std::size_t count() const { return is_.rows.size(); }
+    RowId id(std::size_t position) const { return is_.lines[position].id; }
+    Said of_row(Word check, std::size_t position) const { return {check, {std::to_string(id(position).number)}}; }
+    void close_round(std::vector<std::size_t> &open);
+    std::vector<Fen> by_row(const Sharing &sharing) const;
+    Sharing shared_over(Fen Line::*something, Fen amount) const;
+    // Whether every row's field is what is due.
+    Failed same(Word check, Fen Line::*field, const std::vector<Fen> &due) const;
+
+    const Statement &statement_;
+    Workings is_;
+    std::vector<unsigned> closing_; // the round in which each row reached its cap, 0 if it did not
+    std::vector<std::size_t> open_; // positions of those who have a weight and are below their caps
+};
+
+Failed Work::read() {
+    if (!has_whole_lines(statement_)) {
+        return Word::check_length;
+    }
+    is_.lines = statement_.lines();
+    is_.prices = statement_.prices();
+    is_.turns = Turns(statement_.slot().quarter, count());
+    const bool fits =
+        std::equal(is_.lines.begin(), is_.lines.end(), is_.rows.begin(), is_.rows.end(),
+                   [](const Line &line, const Row &row) { return line.id == row.id && row.capacity > 0; });
+    return fits ? Failed() : Word::check_rows;
+}
+
+// The statement's own sums, before anything is worked out: nobody gains and nobody loses on the whole.
+Failed Work::add_up() {
+    Wide compensations = 0, cuts = 0, payments = 0, penalties = 0, returned = 0;
+    for (const Line &line : is_.lines) {
+        compensations += line.compensation.count;
+        cuts += line.cut.count;
+        payments += line.paid.count;
+        penalties += line.penalty.count;
+        returned += line.returned.count;
+    }
+    const Wide total = statement_.total().count;
+    const Wide shortfall = statement_.shortfall().count;
+    const Wide filled = std::min(shortfall, penalties);
+    if (compensations != total) {
+        return Word::check_total;
+    }
+    if (payments + shortfall != total) {
+        return Word::check_covered;
+    }
+    if (cuts != shortfall - filled) {
+        return Word::check_cuts;
+    }
+    return returned == penalties - filled ? Failed() : Word::check_returns;
+}
+
+Failed Work::weigh() {
+    for (std::size_t position = 0; position < count(); ++position) {
+        const Kwh weight = weight_of(is_.rows[position]);
+        if (is_.lines[position].weight != weight) {
+            return of_row(Word::check_weight, position);
+        }
+        if (is_.lines[position].cap != cap_of(is_.rows[position], is_.tariff).cut()) {
+            return of_row(Word::check_cap, position);
+        }
+        if (weight > Kwh{0}) {
+            open_.push_back(position);
+            is_.weight += weight;
+        }
+    }
+    return {};
+}
+
+Failed Work::earn() {
+    for (std::size_t position = 0; position < count(); ++position) {
+        const Line &line = is_.lines[position];
+        if (line.compensation != compensation_of(is_.rows[position], line.called, is_.prices).rounded()) {
+            return of_row(Word::check_compensation, position);
+        }
+        is_.total += line.compensation;
+    }
+    return {};
+}
+
+Failed Work::owe() {
+    for (std::size_t position = 0; position < count(); ++position) {
+        const Line &line = is_.lines[position];
+        if (line.penalty != penalty_of(is_.rows[position], line.called, is_.prices).rounded()) {
+            return of_row(Word::check_penalty, position);
+        }
+        is_.penalties += line.penalty;
+    }
+    return {};
+}
+
+// One round: all who reach their caps at its rate are taken out of `open`; none where nobody does.
+void Work::close_round(std::vector<std::size_t> &open) {
+    Round round{.rest = is_.rest, .weight = is_.open_weight, .closed = {}, .caps = {}, .left = {}, .left_weight = {}};
+    std::vector<std::size_t> still_open;
+    for (const std::size_t position : open) {
+        const Line &line = is_.lines[position];
+        const bool reaches = static_cast<Wide>(round.rest.count) * line.weight.count >=
+                             static_cast<Wide>(line.cap.count) * round.weight.count;
+        (reaches ? round.closed : still_open).push_back(position);
+    }
+    for (const std::size_t position : round.closed) {
+        round.caps += is_.lines[position].cap;
+        is_.open_weight -= is_.lines[position].weight;
+        closing_[position] = static_cast<unsigned>(is_.rounds.size()) + 1;
+    }
+    is_.rest -= round.caps;
+    open = still_open;
+    if (!round.closed.empty()) {
+        round.left = is_.rest;
+        round.left_weight = is_.open_weight;
+        is_.rounds.push_back(round);
+    }
+}
+
+Failed Work::close() {
+    closing_.assign(count(), 0);
+    is_.rest = is_.total;
+    is_.open_weight = is_.weight;
+    std::size_t visits = 0;
+    for (bool somebody_closed = true; somebody_closed;) {
+        const std::size_t were_open = open_.size();
+        visits += were_open;
+        close_round(open_);
+        somebody_closed = open_.size() < were_open;
+    }
+    for (std::size_t position = 0; position < count(); ++position) {
+        if (is_.lines[position].closing != closing_[position]) {
+            return of_row(Word::check_closing, position);
+        }
+    }
+    if (statement_.rounds() != is_.rounds.size()) {
+        return Word::check_rounds;
+    }
+    return statement_.visits() == visits ? Failed() : Word::check_visits;
+}
+
+// The shares by row, 0 for who takes no part.
+std::vector<Fen> Work::by_row(const Sharing &sharing) const {
+    std::vector<Fen> due(count());
+    for (const Part &part : sharing.parts) {
+        due[part.position] = {part.share()};
+    }
+    return due;
+}
+
+Failed Work::same(Word check, Fen Line::*field, const std::vector<Fen> &due) const {
+    for (std::size_t position = 0; position < count(); ++position) {
+        if (is_.lines[position].*field != due[position]) {
+            return of_row(check, position);
+        }
+    }
+    return {};
+}
+
+Failed Work::pay() {
+    std::vector<Sharer> sharers;
+    for (const std::size_t position : open_) {
+        sharers.push_back({position, is_.lines[position].weight.count});
+    }
+    is_.payments = share(is_.rest.count, sharers, is_.turns);
+    std::vector<Fen> due = by_row(is_.payments);
+    for (const Round &round : is_.rounds) {
+        for (const std::size_t position : round.closed) {
+            due[position] = is_.lines[position].cap;
+        }
+    }
+    return same(Word::check_paid, &Line::paid, due);
+}
+
+// An amount shared over what each row has of something.
+Sharing Work::shared_over(Fen Line::*something, Fen amount) const {
+    std::vector<Sharer> sharers;
+    for (std::size_t position = 0; position < count(); ++position) {
+        if (const Fen money = is_.lines[position].*something; money > Fen{0}) {
+            sharers.push_back({position, money.count});
+        }
+    }
+    return share(amount.count, sharers, is_.turns);
+}
+
+// Penalties fill the shortfall first; receivers bear what they leave open, and what they have over goes back. That the
+// statement has this shortfall follows from its payments, which are right, and from its sums.
+Failed Work::cover() {
+    is_.shortfall = open_.empty() ? is_.rest : Fen{0};
+    is_.filled = std::min(is_.shortfall, is_.penalties);
+    is_.cuts = shared_over(&Line::compensation, is_.shortfall - is_.filled);
+    is_.returns = shared_over(&Line::penalty, is_.penalties - is_.filled);
+    if (Failed failed = same(Word::check_cut, &Line::cut, by_row(is_.cuts))) {
+        return failed;
+    }
+    return same(Word::check_returned, &Line::returned, by_row(is_.returns));
+}
+
+} // namespace
+
+std::variant<Workings, Said> work_out(const Statement &statement, const std::vector<Row> &rows, Hao tariff) {
+    return Work(statement, rows, tariff).done();
+}
+
+} // namespace client

@@ -1,0 +1,398 @@
+// Explanations word for word, in both tongues.
+//
+//     explain_test EXAMPLES               prints all of them
+//     explain_test EXAMPLES EXPLAINED     holds them against the file
+//
+// EXAMPLES is the folder of interval X and of the worked figures of docs/TELL.md. The file explained.txt was printed
+// once and read against the rules, sentence by sentence; a change of it is to be read in the same way.
+#include "check.h"
+#include "explain.h"
+
+#include "wheatrudder.h"
+
+#include <fstream>
+#include <iterator>
+
+using namespace client;
+
+namespace {
+
+// Little-endian bytes.
+void put(Bytes &bytes, std::uint64_t number, unsigned length) {
+    for (unsigned place = 0; place < length; ++place) {
+        bytes.push_back(static_cast<std::uint8_t>(number >> (8 * place)));
+    }
+}
+
+void put(Bytes &bytes, char letter) {
+    put(bytes, static_cast<std::uint8_t>(letter), 1);
+}
+
+struct Offer {
+    std::uint32_t minimum;
+    std::uint16_t bid1, bid2;
+};
+
+struct Unit {
+    std::uint16_t id;
+    Kind kind;
+    std::uint16_t capacity;
+    std::uint32_t metered;
+    Status status = Status::normal;
+    std::optional<Offer> offer = {};
+};
+
+void put(Bytes &bytes, const Unit &unit) {
+    const Offer offer = unit.offer.value_or(Offer{0, 0, 0});
+    put(bytes, 'P');
+    put(bytes, 'R');
+    put(bytes, unit.id, 2);
+    put(bytes, static_cast<std::uint8_t>(unit.kind), 1);
+    put(bytes, unit.capacity, 2);
+    put(bytes, unit.metered, 4);
+    put(bytes, static_cast<std::uint8_t>(unit.status), 1);
+    put(bytes, unit.offer ? 1 : 0, 1);
+    put(bytes, offer.minimum, 4);
+    put(bytes, offer.bid1, 2);
+    put(bytes, offer.bid2, 2);
+}
+
+struct Head {
+    std::uint8_t quarter;
+    std::uint16_t tariff;
+    std::uint32_t need;
+};
+
+constexpr std::uint32_t day = 9'800;
+
+Bytes interval(const Head &head, const std::vector<Unit> &units) {
+    Bytes bytes;
+    put(bytes, 'P');
+    put(bytes, 'H');
+    put(bytes, day, 4);
+    put(bytes, head.quarter, 1);
+    put(bytes, head.tariff, 2);
+    put(bytes, head.need, 4);
+    put(bytes, units.size(), 2);
+    for (const Unit &unit : units) {
+        put(bytes, unit);
+    }
+    return bytes;
+}
+
+Bytes correction(std::uint8_t quarter, const std::vector<Unit> &units) {
+    Bytes bytes;
+    put(bytes, 'P');
+    put(bytes, 'K');
+    put(bytes, day, 4);
+    put(bytes, quarter, 1);
+    put(bytes, units.size(), 2);
+    for (const Unit &unit : units) {
+        put(bytes, unit);
+    }
+    return bytes;
+}
+
+Bytes read(const std::string &path) {
+    std::ifstream file(path, std::ios::binary);
+    check::holds(file.good(), path + " cannot be read");
+    return {std::istreambuf_iterator<char>(file), {}};
+}
+
+struct Settled {
+    Statement statement;
+    std::vector<Row> rows;
+    Hao tariff;
+};
+
+Settled settled(const Bytes &interval, const Bytes &correction = {}) {
+    const auto answer = settle(interval, correction);
+    check::holds(std::holds_alternative<Statement>(answer), "the files are refused");
+    const Statement &statement = std::get<Statement>(answer);
+    return {statement, counting_rows(interval, correction, statement), terms_of(interval).tariff};
+}
+
+Said name_of(RowId id) {
+    return {Word::row, {std::to_string(id.number)}};
+}
+
+std::string explained(const Settled &settled, RowId id) {
+    const auto answer = explain(settled.statement, settled.rows, settled.tariff, id, name_of(id));
+    if (const auto *disagreement = std::get_if<Disagreement>(&answer)) {
+        check::holds(false, disagreement->check.in(Tongue::english));
+    }
+    const Explanation &explanation = std::get<Explanation>(answer);
+    return as_text(explanation, Tongue::english) + "\n" + as_text(explanation, Tongue::chinese);
+}
+
+class Book {
+  public:
+    // Rows that are left out are like others that are in.
+    void add(const std::string &title, const Bytes &interval, const std::vector<std::uint16_t> &ids) {
+        const Settled quarter = settled(interval);
+        for (const std::uint16_t id : ids) {
+            text_ += "=== " + title + ", row " + std::to_string(id) + "\n\n" + explained(quarter, {id}) + "\n";
+        }
+    }
+
+    void add_reasons(const std::string &title, const Bytes &interval, const Bytes &correction,
+                     const std::vector<std::uint16_t> &ids) {
+        const Settled before = settled(interval), now = settled(interval, correction);
+        for (const std::uint16_t id : ids) {
+            text_ += "=== " + title + ", row " + std::to_string(id) + "\n";
+            const auto all = reasons({before.statement, before.rows}, {now.statement, now.rows}, {id});
+            for (const Tongue tongue : {Tongue::english, Tongue::chinese}) {
+                text_ += "\n";
+                for (const Said &reason : all) {
+                    text_ += reason.in(tongue) + "\n";
+                }
+            }
+            text_ += "\n";
+        }
+    }
+
+    const std::string &text() const { return text_; }
+
+  private:
+    std::string text_;
+};
+
+// Interval X at five tariffs (document 01, P1 to P5).
+void add_interval_x(Book &book, const std::string &examples) {
+    Bytes x = read(examples + "/x.interval");
+    for (const unsigned tariff : {3545u, 1350u, 1300u, 1200u, 1000u}) {
+        x[7] = static_cast<std::uint8_t>(tariff);
+        x[8] = static_cast<std::uint8_t>(tariff >> 8);
+        book.add("Interval X at tariff " + std::to_string(tariff), x, {1, 2, 3});
+    }
+}
+
+// The worked figures of docs/TELL.md.
+void add_worked_figures(Book &book, const std::string &examples) {
+    const auto add = [&](const std::string &name, const std::vector<std::uint16_t> &ids) {
+        book.add(name, read(examples + "/tell/" + name + ".interval"), ids);
+    };
+    add("no-payers", {1, 2, 3, 4});
+    add("undelivered", {1, 2, 3});
+    add("outbid", {1, 2});
+    add("odd-fen", {1, 2, 3});
+    add("odd-cut", {1, 2, 4});
+    add("reduced", {1, 2, 3});
+    add("reduced-payer", {1, 2, 3});
+    add("odd-return", {1, 2, 3});
+    add("each-its-round", {1, 2, 3, 4});
+    add("two-at-once", {3, 4});
+}
+
+const Unit seller{1, Kind::thermal, 100, 9'000, Status::normal, Offer{8'000, 200, 400}};
+
+// Roles, weights and caps that the worked figures do not have.
+void add_roles(Book &book) {
+    book.add("Rows that pay or get nothing, and others",
+             interval({37, 1, 2'600}, {seller,
+                                       {2, Kind::wind, 50, 0},
+                                       {3, Kind::solar, 50, 199},
+                                       {4, Kind::thermal, 100, 12'500},
+                                       {5, Kind::thermal, 100, 12'000, Status::normal, Offer{10'000, 300, 500}},
+                                       {6, Kind::thermal, 100, 12'000, Status::starting},
+                                       {7, Kind::thermal, 100, 12'000, Status::reduced},
+                                       {8, Kind::solar, 50, 7'000, Status::accident},
+                                       {9, Kind::thermal, 100, 19'999, Status::starting},
+                                       {10, Kind::thermal, 100, 12'499},
+                                       {753, Kind::thermal, 300, 52'501}}),
+             {2, 3, 4, 5, 6, 7, 8, 9, 10, 753});
+    book.add("Tiers that are not called, or not delivered",
+             interval({95, 4'000, 5'100}, {{11, Kind::thermal, 100, 9'001, Status::normal, Offer{8'000, 203, 451}},
+                                           {12, Kind::thermal, 100, 9'500, Status::normal, Offer{10'000, 201, 400}},
+                                           {13, Kind::thermal, 100, 11'111, Status::normal, Offer{9'500, 202, 450}},
+                                           {14, Kind::wind, 100, 20'001},
+                                           {15, Kind::wind, 100, 13'333}}),
+             {11, 12, 13, 14, 15});
+}
+
+// Penalties that the worked figures do not have.
+void add_penalties(Book &book) {
+    const Offer both{8'000, 200, 400};
+    book.add("Penalties that fill a part of the shortfall",
+             interval({5, 300, 12'000}, {seller,
+                                         {2, Kind::thermal, 100, 8'100, Status::reduced, both},
+                                         {3, Kind::thermal, 100, 10'501, Status::reduced, Offer{10'000, 150, 320}},
+                                         {4, Kind::wind, 100, 5'001}}),
+             {1, 2, 3, 4});
+    book.add("Penalties that nobody needs",
+             interval({5, 3'545, 9'000},
+                      {seller, {2, Kind::thermal, 100, 8'101, Status::reduced, both}, {3, Kind::wind, 100, 9'001}}),
+             {2});
+    book.add("A tier without a price",
+             interval({5, 1'300, 9'000}, {{1, Kind::thermal, 100, 10'000, Status::normal, both},
+                                          {2, Kind::thermal, 100, 12'497, Status::reduced, Offer{8'000, 205, 400}},
+                                          {3, Kind::thermal, 100, 12'500, Status::reduced, Offer{11'000, 110, 400}},
+                                          {4, Kind::thermal, 100, 20'000, Status::reduced}}),
+             {2, 3, 4});
+}
+
+// Caps that are reached by many rows at once, and in many rounds.
+void add_many_rounds(Book &book) {
+    const Unit large_seller{1, Kind::thermal, 2'000, 0, Status::normal, Offer{0, 320, 750}};
+    std::vector<Unit> farms{large_seller}, units{large_seller};
+    for (std::uint16_t id = 2; id <= 13; ++id) {
+        farms.push_back({id, Kind::wind, 2'000, 40'000u + id});
+    }
+    farms.push_back({20, Kind::thermal, 2'000, 252'000});
+    farms.push_back({21, Kind::thermal, 2'000, 250'001});
+    book.add("Many rows in one round", interval({40, 400, 400'000}, farms), {13, 21});
+    std::uint16_t id = 100;
+    for (const std::uint32_t metered : {526'108u, 503'211u, 454'374u, 376'657u, 352'349u, 348'743u, 301'838u, 300'561u,
+                                        290'610u, 284'976u, 283'203u, 282'499u, 255'334u, 250'768u}) {
+        units.push_back({id++, Kind::thermal, 2'000, metered});
+    }
+    book.add("Many rounds", interval({40, 1'523, 400'000}, units), {104, 111, 113});
+}
+
+void add_corrections(Book &book, const std::string &examples) {
+    book.add_reasons("Interval X with its correction", read(examples + "/x.interval"), read(examples + "/x.correction"),
+                     {1, 2, 3});
+    const Unit wind{3, Kind::wind, 100, 5'000}, high{2, Kind::thermal, 100, 20'000};
+    const Bytes x = interval({9, 3'545, 3'000}, {seller, high, wind});
+    const auto replaced = [](Unit unit, std::uint32_t metered, Status status = Status::normal) {
+        unit.metered = metered;
+        unit.status = status;
+        return unit;
+    };
+    book.add_reasons("A neighbour's meter", x, correction(9, {replaced(wind, 6'000)}), {1, 2, 3});
+    book.add_reasons("The seller's status", x, correction(9, {replaced(seller, 9'000, Status::reduced)}), {1, 2});
+    book.add_reasons("Two neighbours", x, correction(9, {replaced(seller, 8'000), replaced(high, 0, Status::accident)}),
+                     {3});
+    book.add_reasons("The same figures again", x, correction(9, {wind}), {2, 3});
+    std::vector<Unit> farms{seller}, more;
+    for (std::uint16_t id = 2; id <= 10; ++id) {
+        farms.push_back({id, Kind::wind, 100, 5'000});
+        more.push_back({id, Kind::wind, 100, 5'001});
+    }
+    more.pop_back();
+    book.add_reasons("Many neighbours", interval({9, 200, 3'000}, farms), correction(9, more), {10, 2});
+    more.pop_back();
+    book.add_reasons("Many neighbours, one fewer", interval({9, 3'545, 3'000}, farms), correction(9, more), {10});
+}
+
+std::string check_failed(const Statement &statement, const std::vector<Row> &rows, Hao tariff, std::uint16_t id) {
+    const auto answer = explain(statement, rows, tariff, {id}, name_of({id}));
+    const auto *disagreement = std::get_if<Disagreement>(&answer);
+    return disagreement == nullptr ? "none" : disagreement->check.in(Tongue::english);
+}
+
+// What is said where statement and rows do not fit: no figure is ever explained then.
+void check_disagreements(const std::string &examples) {
+    const auto [statement, rows, tariff] = settled(read(examples + "/x.interval"));
+    const Bytes bytes(statement.bytes().begin(), statement.bytes().end());
+    const auto failed = [&](const Bytes &altered) { return check_failed(Statement(altered), rows, tariff, 2); };
+    check::equal(failed(bytes), "none");
+    check::equal(check_failed(statement, rows, tariff, 4), "row 4 is not in the statement");
+    check::equal(check_failed(statement, rows, tariff + Hao{1}, 2), "cap of row 2");
+    check::equal(check_failed(statement, {rows[0], rows[1]}, tariff, 2),
+                 "rows of the files and lines of the statement");
+    check::equal(check_failed(statement, {rows[1], rows[0], rows[2]}, tariff, 2),
+                 "rows of the files and lines of the statement");
+    std::vector<Row> other = rows;
+    other[2].metered += Kwh{1};
+    check::equal(check_failed(statement, other, tariff, 2), "weight of row 3");
+    for (std::size_t length = 0; length < bytes.size(); ++length) {
+        check::equal(failed(Bytes(bytes.begin(), bytes.begin() + static_cast<std::ptrdiff_t>(length))),
+                     "length of the statement");
+    }
+    // Any byte at any place: no figure of it may bring the explanation down.
+    for (std::size_t place = 0; place < bytes.size(); ++place) {
+        for (unsigned byte = 0; byte < 256; ++byte) {
+            Bytes altered = bytes;
+            altered[place] = static_cast<std::uint8_t>(byte);
+            check::holds(!failed(altered).empty(), "an explanation, or a check in words");
+        }
+    }
+}
+
+// A statement with figures moved: what is added to the lowest byte of each place.
+struct Moved {
+    std::vector<std::pair<std::size_t, int>> places;
+    std::string notice;
+};
+
+void check_notices(const Bytes &interval, const std::vector<Moved> &all) {
+    const auto [statement, rows, tariff] = settled(interval);
+    for (const Moved &moved : all) {
+        Bytes bytes(statement.bytes().begin(), statement.bytes().end());
+        for (const auto &[place, by] : moved.places) {
+            bytes[place] = static_cast<std::uint8_t>(bytes[place] + by);
+        }
+        check::equal(check_failed(Statement(bytes), rows, tariff, 2), moved.notice);
+    }
+}
+
+std::size_t at(std::size_t position, std::size_t field) {
+    return WHEATRUDDER_STATEMENT_LENGTH(position) + field;
+}
+
+// The check that notices a moved figure names it.
+void check_names_of_checks(const std::string &examples) {
+    Bytes x = read(examples + "/x.interval");
+    x[7] = 1'000 % 256;
+    x[8] = 1'000 / 256;
+    const std::string covered = "payments and shortfall against all compensations";
+    check_notices(x, {{{{WHEATRUDDER_HEAD_TOTAL, 1}}, "sum of all compensations"},
+                      {{{WHEATRUDDER_HEAD_SHORTFALL, 1}}, covered},
+                      {{{WHEATRUDDER_HEAD_ROUNDS, 1}}, "number of rounds"},
+                      {{{WHEATRUDDER_HEAD_VISITS, 1}}, "number of visits to payers"},
+                      {{{at(0, WHEATRUDDER_LINE_COMPENSATION), 1}}, "sum of all compensations"},
+                      {{{at(0, WHEATRUDDER_LINE_CUT), 1}}, "sum of all cuts"},
+                      {{{at(1, WHEATRUDDER_LINE_WEIGHT), 1}}, "weight of row 2"},
+                      {{{at(1, WHEATRUDDER_LINE_CAP), 1}}, "cap of row 2"},
+                      {{{at(1, WHEATRUDDER_LINE_PAID), 1}}, covered},
+                      {{{at(1, WHEATRUDDER_LINE_PAID), 1}, {at(2, WHEATRUDDER_LINE_PAID), -1}}, "payment of row 2"},
+                      {{{at(2, WHEATRUDDER_LINE_CLOSING), -1}}, "round in which row 3 reached its cap"},
+                      {{{at(2, WHEATRUDDER_LINE_RETURNED), 1}}, "sum of all that is returned"}});
+    check_notices(read(examples + "/tell/no-payers.interval"),
+                  {{{{at(0, WHEATRUDDER_LINE_COMPENSATION), 1}, {at(1, WHEATRUDDER_LINE_COMPENSATION), -1}},
+                    "compensation of row 1"},
+                   {{{at(0, WHEATRUDDER_LINE_CUT), -1}, {at(1, WHEATRUDDER_LINE_CUT), 1}}, "cut of row 1"}});
+    check_notices(read(examples + "/tell/odd-return.interval"),
+                  {{{{at(1, WHEATRUDDER_LINE_PENALTY), -1}, {at(2, WHEATRUDDER_LINE_PENALTY), 1}}, "penalty of row 2"},
+                   {{{at(1, WHEATRUDDER_LINE_RETURNED), 1}, {at(3, WHEATRUDDER_LINE_RETURNED), -1}},
+                    "what is returned to row 2"}});
+}
+
+// The first line in which two texts differ.
+void compare(const std::string &is, const std::string &due) {
+    std::istringstream lines_is(is), lines_due(due);
+    std::string line_is, line_due;
+    for (std::size_t number = 1; true; ++number) {
+        const bool more_is = static_cast<bool>(std::getline(lines_is, line_is));
+        const bool more_due = static_cast<bool>(std::getline(lines_due, line_due));
+        check::equal(more_is, more_due, "whether there is a line " + std::to_string(number));
+        if (!more_is) {
+            return;
+        }
+        check::equal(line_is, line_due, "line " + std::to_string(number));
+    }
+}
+
+} // namespace
+
+int main(int count, char **words) {
+    check::holds(count == 2 || count == 3, "explain_test EXAMPLES [EXPLAINED]");
+    const std::string examples = words[1];
+    Book book;
+    add_interval_x(book, examples);
+    add_worked_figures(book, examples);
+    add_roles(book);
+    add_penalties(book);
+    add_many_rounds(book);
+    add_corrections(book, examples);
+    if (count == 2) {
+        std::cout << book.text();
+        return 0;
+    }
+    const Bytes due = read(words[2]);
+    compare(book.text(), {due.begin(), due.end()});
+    check_disagreements(examples);
+    check_names_of_checks(examples);
+    return check::passed("explain");
+}
