@@ -10,30 +10,6 @@ constexpr std::size_t most_listed = 8;
 
 } // namespace
 
-Word kind_word(Kind kind) {
-    switch (kind) {
-    case Kind::wind:
-        return Word::kind_2;
-    case Kind::solar:
-        return Word::kind_3;
-    default:
-        return Word::kind_1;
-    }
-}
-
-Word status_word(Status status) {
-    switch (status) {
-    case Status::starting:
-        return Word::status_1;
-    case Status::reduced:
-        return Word::status_2;
-    case Status::accident:
-        return Word::status_3;
-    default:
-        return Word::status_0;
-    }
-}
-
 Word tier_word(std::size_t tier) {
     return tier == 0 ? Word::tier_1 : Word::tier_2;
 }

@@ -2,14 +2,13 @@
 #pragma once
 
 #include "duties.h"
+#include "named.h"
 #include "words.h"
 
 #include <vector>
 
 namespace client {
 
-Word kind_word(Kind kind);
-Word status_word(Status status);
 Word tier_word(std::size_t tier); // 0 for tier 1
 std::string number(RowId id);
 

@@ -1,0 +1,453 @@
+#include "judging.h"
+
+#include "saying.h"
+#include "wheatrudder.h"
+
+#include <algorithm>
+#include <numeric>
+#include <tuple>
+
+namespace client {
+
+namespace {
+
+const char *const names_file = "plants.csv";
+
+// An interval file without rows that is accepted: day 0, quarter 0, tariff 1, need 0. Beside it a correction that
+// belongs to no quarter is judged as a correction.
+constexpr std::array<std::uint8_t, interval_head> no_rows{'P', 'H', 0, 0, 0, 0, 0, 1, 0, 0, 0, 0, 0, 0, 0};
+
+Form form_by_mark(View bytes) {
+    if (bytes.empty()) {
+        return Form::empty;
+    }
+    if (bytes.size() < 2 || bytes[0] != 'P') {
+        return Form::other;
+    }
+    switch (bytes[1]) {
+    case 'H':
+        return Form::interval;
+    case 'K':
+        return Form::correction;
+    case 'S':
+        return Form::statement;
+    case 'G':
+    case 'T':
+    case 'U':
+    case 'W':
+        return Form::coming;
+    default:
+        return Form::other;
+    }
+}
+
+// Day by bytes 2 to 5, quarter by byte 6. Whether the rest is whole is for the engine to say.
+std::optional<Slot> slot_by_head(View bytes) {
+    if (bytes.size() < 7) {
+        return std::nullopt;
+    }
+    return slot_of(wheatrudder_u32(bytes.data() + 2), wheatrudder_u8(bytes.data() + 6));
+}
+
+bool has_slot(Form form) {
+    return form == Form::interval || form == Form::correction || form == Form::statement;
+}
+
+// Whether a file was written less than arriving_for ago. A time in the future tells nothing.
+bool is_fresh(const Stamp &stamp) {
+    const auto now = std::chrono::system_clock::now();
+    return is_before(stamp.written, now) && !is_before(stamp.written, now - arriving_for);
+}
+
+void tell(File &file, Said says, std::optional<Said> to_do, bool faulty) {
+    file.says = std::move(says);
+    file.advice = std::move(to_do);
+    file.faulty = faulty;
+}
+
+// The id of the entry at a place, counted from 1, where the bytes reach so far.
+std::optional<RowId> id_at(View bytes, std::size_t head, unsigned place) {
+    const std::size_t end = head + std::size_t{place} * WHEATRUDDER_ROW_LENGTH;
+    if (place == 0 || end > bytes.size()) {
+        return std::nullopt;
+    }
+    return RowId{wheatrudder_u16(bytes.data() + end - WHEATRUDDER_ROW_LENGTH + 2)};
+}
+
+std::string_view as_text(View bytes) {
+    return {reinterpret_cast<const char *>(bytes.data()), bytes.size()};
+}
+
+// What a correction may change of a row.
+struct Reported {
+    RowId id;
+    Kwh metered;
+    Status status;
+};
+
+// A row of a file that was accepted, counted from 0.
+Reported row_at(View bytes, std::size_t head, std::size_t index) {
+    const std::uint8_t *at = bytes.data() + head + index * WHEATRUDDER_ROW_LENGTH;
+    return {{wheatrudder_u16(at + 2)}, {wheatrudder_u32(at + 7)}, static_cast<Status>(wheatrudder_u8(at + 11))};
+}
+
+// Every entry of an accepted correction beside the row that it replaces. Ids rise in both files.
+std::vector<Change> changes_of(View interval, View correction) {
+    std::vector<Change> changes;
+    const std::size_t entries = (correction.size() - correction_head) / WHEATRUDDER_ROW_LENGTH;
+    const std::size_t rows = (interval.size() - interval_head) / WHEATRUDDER_ROW_LENGTH;
+    std::size_t row = 0;
+    for (std::size_t i = 0; i < entries; ++i) {
+        const Reported now = row_at(correction, correction_head, i);
+        while (row < rows && row_at(interval, interval_head, row).id < now.id) {
+            ++row;
+        }
+        if (row < rows) {
+            const Reported before = row_at(interval, interval_head, row);
+            changes.push_back({now.id, before.metered, now.metered, before.status, now.status});
+        }
+    }
+    return changes;
+}
+
+// Makes of the files that were read what a reading says of them.
+class Judge {
+  public:
+    explicit Judge(Reading &reading) : reading_(reading), files_(reading.files) {}
+
+    // False where somebody asked to stop.
+    bool judge(const std::stop_token &stop);
+
+  private:
+    void place_files();
+    void look_at(QuarterRead &quarter);
+    void settle_pair(QuarterRead &quarter, std::size_t interval, std::optional<std::size_t> correction);
+    void accept(QuarterRead &quarter, Statement statement, std::size_t interval, std::optional<std::size_t> correction);
+    void refuse(QuarterRead &quarter, const Refusal &refusal, std::size_t interval,
+                std::optional<std::size_t> correction);
+    void wait_for(QuarterRead &quarter, std::size_t interval, std::optional<std::size_t> correction);
+    Places different(Places &places);
+    void set_against(const Places &places);
+    void put_aside(const Places &places, const Places &because_of);
+    void judge_alone(File &file);
+    void judge_nowhere(File &file);
+    void compare(File &file);
+    void take_names(File &file);
+    void put_in_order();
+
+    Reading &reading_;
+    std::vector<File> &files_;
+};
+
+bool Judge::judge(const std::stop_token &stop) {
+    place_files();
+    for (auto &[day, quarters] : reading_.days) {
+        for (QuarterRead &quarter : quarters) {
+            if (stop.stop_requested()) {
+                return false;
+            }
+            look_at(quarter);
+        }
+    }
+    for (File &file : files_) {
+        judge_alone(file);
+    }
+    put_in_order();
+    return true;
+}
+
+void Judge::place_files() {
+    for (std::size_t place = 0; place < files_.size(); ++place) {
+        const File &file = files_[place];
+        if (file.slot && file.form != Form::statement) {
+            QuarterRead &quarter = reading_.days[file.slot->day][file.slot->quarter.number];
+            (file.form == Form::interval ? quarter.intervals : quarter.corrections).push_back(place);
+        }
+    }
+}
+
+// The different ones of some files. An equal copy is told so, and comes after them; only files that were read to their
+// ends are known to be equal.
+Places Judge::different(Places &places) {
+    if (places.size() < 2) {
+        return places;
+    }
+    std::map<std::string_view, std::size_t> whole;
+    Places found, copies;
+    for (const std::size_t place : places) {
+        File &file = files_[place];
+        const auto [held, is_new] =
+            file.whole ? whole.try_emplace(as_text(file.bytes), place) : std::pair{whole.end(), true};
+        if (is_new) {
+            found.push_back(place);
+            continue;
+        }
+        copies.push_back(place);
+        file.same_as = held->second;
+        tell(file, {Word::file_double, {files_[held->second].name}}, std::nullopt, false);
+    }
+    places = found;
+    places.insert(places.end(), copies.begin(), copies.end());
+    return found;
+}
+
+void Judge::set_against(const Places &places) {
+    const Places some(places.begin(),
+                      places.begin() + static_cast<std::ptrdiff_t>(std::min(places.size(), most_named + 2)));
+    for (const std::size_t place : places) {
+        Places others;
+        std::copy_if(some.begin(), some.end(), std::back_inserter(others),
+                     [&](std::size_t other) { return other != place; });
+        tell(files_[place], {Word::file_two, {list(files_, others)}}, Word::advice_take_away, true);
+    }
+}
+
+// Files that nothing is wrong with, but whose quarter has no statement.
+void Judge::put_aside(const Places &places, const Places &because_of) {
+    for (const std::size_t place : places) {
+        tell(files_[place], {Word::file_waits, {list(files_, because_of)}}, std::nullopt, false);
+    }
+}
+
+void Judge::look_at(QuarterRead &quarter) {
+    const Places intervals = different(quarter.intervals);
+    const Places corrections = different(quarter.corrections);
+    if (intervals.empty()) {
+        for (const std::size_t place : corrections) {
+            tell(files_[place], Word::file_alone, Word::advice_interval, true);
+        }
+    } else if (intervals.size() > 1) {
+        quarter.state = State::two_intervals;
+        set_against(intervals);
+        corrections.size() > 1 ? set_against(corrections) : put_aside(corrections, intervals);
+    } else if (corrections.size() > 1) {
+        quarter.state = State::two_corrections;
+        set_against(corrections);
+        put_aside(intervals, corrections);
+    } else {
+        settle_pair(quarter, intervals[0], corrections.empty() ? std::nullopt : std::optional(corrections[0]));
+    }
+}
+
+void Judge::settle_pair(QuarterRead &quarter, std::size_t interval, std::optional<std::size_t> correction) {
+    if (!files_[interval].steady || (correction && !files_[*correction].steady)) {
+        wait_for(quarter, interval, correction);
+        return;
+    }
+    // A correction has at least its mark, so no empty file is handed over here.
+    const View corrected = correction ? View(files_[*correction].bytes) : View();
+    auto answer = settle(files_[interval].bytes, corrected);
+    if (const auto *refusal = std::get_if<Refusal>(&answer)) {
+        refuse(quarter, *refusal, interval, correction);
+    } else {
+        accept(quarter, std::get<Statement>(std::move(answer)), interval, correction);
+    }
+}
+
+void Judge::wait_for(QuarterRead &quarter, std::size_t interval, std::optional<std::size_t> correction) {
+    quarter.state = State::arriving;
+    Places pair{interval}, moving, resting;
+    if (correction) {
+        pair.push_back(*correction);
+    }
+    std::partition_copy(pair.begin(), pair.end(), std::back_inserter(resting), std::back_inserter(moving),
+                        [&](std::size_t place) { return files_[place].steady; });
+    for (const std::size_t place : moving) {
+        tell(files_[place], Word::file_moving, Word::advice_wait, true);
+    }
+    put_aside(resting, moving);
+}
+
+void Judge::accept(QuarterRead &quarter, Statement statement, std::size_t interval,
+                   std::optional<std::size_t> correction) {
+    quarter.state = correction ? State::corrected : State::settled;
+    quarter.statement = std::move(statement);
+    tell(files_[interval], Word::file_counts, std::nullopt, false);
+    if (!correction) {
+        return;
+    }
+    tell(files_[*correction], Word::file_counts, std::nullopt, false);
+    const View bytes = files_[interval].bytes;
+    auto before = settle(bytes, {});
+    if (auto *found = std::get_if<Statement>(&before)) {
+        quarter.before = std::move(*found);
+    }
+    quarter.changes = changes_of(bytes, files_[*correction].bytes);
+}
+
+// 8 to 10 are about the correction, every other number about the interval file.
+void Judge::refuse(QuarterRead &quarter, const Refusal &refusal, std::size_t interval,
+                   std::optional<std::size_t> correction) {
+    const bool is_correction = correction && refusal.number >= 8 && refusal.number <= 10;
+    const std::size_t at_fault = is_correction ? *correction : interval;
+    const std::size_t head = is_correction ? correction_head : interval_head;
+    File &file = files_[at_fault];
+    quarter.refused = Refused{refusal, at_fault, id_at(file.bytes, head, refusal.place)};
+    // An entry may fit no row because the interval file is the one that is still arriving.
+    const bool is_arriving = file.fresh || (refusal.number == 10 && files_[interval].fresh);
+    quarter.state = is_arriving ? State::arriving : State::refused;
+    const Said words = refusal_words(*quarter.refused);
+    tell(file, file.fresh ? sentences(Word::file_arriving, words) : words,
+         is_arriving ? Said(Word::advice_wait) : refusal_advice(refusal), true);
+    if (correction) {
+        put_aside({is_correction ? interval : *correction}, {at_fault});
+    }
+}
+
+// What is to be said of a file that no quarter has looked at.
+void Judge::judge_alone(File &file) {
+    if (file.form == Form::unread) {
+        return;
+    }
+    reading_.arriving |= !file.steady;
+    const bool is_of_quarter = file.slot && file.form != Form::statement;
+    if (is_of_quarter) {
+        return;
+    }
+    if (!file.steady) {
+        tell(file, Word::file_moving, Word::advice_wait, true);
+    } else if (file.form == Form::interval || file.form == Form::correction || file.form == Form::empty) {
+        judge_nowhere(file);
+    } else if (file.form == Form::coming) {
+        tell(file, Word::file_coming, Word::advice_newer, true);
+    } else if (file.form == Form::statement) {
+        compare(file);
+    } else if (file.form == Form::names) {
+        take_names(file);
+    }
+}
+
+// A file that names no quarter: empty, cut within its head, or with a head out of range.
+void Judge::judge_nowhere(File &file) {
+    reading_.arriving |= file.fresh;
+    if (file.form == Form::empty) {
+        tell(file, Word::file_empty, file.fresh ? Word::advice_wait : Word::advice_empty, true);
+        return;
+    }
+    const bool is_correction = file.form == Form::correction;
+    const auto answer = is_correction ? settle(no_rows, file.bytes) : settle(file.bytes, {});
+    const auto *refusal = std::get_if<Refusal>(&answer);
+    const Said why = refusal ? refusal_words({*refusal, 0, std::nullopt}) : Said(Word::file_other);
+    const Said what = file.fresh ? Said(Word::advice_wait) : Said(Word::advice_again);
+    tell(file, {Word::file_nowhere, {why}}, what, true);
+}
+
+void Judge::compare(File &file) {
+    if (!file.slot || !reading_.at(*file.slot).statement) {
+        tell(file, Word::file_incomparable, std::nullopt, false);
+        return;
+    }
+    const View now = reading_.at(*file.slot).statement->bytes();
+    const bool is_same = file.whole && std::equal(now.begin(), now.end(), file.bytes.begin(), file.bytes.end());
+    tell(file, is_same ? Word::file_same : Word::file_old, std::nullopt, false);
+}
+
+Said counted(std::size_t number, Word one, Word several, std::vector<Hole> holes) {
+    holes.emplace_back(std::to_string(number));
+    return {number == 1 ? one : several, std::move(holes)};
+}
+
+void Judge::take_names(File &file) {
+    View bytes = file.bytes;
+    if (!file.whole) {
+        // The last line may be half a line.
+        const auto last_end = std::find(bytes.rbegin(), bytes.rend(), '\n');
+        bytes = bytes.first(static_cast<std::size_t>(bytes.rend() - last_end));
+    }
+    reading_.names = Names(bytes);
+    const std::size_t passed = reading_.names.passed_over();
+    Said says = counted(reading_.names.size(), Word::file_names_one, Word::file_names, {});
+    if (passed > 0) {
+        says = counted(passed, Word::file_names_passed_one, Word::file_names_passed, {says});
+    }
+    if (!file.whole) {
+        says = {Word::file_names_cut, {says}};
+    }
+    const bool is_faulty = passed > 0 || !file.whole;
+    tell(file, says, is_faulty ? std::optional<Said>(Word::advice_lines) : std::nullopt, is_faulty);
+}
+
+int rank(const File &file) {
+    if (file.form == Form::unread) {
+        return 0;
+    }
+    if (file.faulty) {
+        return 1;
+    }
+    const bool is_of_quarter = file.form == Form::interval || file.form == Form::correction;
+    return is_of_quarter && !file.same_as ? 2 : file.form == Form::other ? 4 : 3;
+}
+
+// Every place in the reading is moved along with its file.
+void Judge::put_in_order() {
+    Places order(files_.size());
+    std::iota(order.begin(), order.end(), 0);
+    const auto key = [&](std::size_t place) {
+        const File &file = files_[place];
+        return std::tuple(rank(file), !file.slot, file.slot.value_or(Slot{}), file.form, place);
+    };
+    std::sort(order.begin(), order.end(), [&](std::size_t one, std::size_t other) { return key(one) < key(other); });
+    std::vector<File> sorted;
+    sorted.reserve(files_.size());
+    Places now_at(files_.size());
+    for (const std::size_t place : order) {
+        now_at[place] = sorted.size();
+        sorted.push_back(std::move(files_[place]));
+    }
+    files_ = std::move(sorted);
+    const auto move = [&](std::size_t &place) { place = now_at[place]; };
+    for (File &file : files_) {
+        file.same_as = file.same_as ? std::optional(now_at[*file.same_as]) : std::nullopt;
+    }
+    for (auto &[day, quarters] : reading_.days) {
+        for (QuarterRead &quarter : quarters) {
+            std::for_each(quarter.intervals.begin(), quarter.intervals.end(), move);
+            std::for_each(quarter.corrections.begin(), quarter.corrections.end(), move);
+            if (quarter.refused) {
+                move(quarter.refused->file);
+            }
+            reading_.arriving |= quarter.state == State::arriving;
+        }
+    }
+}
+
+} // namespace
+
+std::size_t most_of(const std::string &path) {
+    return path == names_file ? most_name_bytes : most_bytes;
+}
+
+// A file by its path within the folder.
+File file_at(const std::string &path) {
+    File file;
+    file.name = shown(path);
+    file.path = path;
+    return file;
+}
+
+File unread(File file, const Obstacle &obstacle) {
+    file.form = Form::unread;
+    file.obstacle = obstacle;
+    file.says = {Word::file_unread, {reason(obstacle)}};
+    file.advice = advice(obstacle);
+    file.faulty = true;
+    return file;
+}
+
+File read(File file, Content content) {
+    file.bytes = std::move(content.bytes);
+    file.bytes.shrink_to_fit();
+    file.form = file.path == names_file ? Form::names : form_by_mark(file.bytes);
+    file.slot = has_slot(file.form) ? slot_by_head(file.bytes) : std::nullopt;
+    file.stamp = content.stamp;
+    file.steady = content.steady;
+    file.whole = content.steady && file.bytes.size() < most_of(file.path);
+    file.fresh = is_fresh(content.stamp);
+    return file;
+}
+
+bool judge(Reading &reading, const std::stop_token &stop) {
+    return Judge(reading).judge(stop);
+}
+
+} // namespace client

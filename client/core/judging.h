@@ -1,0 +1,19 @@
+// What is made of the files that were read: the form of each, the state of every quarter, what is to be said of each
+// file.
+#pragma once
+
+#include "reading.h"
+
+namespace client {
+
+// So many bytes of a file are read, by its path within the folder.
+std::size_t most_of(const std::string &path);
+// A file of which only the path is known; then what came of reading it.
+File file_at(const std::string &path);
+File unread(File file, const Obstacle &obstacle);
+File read(File file, Content content);
+
+// Settles the quarters of a reading that has its files, and puts these in order. False where somebody asked to stop.
+bool judge(Reading &reading, const std::stop_token &stop);
+
+} // namespace client
