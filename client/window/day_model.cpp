@@ -1,0 +1,271 @@
+#include "day_model.h"
+
+#include "cell_delegate.h"
+#include "line_figures.h"
+#include "look.h"
+#include "shown.h"
+
+#include <QFont>
+
+#include <algorithm>
+#include <variant>
+
+namespace client {
+
+namespace {
+
+// What a column shows besides the figures of a line.
+enum class Own { time, metered, load, note };
+using Column = std::variant<Own, Figure>;
+
+const Column columns[] = {Own::time,       Own::metered,    Own::load,        Figure::called_1, Figure::called_2,
+                          Figure::earned,  Figure::cut,     Figure::weight,   Figure::cap,      Figure::paid,
+                          Figure::closing, Figure::penalty, Figure::returned, Figure::net,      Own::note};
+constexpr int column_count = static_cast<int>(std::size(columns));
+
+const Column &column_at(int column) {
+    return columns[static_cast<std::size_t>(column)];
+}
+
+bool is_text(const Column &column) {
+    return column == Column(Own::time) || column == Column(Own::note);
+}
+
+// Weights, caps and rounds of a day have no sum that means anything.
+bool has_sum(Figure figure) {
+    return figure != Figure::weight && figure != Figure::cap && figure != Figure::closing;
+}
+
+std::string load_text(const Row &row) {
+    constexpr int kwh_of_mw = 250;
+    if (row.kind != Kind::thermal || row.capacity == 0) {
+        return {};
+    }
+    return decimal(static_cast<Wide>(row.metered.count) * 100, static_cast<Wide>(row.capacity) * kwh_of_mw, 1, 1);
+}
+
+std::string own_text(const PlantQuarter &quarter, Own own) {
+    if (!quarter.row) {
+        return {};
+    }
+    return own == Own::metered ? text(quarter.row->metered)
+           : own == Own::load  ? load_text(*quarter.row)
+                               : std::string();
+}
+
+Word own_name(Own own) {
+    switch (own) {
+    case Own::time:
+        return Word::figure_time;
+    case Own::metered:
+        return Word::figure_metered;
+    case Own::load:
+        return Word::figure_load;
+    case Own::note:
+        break;
+    }
+    return Word::figure_note;
+}
+
+// The name, and below it the unit.
+QString head(const Column &column, Tongue tongue) {
+    if (const auto *figure = std::get_if<Figure>(&column)) {
+        return words(short_name(*figure), tongue) + QLatin1Char('\n') + words(unit_of(*figure), tongue);
+    }
+    const Own own = std::get<Own>(column);
+    const QString name = words(own_name(own), tongue);
+    return own == Own::metered ? name + QLatin1Char('\n') + words(Word::unit_kwh, tongue)
+           : own == Own::load  ? name + QLatin1Char('\n') + words(Word::unit_percent, tongue)
+                               : name;
+}
+
+std::size_t quarters_outside(const PlantDay &day) {
+    return static_cast<std::size_t>(std::count_if(day.quarters.begin(), day.quarters.end(),
+                                                  [](const PlantQuarter &quarter) { return !quarter.line; }));
+}
+
+} // namespace
+
+DayModel::DayModel(QObject *parent) : QAbstractTableModel(parent) {}
+
+void DayModel::clear(Tongue tongue) {
+    beginResetModel();
+    tongue_ = tongue;
+    day_.reset();
+    endResetModel();
+}
+
+void DayModel::show_day(const PlantDay &day, Tongue tongue) {
+    beginResetModel();
+    tongue_ = tongue;
+    day_ = day;
+    endResetModel();
+}
+
+int DayModel::note_column() {
+    return column_count - 1;
+}
+
+bool DayModel::is_idle(int column) const {
+    if (!day_ || is_text(column_at(column))) {
+        return false;
+    }
+    const auto is_nothing = [&](const PlantQuarter &quarter) {
+        const auto *figure = std::get_if<Figure>(&column_at(column));
+        if (figure) {
+            return *figure != Figure::net && (!quarter.line || count_of(*quarter.line, *figure) == 0);
+        }
+        const Own own = std::get<Own>(column_at(column));
+        return own == Own::load && own_text(quarter, own).empty();
+    };
+    return std::all_of(day_->quarters.begin(), day_->quarters.end(), is_nothing);
+}
+
+int DayModel::rowCount(const QModelIndex &parent) const {
+    return parent.isValid() || !day_ ? 0 : sums_row + 1;
+}
+
+int DayModel::columnCount(const QModelIndex &parent) const {
+    return parent.isValid() ? 0 : column_count;
+}
+
+QVariant DayModel::data(const QModelIndex &index, int role) const {
+    if (!day_ || !index.isValid()) {
+        return {};
+    }
+    const bool is_sums = index.row() == sums_row;
+    const bool is_net = column_at(index.column()) == Column(Figure::net);
+    switch (role) {
+    case Qt::DisplayRole:
+        return is_sums ? sums_text(index.column()) : quarter_text(index.row(), index.column());
+    case Qt::ToolTipRole:
+        return tool_tip(hint(index));
+    case Qt::TextAlignmentRole:
+        return static_cast<int>(Qt::AlignVCenter |
+                                (is_text(column_at(index.column())) ? Qt::AlignLeft : Qt::AlignRight));
+    case Qt::FontRole: {
+        QFont bold;
+        bold.setBold(true);
+        return is_sums || is_net ? QVariant(bold) : QVariant();
+    }
+    case CellDelegate::result_role:
+        return is_sums;
+    default:
+        return {};
+    }
+}
+
+QVariant DayModel::headerData(int section, Qt::Orientation orientation, int role) const {
+    if (orientation == Qt::Vertical) {
+        // The time is the head of its row.
+        const bool is_known = role == Qt::DisplayRole || role == Qt::FontRole || role == Qt::TextAlignmentRole;
+        return is_known ? data(index(section, time_column()), role) : QVariant();
+    }
+    if (section < 0 || section >= column_count) {
+        return {};
+    }
+    const Column &column = column_at(section);
+    switch (role) {
+    case Qt::DisplayRole:
+        return head(column, tongue_);
+    case Qt::AccessibleTextRole: {
+        const auto *figure = std::get_if<Figure>(&column);
+        return figure ? words(long_name(*figure), tongue_)
+                      : head(column, tongue_).replace(QLatin1Char('\n'), QLatin1Char(' '));
+    }
+    case Qt::TextAlignmentRole:
+        return static_cast<int>(Qt::AlignBottom | (is_text(column) ? Qt::AlignLeft : Qt::AlignRight));
+    default:
+        return {};
+    }
+}
+
+// Why a quarter has no figures, anywhere in its row; else what may be cut short in the note.
+QString DayModel::hint(const QModelIndex &index) const {
+    if (index.row() != sums_row) {
+        const PlantQuarter &quarter = day_->quarters[static_cast<std::size_t>(index.row())];
+        if (const auto why = hindrance(*day_->reading, *quarter.read)) {
+            return words(*why, tongue_);
+        }
+        if (!quarter.line) {
+            return note(quarter);
+        }
+    }
+    return index.column() == note_column() ? data(index, Qt::DisplayRole).toString() : QString();
+}
+
+QString DayModel::quarter_text(int number, int column) const {
+    const PlantQuarter &quarter = day_->quarters[static_cast<std::size_t>(number)];
+    if (const auto *figure = std::get_if<Figure>(&column_at(column))) {
+        return quarter.line ? text(figure_text(*figure, count_of(*quarter.line, *figure))) : QString();
+    }
+    switch (const Own own = std::get<Own>(column_at(column))) {
+    case Own::time:
+        return text(client::span(Quarter{static_cast<std::uint8_t>(number)}));
+    case Own::note:
+        return note(quarter);
+    default:
+        return text(own_text(quarter, own));
+    }
+}
+
+QString DayModel::sums_text(int column) const {
+    if (const auto *figure = std::get_if<Figure>(&column_at(column))) {
+        std::int64_t sum = 0;
+        for (const PlantQuarter &quarter : day_->quarters) {
+            sum += quarter.line ? count_of(*quarter.line, *figure) : 0;
+        }
+        const bool is_any = quarters_outside(*day_) < quarters_of_day;
+        return is_any && has_sum(*figure) ? text(figure_text(*figure, sum)) : QString();
+    }
+    switch (std::get<Own>(column_at(column))) {
+    case Own::time:
+        return words(Word::day_sum, tongue_);
+    case Own::metered: {
+        Kwh sum;
+        for (const PlantQuarter &quarter : day_->quarters) {
+            sum += quarter.row ? quarter.row->metered : Kwh{};
+        }
+        return quarters_outside(*day_) < quarters_of_day ? text(text(sum)) : QString();
+    }
+    case Own::load:
+        return {};
+    case Own::note:
+        break;
+    }
+    const std::size_t outside = quarters_outside(*day_);
+    return outside == 0   ? words(Word::day_sum_all, tongue_)
+           : outside == 1 ? words(Word::day_sum_without_one, tongue_)
+                          : words({Word::day_sum_without, {text(static_cast<std::int64_t>(outside))}}, tongue_);
+}
+
+QString DayModel::note(const PlantQuarter &quarter) const {
+    const QuarterRead &read = *quarter.read;
+    switch (read.state) {
+    case State::missing:
+        return words(Word::note_missing, tongue_);
+    case State::two_intervals:
+        return words(Word::note_two_intervals, tongue_);
+    case State::two_corrections:
+        return words(Word::note_two_corrections, tongue_);
+    case State::arriving:
+        return words(Word::note_arriving, tongue_);
+    case State::refused:
+        return read.refused ? words({Word::note_refused, {text(std::int64_t{read.refused->refusal.number})}}, tongue_)
+                            : words(Word::note_refused_plain, tongue_);
+    case State::settled:
+    case State::corrected:
+        break;
+    }
+    if (!quarter.line) {
+        return words(Word::note_absent, tongue_);
+    }
+    if (!quarter.before) {
+        return {};
+    }
+    const Fen was = quarter.before->net();
+    return was == quarter.line->net() ? words(Word::note_corrected_same, tongue_)
+                                      : words({Word::note_corrected, {text(was)}}, tongue_);
+}
+
+} // namespace client

@@ -1,0 +1,99 @@
+#include "reader.h"
+
+namespace client {
+
+namespace {
+
+// So often, at most, the window hears how far a reading is.
+constexpr std::chrono::milliseconds between_reports{30};
+
+} // namespace
+
+Reader::Reader(QObject *parent) : QObject(parent) {}
+
+Reader::~Reader() {
+    thread_.request_stop();
+    if (thread_.joinable()) {
+        thread_.join();
+    }
+}
+
+void Reader::read(std::filesystem::path folder) {
+    is_reading_ = true;
+    if (is_busy_) {
+        waiting_ = std::move(folder);
+    } else {
+        begin_reading(std::move(folder));
+    }
+}
+
+void Reader::begin_reading(std::filesystem::path folder) {
+    ++asked_;
+    begin([this, folder = std::move(folder), asked = asked_, report = reporter()](std::stop_token stop) -> Answer {
+        Outcome outcome = read_folder(folder, stop, report);
+        return [this, asked, outcome = std::move(outcome)] {
+            if (asked == asked_) {
+                is_reading_ = waiting_.has_value();
+                emit read_out(outcome);
+            }
+        };
+    });
+}
+
+void Reader::glance(std::shared_ptr<const Reading> reading, std::optional<Day> day) {
+    if (is_busy_) {
+        return;
+    }
+    begin([this, reading = std::move(reading), day, asked = asked_](std::stop_token) -> Answer {
+        const bool changed = has_changed(*reading, day);
+        return [this, asked, changed] {
+            if (asked == asked_ && !waiting_) {
+                emit glanced(changed);
+            }
+        };
+    });
+}
+
+void Reader::stop() {
+    ++asked_;
+    waiting_.reset();
+    is_reading_ = false;
+    thread_.request_stop();
+}
+
+// The work is done on the thread; its answer is given in the window's.
+void Reader::begin(std::function<Answer(std::stop_token)> work) {
+    is_busy_ = true;
+    thread_ = std::jthread([this, work = std::move(work)](std::stop_token stop) {
+        Answer answer = work(std::move(stop));
+        QMetaObject::invokeMethod(
+            this, [this, answer = std::move(answer)] { end(answer); }, Qt::QueuedConnection);
+    });
+}
+
+void Reader::end(const Answer &answer) {
+    is_busy_ = false;
+    answer();
+    if (waiting_ && !is_busy_) {
+        begin_reading(*std::exchange(waiting_, std::nullopt));
+    }
+}
+
+Progress Reader::reporter() {
+    return [this, asked = asked_, last = std::chrono::steady_clock::time_point{}](std::size_t read,
+                                                                                  std::size_t of) mutable {
+        const auto now = std::chrono::steady_clock::now();
+        if (now - last < between_reports) {
+            return;
+        }
+        last = now;
+        const auto tell = [this, asked, read, of] {
+            if (asked == asked_) {
+                emit progressed(static_cast<int>(read), static_cast<int>(of));
+            }
+        };
+        QMetaObject::invokeMethod(this, tell, Qt::QueuedConnection);
+    };
+}
+
+} // namespace client

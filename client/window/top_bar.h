@@ -1,0 +1,52 @@
+// The line at the top: folder, day, plant, export, tongue, help.
+#pragma once
+
+#include "shown.h"
+
+#include <QWidget>
+
+class QComboBox;
+class QLabel;
+class QPushButton;
+
+namespace client {
+
+class TopBar : public QWidget {
+    Q_OBJECT
+
+  public:
+    explicit TopBar(QWidget *parent = nullptr);
+
+    // No day and no plant to choose from.
+    void clear(Tongue tongue);
+    // The days of the reading and the plants of the day, with what is chosen of them.
+    void offer(const Shown &shown);
+    void focus_plant();
+
+  signals:
+    void open_asked();
+    void day_chosen(client::Day day);
+    void plant_chosen(client::RowId plant);
+    // What was typed is no id and no name of the day.
+    void plant_unknown(QString typed);
+    void export_asked();
+    void tongue_asked();
+    void help_asked();
+
+  private:
+    void name_all(Tongue tongue);
+    void offer_days(const Shown &shown);
+    void offer_plants(const Shown &shown);
+    void find_plant();
+
+    QPushButton *open_ = nullptr;
+    QLabel *day_label_ = nullptr;
+    QComboBox *day_ = nullptr;
+    QLabel *plant_label_ = nullptr;
+    QComboBox *plant_ = nullptr;
+    QPushButton *export_ = nullptr;
+    QPushButton *tongue_ = nullptr;
+    QPushButton *help_ = nullptr;
+};
+
+} // namespace client

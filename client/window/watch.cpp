@@ -1,0 +1,80 @@
+#include "watch.h"
+
+#include <QFile>
+
+#include <algorithm>
+
+namespace client {
+
+namespace {
+
+// The system lets a program watch so many paths; a poll sees what lies beyond (MainWindow).
+constexpr qsizetype most_files = 500;
+
+constexpr int burst_ms = 120;
+
+QString text_of(const std::filesystem::path &path) {
+    return QFile::decodeName(QByteArray::fromStdString(path.native()));
+}
+
+// The files of the day first, then the others, as many as may be watched.
+QStringList files_to_watch(const Reading &reading, std::optional<Day> day) {
+    QStringList first, others;
+    for (const File &file : reading.files) {
+        const bool is_of_day = file.slot && file.slot->day == day;
+        (is_of_day ? first : others).append(text_of(reading.folder / file.path));
+    }
+    return (first + others).first(std::min(first.size() + others.size(), most_files));
+}
+
+void set_burst(QTimer &timer) {
+    timer.setSingleShot(true);
+    timer.setInterval(burst_ms);
+}
+
+// A burst counts from its first event: a timer that runs is not begun anew.
+void begin(QTimer &timer) {
+    if (!timer.isActive()) {
+        timer.start();
+    }
+}
+
+} // namespace
+
+Watch::Watch(QObject *parent) : QObject(parent) {
+    set_burst(burst_);
+    set_burst(burst_around_);
+    connect(&burst_, &QTimer::timeout, this, &Watch::stirred);
+    connect(&burst_around_, &QTimer::timeout, this, &Watch::stirred_around);
+    connect(&watcher_, &QFileSystemWatcher::fileChanged, this, [this] { begin(burst_); });
+    connect(&watcher_, &QFileSystemWatcher::directoryChanged, this, &Watch::hear_folder);
+}
+
+void Watch::set(const std::filesystem::path &folder, const Reading *reading, std::optional<Day> day) {
+    QStringList paths{text_of(folder)};
+    around_ = text_of(folder.parent_path());
+    if (!around_.isEmpty() && around_ != paths.first()) {
+        paths.append(around_);
+    }
+    if (reading) {
+        for (const std::filesystem::path &subfolder : reading->subfolders) {
+            paths.append(text_of(subfolder));
+        }
+        paths.append(files_to_watch(*reading, day));
+    }
+    clear();
+    watcher_.addPaths(paths);
+}
+
+void Watch::clear() {
+    const QStringList watched = watcher_.files() + watcher_.directories();
+    if (!watched.isEmpty()) {
+        watcher_.removePaths(watched);
+    }
+}
+
+void Watch::hear_folder(const QString &path) {
+    begin(path == around_ ? burst_around_ : burst_);
+}
+
+} // namespace client

@@ -1,0 +1,42 @@
+// Says when something in the folder may have changed.
+//
+// A folder alone does not tell of a file that is written over in place, and a watched file that is replaced by renaming
+// is watched no longer: so the folder, its subfolders and its files are watched, and all of them are set again after
+// every reading. The folder around is watched too, since a folder does not tell that it was renamed itself.
+#pragma once
+
+#include "reading.h"
+
+#include <QFileSystemWatcher>
+#include <QObject>
+#include <QTimer>
+
+namespace client {
+
+class Watch : public QObject {
+    Q_OBJECT
+
+  public:
+    explicit Watch(QObject *parent = nullptr);
+
+    // Sets every path anew: the folder, what a reading of it has (none where it could not be read), the files of the
+    // day first.
+    void set(const std::filesystem::path &folder, const Reading *reading, std::optional<Day> day);
+    void clear();
+
+  signals:
+    // Once for a burst of events, and never later than 120 ms after its first.
+    void stirred();
+    // Something happened beside the folder: most likely not to it.
+    void stirred_around();
+
+  private:
+    void hear_folder(const QString &path);
+
+    QFileSystemWatcher watcher_;
+    QTimer burst_;
+    QTimer burst_around_;
+    QString around_;
+};
+
+} // namespace client
