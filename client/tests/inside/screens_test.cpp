@@ -1,0 +1,262 @@
+// Keys, tongues, names for screen readers, sizes; and an explanation that does not come to the statement's fen.
+#include "desk.h"
+#include "quarter_pane.h"
+#include "screen_text.h"
+
+#include <QAbstractButton>
+#include <QAbstractItemView>
+#include <QAccessible>
+#include <QComboBox>
+#include <QElapsedTimer>
+#include <QFile>
+#include <QLineEdit>
+#include <QRegularExpression>
+#include <QSignalSpy>
+#include <QTest>
+
+using namespace client;
+
+namespace {
+
+void press(Desk &desk, Qt::Key key, Qt::KeyboardModifiers with = Qt::NoModifier) {
+    QWidget *focus = QApplication::focusWidget();
+    QTest::keyClick(focus ? focus : &desk.window(), key, with);
+}
+
+unsigned quarter(Desk &desk) {
+    return desk.window().shown().quarter.value_or(Quarter{255}).number;
+}
+
+QString showing(Desk &desk) {
+    return all_text(desk.window(), true);
+}
+
+// The statement of a quarter with one fen moved from row 3 to row 2, in a reading that is otherwise the same.
+std::shared_ptr<const Reading> with_a_moved_fen(const Reading &reading, Slot slot) {
+    auto altered = std::make_shared<Reading>(reading);
+    QuarterRead &quarter = altered->days.at(slot.day)[slot.quarter.number];
+    Bytes bytes(quarter.statement->bytes().begin(), quarter.statement->bytes().end());
+    const auto paid_of = [](std::size_t line) { return 39 + 42 * line + 28; };
+    ++bytes[paid_of(1)];
+    --bytes[paid_of(2)];
+    quarter.statement = Statement(bytes);
+    return altered;
+}
+
+} // namespace
+
+class ScreensTest : public QObject {
+    Q_OBJECT
+
+  private slots:
+    void keys_choose_quarters();
+    void keys_choose_screens();
+    void plant_by_id_or_name();
+    void tongues_are_switched_at_once();
+    void everything_has_a_name();
+    void figures_of_the_statement();
+    void a_correction_says_before_and_now();
+    void a_moved_fen_leaves_no_steps();
+    void fits_small_windows_and_large_letters();
+    void settings_hold_no_figure();
+    void first_start_offers_the_example();
+};
+
+void ScreensTest::keys_choose_quarters() {
+    Desk desk;
+    desk.open();
+    press(desk, Qt::Key_1, Qt::ControlModifier);
+    press(desk, Qt::Key_Home);
+    QCOMPARE(quarter(desk), 0u);
+    QVERIFY(showing(desk).contains("00:00–00:15"));
+    press(desk, Qt::Key_Right);
+    press(desk, Qt::Key_Right);
+    QCOMPARE(quarter(desk), 2u);
+    press(desk, Qt::Key_Left);
+    QCOMPARE(quarter(desk), 1u);
+    press(desk, Qt::Key_PageDown);
+    QCOMPARE(quarter(desk), 5u);
+    QVERIFY(showing(desk).contains("No interval file for this quarter yet."));
+    press(desk, Qt::Key_PageUp);
+    QCOMPARE(quarter(desk), 1u);
+    press(desk, Qt::Key_End);
+    QCOMPARE(quarter(desk), 95u);
+    press(desk, Qt::Key_Right);
+    QCOMPARE(quarter(desk), 95u);
+    press(desk, Qt::Key_D, Qt::ControlModifier);
+    QTRY_COMPARE_WITH_TIMEOUT(quarter(desk), 0u, 1'000);
+}
+
+void ScreensTest::keys_choose_screens() {
+    Desk desk;
+    desk.open();
+    press(desk, Qt::Key_4, Qt::ControlModifier);
+    QVERIFY(showing(desk).contains("2026-10-31-q03.interval"));
+    press(desk, Qt::Key_3, Qt::ControlModifier);
+    QVERIFY(showing(desk).contains("650.00"));
+    press(desk, Qt::Key_1, Qt::ControlModifier);
+    press(desk, Qt::Key_Return);
+    auto *pane = desk.window().findChild<QuarterPane *>();
+    QVERIFY(pane == QApplication::focusWidget() || pane->isAncestorOf(QApplication::focusWidget()));
+    press(desk, Qt::Key_C, Qt::ControlModifier | Qt::ShiftModifier);
+    QVERIFY(pane->as_text().contains("Why do I owe this?"));
+    press(desk, Qt::Key_Escape);
+    QVERIFY(!pane->isAncestorOf(QApplication::focusWidget()));
+}
+
+void ScreensTest::plant_by_id_or_name() {
+    Desk desk;
+    const std::string names = "1,火电,Northern Power\n2,二号,Southern Power\n";
+    made::write(desk.folder / "plants.csv", Bytes(names.begin(), names.end()));
+    desk.open();
+    const auto type = [&desk](const QString &text) {
+        press(desk, Qt::Key_F, Qt::ControlModifier);
+        desk.window().findChild<QLineEdit *>()->setText(text);
+        QTest::keyClick(desk.window().findChild<QLineEdit *>(), Qt::Key_Return);
+    };
+    type("2");
+    QCOMPARE(desk.window().shown().plant->number, 2);
+    QVERIFY(showing(desk).contains("Southern Power"));
+    type("northern");
+    QCOMPARE(desk.window().shown().plant->number, 1);
+    type("二号");
+    QCOMPARE(desk.window().shown().plant->number, 2);
+    type("northern");
+    type("nobody of this name");
+    QCOMPARE(desk.window().shown().plant->number, 1);
+    QVERIFY(showing(desk).contains("nobody of this name"));
+}
+
+// Nothing of the other tongue stays, on hidden screens neither; what is left in Latin letters is names, units and
+// marks.
+void ScreensTest::tongues_are_switched_at_once() {
+    Desk desk;
+    made::write(desk.folder / Desk::name(1, "correction"), made::wind_corrected(Desk::slot(1), 6'000));
+    made::write(desk.folder / "note.txt", {'h', 'i'});
+    desk.open();
+    static const QRegularExpression chinese("[\\x{4e00}-\\x{9fff}]"), english("[a-z]{3,} [a-z]{2,}");
+    press(desk, Qt::Key_L, Qt::ControlModifier);
+    for (const QString &text : texts_of(desk.window())) {
+        QVERIFY2(!english.match(text).hasMatch() || text.contains("Show English"), qPrintable(text));
+    }
+    press(desk, Qt::Key_L, Qt::ControlModifier);
+    for (const QString &text : texts_of(desk.window())) {
+        QVERIFY2(!chinese.match(text).hasMatch() || text.contains("中文"), qPrintable(text));
+    }
+    QCOMPARE(difference(desk.text(), desk.text_of_fresh_start()), QString());
+}
+
+void ScreensTest::everything_has_a_name() {
+    Desk desk;
+    made::write(desk.folder / Desk::name(0, "correction"), made::wind_corrected(Desk::slot(0), 6'000));
+    desk.open();
+    for (QWidget *widget : desk.window().findChildren<QWidget *>()) {
+        const bool is_control = qobject_cast<QAbstractButton *>(widget) || qobject_cast<QComboBox *>(widget) ||
+                                qobject_cast<QAbstractItemView *>(widget);
+        if (!is_control || widget->focusPolicy() == Qt::NoFocus || !widget->isVisible()) {
+            continue;
+        }
+        QAccessibleInterface *heard = QAccessible::queryAccessibleInterface(widget);
+        QVERIFY(heard);
+        QVERIFY2(!heard->text(QAccessible::Name).isEmpty(), widget->metaObject()->className());
+    }
+}
+
+void ScreensTest::figures_of_the_statement() {
+    Desk desk;
+    desk.open();
+    const QString text = showing(desk);
+    QVERIFY(text.contains("pays 250.00 yuan"));
+    QVERIFY(text.contains("Why do I owe this?"));
+    QVERIFY(text.contains("1,000.00")); // four quarters of 250.00
+    QVERIFY(text.contains("900.00"));
+    QVERIFY(text.contains("325.00"));
+    QVERIFY(text.contains("4 of 96"));
+}
+
+void ScreensTest::a_correction_says_before_and_now() {
+    Desk desk;
+    desk.open();
+    made::write(desk.folder / Desk::name(0, "correction"), made::wind_corrected(Desk::slot(0), 6'000));
+    QVERIFY(desk.waits_for_reading());
+    const QString text = showing(desk);
+    QVERIFY(text.contains("Meter reading of row 3 replaced: 5,000 → 6,000 kWh"));
+    // 900.00 by 15,000 and 6,000 kWh: row 2 owes 642.85 and is no longer at its cap of 650.00.
+    QVERIFY(text.contains("257.14"));
+    QVERIFY(text.contains("No longer valid: pays 250.00 yuan. Book: pays 257.14 yuan."));
+}
+
+void ScreensTest::a_moved_fen_leaves_no_steps() {
+    Desk desk;
+    desk.open();
+    Shown shown = desk.window().shown();
+    shown.quarter = Quarter{0};
+    QuarterPane pane;
+    pane.clear(Tongue::english);
+    pane.show_quarter(shown);
+    pane.resize(500, 700);
+    pane.show();
+    QVERIFY(all_text(pane, true).contains("Round 1"));
+    shown.reading = with_a_moved_fen(*shown.reading, Desk::slot(0));
+    pane.clear(Tongue::english);
+    pane.show_quarter(shown);
+    QVERIFY(all_text(pane, true).contains("does not come to the same figures"));
+    QVERIFY(!all_text(pane).contains("Round 1"));
+    QVERIFY(pane.as_text().isEmpty());
+    QVERIFY(all_text(pane, true).contains("249.99")); // the statement counts
+}
+
+void ScreensTest::fits_small_windows_and_large_letters() {
+    Desk desk;
+    desk.open();
+    const QSize small(1'000, 660);
+    QVERIFY2(desk.window().minimumSizeHint().width() <= small.width(),
+             qPrintable(QString::number(desk.window().minimumSizeHint().width())));
+    QVERIFY2(desk.window().minimumSizeHint().height() <= small.height(),
+             qPrintable(QString::number(desk.window().minimumSizeHint().height())));
+    for (int step = 0; step < 4; ++step) {
+        press(desk, Qt::Key_Plus, Qt::ControlModifier);
+    }
+    QTest::qWait(50);
+    const QSize large = desk.window().minimumSizeHint();
+    press(desk, Qt::Key_0, Qt::ControlModifier);
+    QVERIFY2(large.width() <= 1'440 && large.height() <= 900,
+             qPrintable(QString("%1 x %2").arg(large.width()).arg(large.height())));
+}
+
+void ScreensTest::settings_hold_no_figure() {
+    Desk desk;
+    desk.open();
+    press(desk, Qt::Key_L, Qt::ControlModifier);
+    press(desk, Qt::Key_L, Qt::ControlModifier);
+    desk.window().close();
+    QSettings kept(desk.settings_file(), QSettings::IniFormat);
+    QStringList keys = kept.allKeys();
+    keys.sort();
+    QCOMPARE(keys, QStringList({"folder", "percent", "place", "plant", "tongue"}));
+    QFile file(desk.settings_file());
+    QVERIFY(file.open(QIODevice::ReadOnly));
+    QVERIFY(!file.readAll().contains("250"));
+}
+
+void ScreensTest::first_start_offers_the_example() {
+    QTemporaryDir folder;
+    Settings settings(folder.filePath("settings.ini"));
+    settings.keep_tongue(Tongue::english);
+    Desk desk;
+    MainWindow window(settings, desk.folder.path());
+    window.show();
+    QVERIFY(all_text(window, true).contains("No folder is open."));
+    QVERIFY(!has_money(all_text(window)));
+    QSignalSpy taken(&window, &MainWindow::taken);
+    for (auto *button : window.findChildren<QAbstractButton *>()) {
+        if (button->text() == "Open the example day") {
+            button->click();
+        }
+    }
+    QVERIFY(taken.wait(2'000));
+    QVERIFY(all_text(window, true).contains("gets 900.00 yuan"));
+}
+
+QTEST_MAIN(ScreensTest)
+#include "screens_test.moc"
