@@ -112,8 +112,6 @@ void Chart::tell_readers() {
     if (!QAccessible::isActive()) {
         return;
     }
-    QAccessibleValueChangeEvent value(this, told());
-    QAccessible::updateAccessibility(&value);
     for (const QAccessible::Event what : {QAccessible::NameChanged, QAccessible::DescriptionChanged}) {
         QAccessibleEvent changed(this, what);
         QAccessible::updateAccessibility(&changed);

@@ -230,11 +230,14 @@ void DayScreen::clear(Tongue tongue) {
     }
     dearest_->setText({});
     dearest_->setToolTip({});
+    dearest_->setAccessibleDescription({});
     dearest_quarter_.reset();
     chosen_.reset();
     chart_->clear(tongue);
     is_marking_ = true;
-    scrolled_to_ = table_->verticalScrollBar()->value();
+    if (model_->rowCount() > 0) {
+        scrolled_to_ = table_->verticalScrollBar()->value();
+    }
     model_->clear(tongue);
     is_marking_ = false;
     table_->setAccessibleName(words(Word::day_table, tongue));
@@ -329,7 +332,7 @@ void DayScreen::show_dearest(const PlantDay &day, Tongue tongue) {
     const Fen cost = -day.quarters[dearest_quarter_->number].line->net();
     const std::string keys = dearest_keys.toString(QKeySequence::NativeText).toStdString();
     dearest_->setText(words({Word::day_dearest, {span(*dearest_quarter_), text(cost)}}, tongue));
-    dearest_->setToolTip(tool_tip(words({Word::day_dearest_what, {keys}}, tongue)));
+    explain_button(*dearest_, words({Word::day_dearest_what, {keys}}, tongue));
 }
 
 void DayScreen::choose(std::optional<Quarter> quarter) {

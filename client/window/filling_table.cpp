@@ -24,7 +24,7 @@ constexpr int rows_measured = 200;
 } // namespace
 
 FillingTable::FillingTable(QWidget *parent)
-    : QTableView(parent), heads_(new PlainHeader(Qt::Horizontal, this)),
+    : QuietTable(parent), heads_(new PlainHeader(Qt::Horizontal, this)),
       row_heads_(new PlainHeader(Qt::Vertical, this)) {
     setHorizontalHeader(heads_);
     setVerticalHeader(row_heads_);
@@ -134,12 +134,12 @@ void FillingTable::fit_rows() {
 }
 
 void FillingTable::resizeEvent(QResizeEvent *event) {
-    QTableView::resizeEvent(event);
+    QuietTable::resizeEvent(event);
     spread();
 }
 
 void FillingTable::changeEvent(QEvent *event) {
-    QTableView::changeEvent(event);
+    QuietTable::changeEvent(event);
     if (event->type() == QEvent::FontChange || event->type() == QEvent::StyleChange) {
         fit();
     }
@@ -151,7 +151,7 @@ void FillingTable::keyPressEvent(QKeyEvent *event) {
         event->accept();
         return;
     }
-    QTableView::keyPressEvent(event);
+    QuietTable::keyPressEvent(event);
 }
 
 void FillingTable::copy_chosen() const {

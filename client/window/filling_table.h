@@ -2,7 +2,7 @@
 // that take it. Tab leaves it, and Ctrl+C copies what is chosen as text.
 #pragma once
 
-#include <QTableView>
+#include "quiet_table.h"
 
 #include <set>
 #include <vector>
@@ -11,7 +11,7 @@ namespace client {
 
 class PlainHeader;
 
-class FillingTable : public QTableView {
+class FillingTable : public QuietTable {
     Q_OBJECT
 
   public:

@@ -108,6 +108,11 @@ QString tool_tip(const QString &plain) {
     return plain.isEmpty() ? QString() : Qt::convertFromPlainText(plain, Qt::WhiteSpaceNormal);
 }
 
+void explain_button(QWidget &button, const QString &plain) {
+    button.setToolTip(tool_tip(plain));
+    button.setAccessibleDescription(plain);
+}
+
 void forget_tool_tips() {
     // hideText() lets a tip stay for a moment: its text goes at once.
     for (QWidget *widget : QApplication::topLevelWidgets()) {

@@ -43,6 +43,8 @@ void paint_focus(QPainter &painter, const QRect &around, const QPalette &palette
 QLabel *plain_label(QWidget *parent);
 // A tool tip that says just this: Qt would take a text that looks like HTML for rich text.
 QString tool_tip(const QString &plain);
+// What a button does, as its tool tip and, without markup, for screen readers.
+void explain_button(QWidget &button, const QString &plain);
 // No tool tip that is up, or fading away, keeps a figure.
 void forget_tool_tips();
 

@@ -43,7 +43,7 @@ int main(int count, char **words) {
 
     client::MainWindow window(settings, example_folder);
     const QStringList folders = parser.positionalArguments();
-    if (!folders.isEmpty()) {
+    if (!folders.isEmpty() && !folders.first().isEmpty()) {
         window.open_folder(path_of(folders.first()));
     } else if (const auto kept = settings.folder()) {
         window.open_folder(*kept);

@@ -20,6 +20,7 @@
 #include <QLabel>
 #include <QProgressBar>
 #include <QPushButton>
+#include <QScreen>
 #include <QShortcut>
 #include <QSplitter>
 #include <QStackedWidget>
@@ -35,6 +36,8 @@ namespace client {
 namespace {
 
 constexpr int slow_after_ms = 150;
+// When the folder is looked at once more because a path was not watched before.
+constexpr int soon_ms = 50;
 
 // Under a plain label a file's name is never taken for rich text.
 QLabel *plain_label(QWidget *parent) {
@@ -80,7 +83,8 @@ MainWindow::MainWindow(Settings &settings, std::optional<std::filesystem::path> 
     make_keys();
     connect_all();
     resize_letters(settings_.percent());
-    resize(1440, 900);
+    // With room for the frame around it.
+    resize(QSize(1'440, 900).boundedTo(QWidget::screen()->availableSize() - QSize(10, 40)));
     restoreGeometry(settings_.place());
     say_instead(Word::welcome);
 }
@@ -214,6 +218,7 @@ void MainWindow::open_folder(const std::filesystem::path &folder) {
     settings_.keep_folder(*folder_);
     shown_.day.reset();
     shown_.quarter.reset();
+    is_opening_ = true;
     forget_notice();
     say_instead(Word::reading);
     read_again();
@@ -271,11 +276,9 @@ void MainWindow::take(const Outcome &outcome) {
     } else {
         say_instead(Word::stopped);
     }
-    if (seeing_.by_events) {
-        watch_.set(*folder_, shown_.reading.get(), shown_.day);
-    }
+    const bool is_unheard = seeing_.by_events && watch_.set(*folder_, shown_.reading.get(), shown_.day);
     if (seeing_.glance_ms > 0) {
-        glance_.start(seeing_.glance_ms);
+        glance_.start(is_unheard ? soon_ms : seeing_.glance_ms);
     }
     if (reader_.is_reading()) {
         slow_.start();
@@ -284,6 +287,7 @@ void MainWindow::take(const Outcome &outcome) {
 }
 
 void MainWindow::take_reading(std::shared_ptr<const Reading> reading) {
+    QWidget *focused = focusWidget(); // what is empty for a moment loses the keys
     clear_all();
     shown_.reading = std::move(reading);
     if (shown_.reading->arriving) {
@@ -291,6 +295,11 @@ void MainWindow::take_reading(std::shared_ptr<const Reading> reading) {
     }
     settle_choices();
     show_all();
+    if (std::exchange(is_opening_, false)) {
+        show_screen(screen());
+    } else if (focused && focused->isVisible() && focused->isEnabled()) {
+        focused->setFocus();
+    }
 }
 
 // A sentence in the place of all screens; no figure stays behind it.
@@ -344,6 +353,7 @@ void MainWindow::clear_all() {
     tabs_->setTabText(2, words(Word::tab_files, tongue));
     tabs_->setAccessibleName(words(Word::tabs, tongue));
     pane_->setAccessibleName(words(Word::pane, tongue));
+    pane_->widget()->setAccessibleName(words(Word::pane, tongue));
     stop_->setText(words(Word::stop, tongue));
     stop_->setToolTip(words(Word::stop_what, tongue));
     const Said title =
@@ -507,26 +517,34 @@ void MainWindow::ask_for_folder() {
     }
 }
 
+// What is exported is what was on the screen when it was asked for, also if something else comes while a name is
+// chosen.
 void MainWindow::ask_for_export() {
-    if (!csv_of(shown_, screen())) {
+    const Shown asked = shown_;
+    const Screen of = screen();
+    if (!csv_of(asked, of)) {
         notify(Word::export_none);
         return;
     }
     const QString folder = QStandardPaths::writableLocation(QStandardPaths::DocumentsLocation);
     const QString chosen = QFileDialog::getSaveFileName(this, words(Word::export_it, shown_.tongue),
-                                                        folder + "/" + name_of_csv(shown_, screen()), "CSV (*.csv)");
+                                                        folder + "/" + name_of_csv(asked, of), "CSV (*.csv)");
     if (!chosen.isEmpty()) {
-        export_to(chosen);
+        begin_export({chosen, of, asked});
     }
 }
 
 void MainWindow::export_to(const QString &path) {
-    if (!csv_of(shown_, screen())) {
+    begin_export({path, screen(), shown_});
+}
+
+void MainWindow::begin_export(Export wanted) {
+    if (!csv_of(wanted.shown, wanted.screen)) {
         notify(Word::export_none);
-    } else if (lies_within(path, *folder_)) {
+    } else if (lies_within(wanted.path, wanted.shown.reading->folder)) {
         notify(Word::export_within);
     } else {
-        export_ = Export{path, screen()};
+        export_ = std::move(wanted);
         read_again();
     }
 }
@@ -536,15 +554,14 @@ void MainWindow::finish_export(const Outcome &outcome) {
     if (!export_) {
         return;
     }
-    const Export wanted = *std::exchange(export_, std::nullopt);
+    Export wanted = *std::exchange(export_, std::nullopt);
     const auto *reading = std::get_if<std::shared_ptr<const Reading>>(&outcome);
-    if (!reading || !shown_.reading || !same_files(*shown_.reading, **reading)) {
+    if (!reading || !same_files(*wanted.shown.reading, **reading)) {
         notify(Word::changed);
         return;
     }
-    Shown fresh = shown_;
-    fresh.reading = *reading;
-    notify(write_csv(wanted.path, csv_of(fresh, wanted.screen).value_or(std::string())));
+    wanted.shown.reading = *reading;
+    notify(write_csv(wanted.path, csv_of(wanted.shown, wanted.screen).value_or(std::string())));
 }
 
 void MainWindow::switch_tongue() {

@@ -66,6 +66,7 @@ class MainWindow : public QMainWindow {
     struct Export {
         QString path;
         Screen screen;
+        Shown shown; // when it was asked for
     };
 
     void make_page();
@@ -78,6 +79,7 @@ class MainWindow : public QMainWindow {
     void take(const Outcome &outcome);
     void take_reading(std::shared_ptr<const Reading> reading);
     void say_instead(const Said &said);
+    void begin_export(Export wanted);
     void finish_export(const Outcome &outcome);
 
     void clear_all();
@@ -111,6 +113,7 @@ class MainWindow : public QMainWindow {
     std::optional<Said> notice_;
     std::optional<Export> export_;
     bool is_stopped_ = false; // nothing starts by itself until somebody asks for it
+    bool is_opening_ = false; // the first reading of a folder: the keys go to its figures
 
     Reader reader_;
     Watch watch_;

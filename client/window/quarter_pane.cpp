@@ -182,7 +182,7 @@ void QuarterPane::clear(Tongue tongue) {
     const std::string keys = copy_keys.toString(QKeySequence::NativeText).toStdString();
     copy_->setText(words(Word::quarter_copy, tongue));
     copy_->setShortcut(copy_keys);
-    copy_->setToolTip(tool_tip(words({Word::quarter_copy_what, {keys}}, tongue)));
+    explain_button(*copy_, words({Word::quarter_copy_what, {keys}}, tongue));
     copy_->setEnabled(false);
 }
 

@@ -3,6 +3,7 @@
 #include "cell_delegate.h"
 #include "look.h"
 #include "plain_header.h"
+#include "quiet_table.h"
 #include "rows_model.h"
 
 #include <QComboBox>
@@ -51,7 +52,7 @@ void RowsScreen::make_page() {
     }
     empty_ = plain_label(this);
     model_ = new RowsModel(this);
-    table_ = new QTableView(this);
+    table_ = new QuietTable(this);
     table_->setModel(model_);
     table_->setItemDelegate(new CellDelegate(table_));
     table_->setHorizontalHeader(new PlainHeader(Qt::Horizontal, table_));

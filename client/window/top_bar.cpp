@@ -102,6 +102,9 @@ void TopBar::name_all(Tongue tongue) {
 
 void TopBar::clear(Tongue tongue) {
     name_all(tongue);
+    // What somebody is typing just now is no figure, and stays.
+    const bool is_typing = plant_->lineEdit()->hasFocus() && plant_->lineEdit()->isModified();
+    typed_ = is_typing ? plant_->currentText() : QString();
     const QSignalBlocker quiet_day(day_), quiet_plant(plant_);
     day_->clear();
     plant_->clear();
@@ -143,6 +146,10 @@ void TopBar::offer_plants(const Shown &shown) {
     if (at < 0) {
         plant_->setEditText(shown.plant ? words(plant_name(*shown.reading, *shown.plant), shown.tongue) : QString());
     }
+    if (!typed_.isEmpty()) {
+        plant_->setEditText(typed_);
+        plant_->lineEdit()->setModified(true);
+    }
     plant_->setEnabled(plant_->count() > 0);
 }
 
@@ -167,6 +174,7 @@ void TopBar::find_plant() {
         return;
     }
     plant_->setCurrentIndex(at);
+    plant_->lineEdit()->setModified(false);
     emit plant_chosen(RowId{static_cast<std::uint16_t>(plant_->itemData(at).toUInt())});
 }
 

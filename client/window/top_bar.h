@@ -47,6 +47,7 @@ class TopBar : public QWidget {
     QPushButton *export_ = nullptr;
     QPushButton *tongue_ = nullptr;
     QPushButton *help_ = nullptr;
+    QString typed_; // a plant that somebody has begun to type
 };
 
 } // namespace client

@@ -50,7 +50,7 @@ Watch::Watch(QObject *parent) : QObject(parent) {
     connect(&watcher_, &QFileSystemWatcher::directoryChanged, this, &Watch::hear_folder);
 }
 
-void Watch::set(const std::filesystem::path &folder, const Reading *reading, std::optional<Day> day) {
+bool Watch::set(const std::filesystem::path &folder, const Reading *reading, std::optional<Day> day) {
     QStringList paths{text_of(folder)};
     around_ = text_of(folder.parent_path());
     if (!around_.isEmpty() && around_ != paths.first()) {
@@ -62,15 +62,27 @@ void Watch::set(const std::filesystem::path &folder, const Reading *reading, std
         }
         paths.append(files_to_watch(*reading, day));
     }
-    clear();
-    watcher_.addPaths(paths);
+    return change_to({paths.begin(), paths.end()});
+}
+
+// What is watched already stays watched without a gap, in which a change would go unheard. A path that was taken away
+// or replaced is watched no longer by then, since the system has told of it, and is added anew.
+bool Watch::change_to(const QSet<QString> &paths) {
+    const QStringList files = watcher_.files(), folders = watcher_.directories();
+    QSet<QString> watched(files.begin(), files.end());
+    watched.unite({folders.begin(), folders.end()});
+    const QSet<QString> gone = watched - paths, come = paths - watched;
+    if (!gone.isEmpty()) {
+        watcher_.removePaths({gone.begin(), gone.end()});
+    }
+    if (!come.isEmpty()) {
+        watcher_.addPaths({come.begin(), come.end()});
+    }
+    return !come.isEmpty();
 }
 
 void Watch::clear() {
-    const QStringList watched = watcher_.files() + watcher_.directories();
-    if (!watched.isEmpty()) {
-        watcher_.removePaths(watched);
-    }
+    change_to({});
 }
 
 void Watch::hear_folder(const QString &path) {

@@ -9,6 +9,7 @@
 
 #include <QFileSystemWatcher>
 #include <QObject>
+#include <QSet>
 #include <QTimer>
 
 namespace client {
@@ -19,9 +20,9 @@ class Watch : public QObject {
   public:
     explicit Watch(QObject *parent = nullptr);
 
-    // Sets every path anew: the folder, what a reading of it has (none where it could not be read), the files of the
-    // day first.
-    void set(const std::filesystem::path &folder, const Reading *reading, std::optional<Day> day);
+    // Sets all paths to the folder and what a reading of it has (nothing where it could not be read), the files of the
+    // day first. Whether a path is new: what happened to it between the reading and now was not heard.
+    bool set(const std::filesystem::path &folder, const Reading *reading, std::optional<Day> day);
     void clear();
 
   signals:
@@ -31,6 +32,7 @@ class Watch : public QObject {
     void stirred_around();
 
   private:
+    bool change_to(const QSet<QString> &paths);
     void hear_folder(const QString &path);
 
     QFileSystemWatcher watcher_;

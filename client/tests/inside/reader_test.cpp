@@ -7,6 +7,8 @@
 #include "wheatrudder.h"
 
 #include <QElapsedTimer>
+#include <QFile>
+#include <QLineEdit>
 #include <QSignalSpy>
 #include <QTest>
 #include <QTimer>
@@ -120,6 +122,8 @@ class ReaderTest : public QObject {
     void slow_reading_leaves_no_figure();
     void stop_answers_and_nothing_begins_by_itself();
     void a_change_while_reading_is_read_too();
+    void an_export_that_takes_long();
+    void typing_outlives_a_refresh();
     void a_day_of_256_rows();
     void a_month_of_256_rows();
     void choosing_is_quick();
@@ -188,6 +192,33 @@ void ReaderTest::a_change_while_reading_is_read_too() {
     QTRY_VERIFY_WITH_TIMEOUT(!desk.window().is_reading(), 3'000);
     slow_ms = 0;
     QCOMPARE(difference(desk.text(), desk.text_of_fresh_start()), QString());
+}
+
+// The screen is cleared meanwhile, but what was shown is what the new reading is held against.
+void ReaderTest::an_export_that_takes_long() {
+    Desk desk({.by_events = false, .glance_ms = 0});
+    desk.open();
+    slow_ms = 100;
+    QTemporaryDir out;
+    desk.window().export_to(out.filePath("day.csv"));
+    QTRY_VERIFY_WITH_TIMEOUT(!has_money(all_text(desk.window())), 300);
+    QVERIFY(desk.waits_for_reading());
+    QVERIFY(all_text(desk.window(), true).contains("Written: "));
+    QVERIFY(QFile::exists(out.filePath("day.csv")));
+}
+
+void ReaderTest::typing_outlives_a_refresh() {
+    Desk desk({.by_events = true, .glance_ms = 0});
+    desk.open();
+    QTest::keyClick(&desk.window(), Qt::Key_F, Qt::ControlModifier);
+    auto *line = desk.window().findChild<QLineEdit *>();
+    QTest::keyClicks(line, "2");
+    made::write(desk.folder / Desk::name(5), made::interval(Desk::slot(5)));
+    QVERIFY(desk.waits_for_reading());
+    QCOMPARE(line->text(), QString("2"));
+    QVERIFY(line->hasFocus());
+    QTest::keyClick(line, Qt::Key_Return);
+    QCOMPARE(desk.window().shown().plant->number, 2);
 }
 
 void ReaderTest::a_day_of_256_rows() {
