@@ -84,7 +84,7 @@ MainWindow::MainWindow(Settings &settings, std::optional<std::filesystem::path> 
     connect_all();
     resize_letters(settings_.percent());
     // With room for the frame around it.
-    resize(QSize(1'440, 900).boundedTo(QWidget::screen()->availableSize() - QSize(10, 40)));
+    resize(QSize(1'440, 900).boundedTo(screen()->availableSize() - QSize(10, 40)));
     restoreGeometry(settings_.place());
     say_instead(Word::welcome);
 }
@@ -179,7 +179,7 @@ void MainWindow::connect_all() {
     connect(message_, &MessagePage::example_asked, this, [this] { open_folder(*example_folder_); });
     connect(faults_, &QPushButton::clicked, this, [this] { show_screen(Screen::files); });
     connect(stop_, &QPushButton::clicked, this, &MainWindow::stop);
-    connect(tabs_, &QTabWidget::currentChanged, this, [this] { pane_->setVisible(screen() != Screen::files); });
+    connect(tabs_, &QTabWidget::currentChanged, this, [this] { pane_->setVisible(on_show() != Screen::files); });
 
     connect(day_screen_, &DayScreen::quarter_chosen, this, &MainWindow::choose_quarter);
     connect(day_screen_, &DayScreen::quarter_opened, this, &MainWindow::focus_pane);
@@ -272,7 +272,9 @@ void MainWindow::take(const Outcome &outcome) {
     if (const auto *reading = std::get_if<std::shared_ptr<const Reading>>(&outcome)) {
         take_reading(*reading);
     } else if (const auto *gone = std::get_if<Gone>(&outcome)) {
-        say_instead(gone->why);
+        if (!is_said(gone->why)) {
+            say_instead(gone->why);
+        }
     } else {
         say_instead(Word::stopped);
     }
@@ -296,7 +298,7 @@ void MainWindow::take_reading(std::shared_ptr<const Reading> reading) {
     settle_choices();
     show_all();
     if (std::exchange(is_opening_, false)) {
-        show_screen(screen());
+        show_screen(on_show());
     } else if (focused && focused->isVisible() && focused->isEnabled()) {
         focused->setFocus();
     }
@@ -310,6 +312,11 @@ void MainWindow::say_instead(const Said &said) {
     const bool is_first_start = said.word == Word::welcome && example_folder_;
     message_->say(said, is_first_start, shown_.tongue);
     stack_->setCurrentWidget(message_);
+}
+
+// A folder that stays away is tried over and over: nobody has to hear of it each time.
+bool MainWindow::is_said(const Said &said) const {
+    return instead_ && instead_->in(shown_.tongue) == said.in(shown_.tongue);
 }
 
 // What was chosen stays chosen where the reading has it.
@@ -488,12 +495,12 @@ void MainWindow::show_screen(Screen screen) {
     }
 }
 
-Screen MainWindow::screen() const {
+Screen MainWindow::on_show() const {
     return static_cast<Screen>(tabs_->currentIndex());
 }
 
 void MainWindow::focus_pane() {
-    if (screen() == Screen::files) {
+    if (on_show() == Screen::files) {
         show_screen(Screen::day);
     }
     pane_->setFocus(Qt::ShortcutFocusReason);
@@ -503,7 +510,7 @@ void MainWindow::go_back() {
     if (instead_ && reader_.is_reading()) {
         stop();
     } else {
-        show_screen(screen());
+        show_screen(on_show());
     }
 }
 
@@ -521,7 +528,7 @@ void MainWindow::ask_for_folder() {
 // chosen.
 void MainWindow::ask_for_export() {
     const Shown asked = shown_;
-    const Screen of = screen();
+    const Screen of = on_show();
     if (!csv_of(asked, of)) {
         notify(Word::export_none);
         return;
@@ -535,7 +542,7 @@ void MainWindow::ask_for_export() {
 }
 
 void MainWindow::export_to(const QString &path) {
-    begin_export({path, screen(), shown_});
+    begin_export({path, on_show(), shown_});
 }
 
 void MainWindow::begin_export(Export wanted) {

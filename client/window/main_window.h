@@ -79,6 +79,7 @@ class MainWindow : public QMainWindow {
     void take(const Outcome &outcome);
     void take_reading(std::shared_ptr<const Reading> reading);
     void say_instead(const Said &said);
+    bool is_said(const Said &said) const;
     void begin_export(Export wanted);
     void finish_export(const Outcome &outcome);
 
@@ -94,7 +95,7 @@ class MainWindow : public QMainWindow {
     void step_day(int by);
     void settle_choices();
     void show_screen(Screen screen);
-    Screen screen() const;
+    Screen on_show() const;
     void focus_pane();
     void go_back();
 
