@@ -78,38 +78,6 @@ std::string_view as_text(View bytes) {
     return {reinterpret_cast<const char *>(bytes.data()), bytes.size()};
 }
 
-// What a correction may change of a row.
-struct Reported {
-    RowId id;
-    Kwh metered;
-    Status status;
-};
-
-// A row of a file that was accepted, counted from 0.
-Reported row_at(View bytes, std::size_t head, std::size_t index) {
-    const std::uint8_t *at = bytes.data() + head + index * WHEATRUDDER_ROW_LENGTH;
-    return {{wheatrudder_u16(at + 2)}, {wheatrudder_u32(at + 7)}, static_cast<Status>(wheatrudder_u8(at + 11))};
-}
-
-// Every entry of an accepted correction beside the row that it replaces. Ids rise in both files.
-std::vector<Change> changes_of(View interval, View correction) {
-    std::vector<Change> changes;
-    const std::size_t entries = (correction.size() - correction_head) / WHEATRUDDER_ROW_LENGTH;
-    const std::size_t rows = (interval.size() - interval_head) / WHEATRUDDER_ROW_LENGTH;
-    std::size_t row = 0;
-    for (std::size_t i = 0; i < entries; ++i) {
-        const Reported now = row_at(correction, correction_head, i);
-        while (row < rows && row_at(interval, interval_head, row).id < now.id) {
-            ++row;
-        }
-        if (row < rows) {
-            const Reported before = row_at(interval, interval_head, row);
-            changes.push_back({now.id, before.metered, now.metered, before.status, now.status});
-        }
-    }
-    return changes;
-}
-
 // Makes of the files that were read what a reading says of them.
 class Judge {
   public:
@@ -267,12 +235,10 @@ void Judge::accept(QuarterRead &quarter, Statement statement, std::size_t interv
         return;
     }
     tell(files_[*correction], Word::file_counts, std::nullopt, false);
-    const View bytes = files_[interval].bytes;
-    auto before = settle(bytes, {});
+    auto before = settle(files_[interval].bytes, {});
     if (auto *found = std::get_if<Statement>(&before)) {
         quarter.before = std::move(*found);
     }
-    quarter.changes = changes_of(bytes, files_[*correction].bytes);
 }
 
 // 8 to 10 are about the correction, every other number about the interval file.

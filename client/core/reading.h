@@ -73,15 +73,6 @@ struct Refused {
     std::optional<RowId> id;
 };
 
-// What an entry of a correction does to a row.
-struct Change {
-    RowId id;
-    Kwh metered_before, metered_now;
-    Status status_before = Status::normal, status_now = Status::normal;
-
-    bool is_none() const { return metered_before == metered_now && status_before == status_now; }
-};
-
 // What is known of one quarter hour.
 struct QuarterRead {
     State state = State::missing;
@@ -92,7 +83,6 @@ struct QuarterRead {
     std::optional<Refused> refused;     // where the state is refused, and where it is arriving because of a refusal
     std::optional<Statement> statement; // settled and corrected, and nowhere else
     std::optional<Statement> before;    // corrected: the interval file settled without its correction, at this reading
-    std::vector<Change> changes;        // corrected: every entry of the correction, in its order
 };
 
 using DayRead = std::array<QuarterRead, quarters_of_day>;

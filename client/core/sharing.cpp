@@ -41,11 +41,6 @@ const Part *Sharing::part_of(std::size_t position) const {
     return found == parts.end() ? nullptr : &*found;
 }
 
-std::int64_t Sharing::share_of(std::size_t position) const {
-    const Part *part = part_of(position);
-    return part == nullptr ? 0 : part->share();
-}
-
 bool Sharing::is_decided_by_turn(const Part &part) const {
     return std::any_of(parts.begin(), parts.end(), [&](const Part &other) {
         return other.remainder == part.remainder && other.gets_one_more != part.gets_one_more;

@@ -52,8 +52,6 @@ struct Sharing {
     std::int64_t left = 0;    // what the quotas leave over
     std::vector<Part> parts;  // in the sharers' order
 
-    // What the row at a position gets: 0 where it takes no part.
-    std::int64_t share_of(std::size_t position) const;
     const Part *part_of(std::size_t position) const;
     // Whether the turn alone decided that this part, and not one of the same remainder, got one more, or the reverse.
     bool is_decided_by_turn(const Part &part) const;

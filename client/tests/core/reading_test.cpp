@@ -118,7 +118,6 @@ void quarter_holds(const Reading &reading, Slot slot) {
     const bool is_settled = is_corrected || quarter.state == State::settled;
     equal(quarter.statement.has_value(), is_settled);
     equal(quarter.before.has_value(), is_corrected);
-    equal(quarter.changes.empty(), !is_corrected);
     equal(hindrance(reading, quarter).has_value(), !is_settled);
     holds(quarter.state != State::refused || quarter.refused, "refused by nothing");
     holds(quarter.state != State::arriving || reading.arriving, "nobody looks again");
@@ -187,12 +186,6 @@ void states() {
     const ReadIn corrected = read_pair(interval_of(), correction_of());
     const QuarterRead &quarter = quarter_of(corrected);
     equal(quarter.state, State::corrected);
-    equal(quarter.changes.size(), 1u);
-    const Change &change = quarter.changes[0];
-    equal(change.id.number, 3u);
-    equal(change.metered_before.count, 5'000);
-    equal(change.metered_now.count, 6'000);
-    holds(!change.is_none() && change.status_before == Status::normal && change.status_now == Status::normal, "status");
     equal(quarter.before->of({3})->paid.count, 25'000);
     holds(quarter.statement->of({3})->paid.count != 25'000, "the correction does nothing");
     equal(english(file_named(corrected, "h").says), "Counts.");
@@ -1225,14 +1218,10 @@ void drawn_day() {
         const auto answer = settle(interval, correction);
         holds(std::ranges::equal(std::get<Statement>(answer).bytes(), quarter_of(reading, quarter).statement->bytes()),
               "");
-        for (const Change &change : quarter_of(reading, quarter).changes) {
-            const auto before = counting_row(interval, {}, change.id),
-                       now = counting_row(interval, correction, change.id);
-            holds(before->metered == change.metered_before && now->metered == change.metered_now, "another reading");
-            holds(before->status == change.status_before && now->status == change.status_now, "another status");
-        }
-        equal(quarter_of(reading, quarter).changes.size(),
-              correction.empty() ? 0 : (correction.size() - 9) / row_length);
+        const auto &before = quarter_of(reading, quarter).before;
+        equal(before.has_value(), !correction.empty());
+        const auto without = settle(interval, {});
+        holds(!before || std::ranges::equal(std::get<Statement>(without).bytes(), before->bytes()), "before");
     }
 }
 
