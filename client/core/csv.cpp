@@ -101,7 +101,23 @@ void put_slot(Sheet &sheet, Slot slot) {
     sheet.text(end == quarters_of_day ? "24:00" : start({static_cast<std::uint8_t>(end)}));
 }
 
-constexpr std::size_t fields_of_line = 18;
+constexpr std::array slot_head{Word::csv_date, Word::csv_quarter, Word::csv_start, Word::csv_end, Word::csv_row};
+
+// The fields of a line, as put_line writes them.
+constexpr std::array line_head{
+    Word::csv_called1,     Word::csv_called2,      Word::csv_compensation_fen, Word::csv_compensation_yuan,
+    Word::csv_cut_fen,     Word::csv_cut_yuan,     Word::csv_weight,           Word::csv_cap_fen,
+    Word::csv_cap_yuan,    Word::csv_paid_fen,     Word::csv_paid_yuan,        Word::csv_closing,
+    Word::csv_penalty_fen, Word::csv_penalty_yuan, Word::csv_returned_fen,     Word::csv_returned_yuan,
+    Word::csv_net_fen,     Word::csv_net_yuan};
+
+std::vector<Word> joined(std::initializer_list<std::span<const Word>> parts) {
+    std::vector<Word> all;
+    for (const std::span<const Word> part : parts) {
+        all.insert(all.end(), part.begin(), part.end());
+    }
+    return all;
+}
 
 void put_line(Sheet &sheet, const Line &line) {
     sheet.number(line.called[0]);
@@ -148,40 +164,10 @@ void put_file(Sheet &sheet, const File *file) {
     sheet.text(hash_of(*file));
 }
 
-constexpr std::array day_head{Word::csv_date,
-                              Word::csv_quarter,
-                              Word::csv_start,
-                              Word::csv_end,
-                              Word::csv_row,
-                              Word::csv_state,
-                              Word::csv_kind,
-                              Word::csv_status,
-                              Word::csv_metered,
-                              Word::csv_called1,
-                              Word::csv_called2,
-                              Word::csv_compensation_fen,
-                              Word::csv_compensation_yuan,
-                              Word::csv_cut_fen,
-                              Word::csv_cut_yuan,
-                              Word::csv_weight,
-                              Word::csv_cap_fen,
-                              Word::csv_cap_yuan,
-                              Word::csv_paid_fen,
-                              Word::csv_paid_yuan,
-                              Word::csv_closing,
-                              Word::csv_penalty_fen,
-                              Word::csv_penalty_yuan,
-                              Word::csv_returned_fen,
-                              Word::csv_returned_yuan,
-                              Word::csv_net_fen,
-                              Word::csv_net_yuan,
-                              Word::csv_before_fen,
-                              Word::csv_before_yuan,
-                              Word::csv_interval,
-                              Word::csv_interval_hash,
-                              Word::csv_correction,
-                              Word::csv_correction_hash,
-                              Word::csv_taken};
+const std::vector<Word> day_head =
+    joined({slot_head, std::array{Word::csv_state, Word::csv_kind, Word::csv_status, Word::csv_metered}, line_head,
+            std::array{Word::csv_before_fen, Word::csv_before_yuan, Word::csv_interval, Word::csv_interval_hash,
+                       Word::csv_correction, Word::csv_correction_hash, Word::csv_taken}});
 
 void put_quarter(Sheet &sheet, const PlantDay &day, unsigned number) {
     const PlantQuarter &quarter = day.quarters[number];
@@ -189,7 +175,7 @@ void put_quarter(Sheet &sheet, const PlantDay &day, unsigned number) {
     sheet.number(day.id.number);
     sheet.text(Said(name_of(quarter.read->state)));
     put_row(sheet, quarter.row);
-    quarter.line ? put_line(sheet, *quarter.line) : sheet.blank(fields_of_line);
+    quarter.line ? put_line(sheet, *quarter.line) : sheet.blank(line_head.size());
     quarter.before ? sheet.money(quarter.before->net()) : sheet.blank(2);
     put_file(sheet, only(*day.reading, quarter.read->intervals));
     put_file(sheet, only(*day.reading, quarter.read->corrections));
@@ -197,34 +183,9 @@ void put_quarter(Sheet &sheet, const PlantDay &day, unsigned number) {
     sheet.end_line();
 }
 
-constexpr std::array rows_head{Word::csv_date,
-                               Word::csv_quarter,
-                               Word::csv_start,
-                               Word::csv_end,
-                               Word::csv_row,
-                               Word::csv_name,
-                               Word::csv_state,
-                               Word::csv_called1,
-                               Word::csv_called2,
-                               Word::csv_compensation_fen,
-                               Word::csv_compensation_yuan,
-                               Word::csv_cut_fen,
-                               Word::csv_cut_yuan,
-                               Word::csv_weight,
-                               Word::csv_cap_fen,
-                               Word::csv_cap_yuan,
-                               Word::csv_paid_fen,
-                               Word::csv_paid_yuan,
-                               Word::csv_closing,
-                               Word::csv_penalty_fen,
-                               Word::csv_penalty_yuan,
-                               Word::csv_returned_fen,
-                               Word::csv_returned_yuan,
-                               Word::csv_net_fen,
-                               Word::csv_net_yuan,
-                               Word::csv_interval_hash,
-                               Word::csv_correction_hash,
-                               Word::csv_taken};
+const std::vector<Word> rows_head =
+    joined({slot_head, std::array{Word::csv_name, Word::csv_state}, line_head,
+            std::array{Word::csv_interval_hash, Word::csv_correction_hash, Word::csv_taken}});
 
 std::string name_in_both(const Names &names, RowId id) {
     const std::string chinese = names.of(id, Tongue::chinese);

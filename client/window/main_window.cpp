@@ -231,6 +231,10 @@ void MainWindow::read_again() {
 
 // After a stop nothing begins by itself.
 void MainWindow::begin_reading() {
+    begin_reading_also({});
+}
+
+void MainWindow::begin_reading_also(Also also) {
     if (!folder_ || is_stopped_) {
         return;
     }
@@ -239,7 +243,7 @@ void MainWindow::begin_reading() {
     if (!slow_.isActive()) {
         slow_.start();
     }
-    reader_.read(*folder_);
+    reader_.read(*folder_, std::move(also));
 }
 
 // Without a reading there is nothing to compare with, so the folder is tried anew.
@@ -261,14 +265,15 @@ void MainWindow::stop() {
     is_stopped_ = true;
     reader_.stop();
     watch_.clear();
-    export_.reset();
     say_instead(Word::stopped);
     emit taken();
 }
 
-void MainWindow::take(const Outcome &outcome) {
+void MainWindow::take(const Outcome &outcome, const std::optional<Said> &told) {
     slow_.stop();
-    finish_export(outcome);
+    if (told) {
+        notify(*told);
+    }
     if (const auto *reading = std::get_if<std::shared_ptr<const Reading>>(&outcome)) {
         take_reading(*reading);
     } else if (const auto *gone = std::get_if<Gone>(&outcome)) {
@@ -529,7 +534,7 @@ void MainWindow::ask_for_folder() {
 void MainWindow::ask_for_export() {
     const Shown asked = shown_;
     const Screen of = on_show();
-    if (!csv_of(asked, of)) {
+    if (!has_csv(asked, of)) {
         notify(Word::export_none);
         return;
     }
@@ -545,30 +550,19 @@ void MainWindow::export_to(const QString &path) {
     begin_export({path, on_show(), shown_});
 }
 
+// Everything is read again for it, and written on the reader's thread: a month's list of files takes a tenth of a
+// second.
 void MainWindow::begin_export(Export wanted) {
-    if (!csv_of(wanted.shown, wanted.screen)) {
+    if (!has_csv(wanted.shown, wanted.screen)) {
         notify(Word::export_none);
     } else if (lies_within(wanted.path, wanted.shown.reading->folder)) {
         notify(Word::export_within);
     } else {
-        export_ = std::move(wanted);
-        read_again();
+        is_stopped_ = false;
+        begin_reading_also([wanted = std::move(wanted)](const Outcome &outcome, const std::stop_token &stop) {
+            return write_if_same(wanted, outcome, stop);
+        });
     }
-}
-
-// Everything was read again for this: it is written only if it is what was shown.
-void MainWindow::finish_export(const Outcome &outcome) {
-    if (!export_) {
-        return;
-    }
-    Export wanted = *std::exchange(export_, std::nullopt);
-    const auto *reading = std::get_if<std::shared_ptr<const Reading>>(&outcome);
-    if (!reading || !same_files(*wanted.shown.reading, **reading)) {
-        notify(Word::changed);
-        return;
-    }
-    wanted.shown.reading = *reading;
-    notify(write_csv(wanted.path, csv_of(wanted.shown, wanted.screen).value_or(std::string())));
 }
 
 void MainWindow::switch_tongue() {

@@ -63,25 +63,19 @@ class MainWindow : public QMainWindow {
     void showEvent(QShowEvent *event) override;
 
   private:
-    struct Export {
-        QString path;
-        Screen screen;
-        Shown shown; // when it was asked for
-    };
-
     void make_page();
     void make_screens();
     void make_keys();
     void connect_all();
 
     void begin_reading();
+    void begin_reading_also(Also also);
     void glance();
-    void take(const Outcome &outcome);
+    void take(const Outcome &outcome, const std::optional<Said> &told);
     void take_reading(std::shared_ptr<const Reading> reading);
     void say_instead(const Said &said);
     bool is_said(const Said &said) const;
     void begin_export(Export wanted);
-    void finish_export(const Outcome &outcome);
 
     void clear_all();
     void show_all();
@@ -112,7 +106,6 @@ class MainWindow : public QMainWindow {
     Shown shown_;
     std::optional<Said> instead_; // the sentence in the place of all screens
     std::optional<Said> notice_;
-    std::optional<Export> export_;
     bool is_stopped_ = false; // nothing starts by itself until somebody asks for it
     bool is_opening_ = false; // the first reading of a folder: the keys go to its figures
 

@@ -18,36 +18,43 @@ Reader::~Reader() {
     }
 }
 
-void Reader::read(std::filesystem::path folder) {
+void Reader::read(std::filesystem::path folder, Also also) {
     is_reading_ = true;
-    if (is_busy_) {
-        waiting_ = std::move(folder);
-    } else {
-        begin_reading(std::move(folder));
+    if (!is_busy_) {
+        begin_reading({std::move(folder), std::move(also)});
+        return;
     }
+    // What waits to be done with a reading is done with the one that comes in its place.
+    if (!also && waiting_) {
+        also = std::move(waiting_->also);
+    }
+    waiting_ = Asked{std::move(folder), std::move(also)};
 }
 
-void Reader::begin_reading(std::filesystem::path folder) {
-    ++asked_;
-    begin([this, folder = std::move(folder), asked = asked_, report = reporter()](std::stop_token stop) -> Answer {
-        Outcome outcome = read_folder(folder, stop, report);
-        return [this, asked, outcome = std::move(outcome)] {
-            if (asked == asked_) {
+void Reader::begin_reading(Asked asked) {
+    ++questions_;
+    const auto work = [this, asked = std::move(asked), question = questions_,
+                       report = reporter()](const std::stop_token &stop) -> Answer {
+        Outcome outcome = read_folder(asked.folder, stop, report);
+        std::optional<Said> told = asked.also ? asked.also(outcome, stop) : std::nullopt;
+        return [this, question, outcome = std::move(outcome), told = std::move(told)] {
+            if (question == questions_) {
                 is_reading_ = waiting_.has_value();
-                emit read_out(outcome);
+                emit read_out(outcome, told);
             }
         };
-    });
+    };
+    begin(work);
 }
 
 void Reader::glance(std::shared_ptr<const Reading> reading, std::optional<Day> day) {
     if (is_busy_) {
         return;
     }
-    begin([this, reading = std::move(reading), day, asked = asked_](std::stop_token) -> Answer {
+    begin([this, reading = std::move(reading), day, question = questions_](std::stop_token) -> Answer {
         const bool changed = has_changed(*reading, day);
-        return [this, asked, changed] {
-            if (asked == asked_ && !waiting_) {
+        return [this, question, changed] {
+            if (question == questions_ && !waiting_) {
                 emit glanced(changed);
             }
         };
@@ -55,7 +62,7 @@ void Reader::glance(std::shared_ptr<const Reading> reading, std::optional<Day> d
 }
 
 void Reader::stop() {
-    ++asked_;
+    ++questions_;
     waiting_.reset();
     is_reading_ = false;
     thread_.request_stop();
@@ -80,15 +87,15 @@ void Reader::end(const Answer &answer) {
 }
 
 Progress Reader::reporter() {
-    return [this, asked = asked_, last = std::chrono::steady_clock::time_point{}](std::size_t read,
-                                                                                  std::size_t of) mutable {
+    return [this, question = questions_, last = std::chrono::steady_clock::time_point{}](std::size_t read,
+                                                                                         std::size_t of) mutable {
         const auto now = std::chrono::steady_clock::now();
         if (now - last < between_reports) {
             return;
         }
         last = now;
-        const auto tell = [this, asked, read, of] {
-            if (asked == asked_) {
+        const auto tell = [this, question, read, of] {
+            if (question == questions_) {
                 emit progressed(static_cast<int>(read), static_cast<int>(of));
             }
         };

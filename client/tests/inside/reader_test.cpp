@@ -126,6 +126,7 @@ class ReaderTest : public QObject {
     void typing_outlives_a_refresh();
     void a_day_of_256_rows();
     void a_month_of_256_rows();
+    void exports_do_not_block();
     void choosing_is_quick();
 };
 
@@ -249,6 +250,31 @@ void ReaderTest::a_month_of_256_rows() {
     QVERIFY(best.opened_ms < 3'000);
     QVERIFY(best.blocked_ms < 50);
     QVERIFY(pulse.longest() < 50);
+}
+
+// A month's list of files and a day of all rows, which are the longest.
+void ReaderTest::exports_do_not_block() {
+    Desk desk({.by_events = false, .glance_ms = 0});
+    made::Folder month;
+    make_days(month, 31);
+    desk.open();
+    times_of_opening(desk.window(), month.path());
+    QTemporaryDir out;
+    for (const Qt::Key screen : {Qt::Key_3, Qt::Key_4}) {
+        QTest::keyClick(&desk.window(), screen, Qt::ControlModifier);
+        const QString path = out.filePath(QString::number(screen));
+        const Times best = best_of(3, [&] {
+            Pulse pulse;
+            desk.window().export_to(path);
+            const bool is_read = desk.waits_for_reading();
+            QTest::qWait(20);
+            return Times{is_read ? 0 : 30'000, pulse.longest()};
+        });
+        qInfo("an export of %lld bytes: the window blocked for at most %lld ms", QFile(path).size(), best.blocked_ms);
+        QVERIFY(all_text(desk.window(), true).contains("Written: "));
+        QVERIFY(QFile(path).size() > 400'000);
+        QVERIFY(best.blocked_ms < 50);
+    }
 }
 
 void ReaderTest::choosing_is_quick() {
