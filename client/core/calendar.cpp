@@ -7,6 +7,7 @@ namespace client {
 namespace {
 
 constexpr std::uint32_t last_day = 36'524;
+constexpr std::chrono::sys_days day_0{std::chrono::year{2000} / std::chrono::January / 1};
 
 std::string two(unsigned number) {
     return {static_cast<char>('0' + number / 10 % 10), static_cast<char>('0' + number % 10)};
@@ -25,9 +26,16 @@ std::optional<Slot> slot_of(std::uint32_t day, std::uint8_t quarter) {
     return Slot{{day}, {quarter}};
 }
 
+std::optional<Day> day_of(int year, unsigned month, unsigned day) {
+    using namespace std::chrono;
+    const year_month_day named{std::chrono::year{year}, std::chrono::month{month}, std::chrono::day{day}};
+    const auto number = named.ok() ? (sys_days{named} - day_0).count() : -1;
+    return number >= 0 && number <= last_day ? std::optional(Day{static_cast<std::uint32_t>(number)}) : std::nullopt;
+}
+
 std::string date(Day day) {
     using namespace std::chrono;
-    const year_month_day found{sys_days{year{2000} / January / 1} + days{day.number}};
+    const year_month_day found{day_0 + days{day.number}};
     return std::to_string(static_cast<int>(found.year())) + "-" + two(static_cast<unsigned>(found.month())) + "-" +
            two(static_cast<unsigned>(found.day()));
 }

@@ -32,6 +32,9 @@ struct Slot {
 // The slot of two numbers, where both are within the files' ranges.
 std::optional<Slot> slot_of(std::uint32_t day, std::uint8_t quarter);
 
+// A day of the calendar, where there is such a one and the files can name it.
+std::optional<Day> day_of(int year, unsigned month, unsigned day);
+
 // "2026-10-31".
 std::string date(Day day);
 // "02:15–02:30"; the last quarter of a day ends at 24:00.

@@ -5,11 +5,14 @@
 
 #include <algorithm>
 #include <array>
-#include <span>
+#include <string_view>
 
 namespace client {
 
 namespace {
+
+constexpr std::string_view byte_order_mark = "\xef\xbb\xbf";
+constexpr std::string_view line_end = "\r\n";
 
 std::string in_both(const Said &said) {
     return said.in(Tongue::english) + " " + said.in(Tongue::chinese);
@@ -59,12 +62,12 @@ class Sheet {
         }
     }
     void end_line() {
-        all_ += "\r\n";
+        all_ += line_end;
         is_first_ = true;
     }
-    void head(std::span<const Word> words) {
-        for (const Word word : words) {
-            text(Said(word));
+    void head(const std::vector<Said> &names) {
+        for (const Said &name : names) {
+            text(name);
         }
         end_line();
     }
@@ -79,18 +82,23 @@ class Sheet {
         is_first_ = false;
     }
 
-    std::string all_ = "\xef\xbb\xbf";
+    std::string all_{byte_order_mark};
     bool is_first_ = true;
 };
 
-// The record before the head of a day that is not complete.
-void begin(Sheet &sheet, const Reading &reading, Day day, std::span<const Word> head) {
-    if (const auto why = hindrance(arrived(reading, day))) {
+// A sentence in a record of its own, before the head.
+void begin(Sheet &sheet, const std::optional<Said> &why, const std::vector<Said> &head) {
+    if (why) {
         sheet.text(*why);
         sheet.blank(head.size() - 1);
         sheet.end_line();
     }
     sheet.head(head);
+}
+
+// Why a day may not be booked.
+std::optional<Said> unreadiness(const Reading &reading, Day day) {
+    return arrived(reading, day).is_ready() ? std::nullopt : std::optional(readiness(reading, day));
 }
 
 void put_slot(Sheet &sheet, Slot slot) {
@@ -101,36 +109,47 @@ void put_slot(Sheet &sheet, Slot slot) {
     sheet.text(end == quarters_of_day ? "24:00" : start({static_cast<std::uint8_t>(end)}));
 }
 
-constexpr std::array slot_head{Word::csv_date, Word::csv_quarter, Word::csv_start, Word::csv_end, Word::csv_row};
+using Heads = std::vector<Said>;
 
-// The fields of a line, as put_line writes them.
-constexpr std::array line_head{
-    Word::csv_called1,     Word::csv_called2,      Word::csv_compensation_fen, Word::csv_compensation_yuan,
-    Word::csv_cut_fen,     Word::csv_cut_yuan,     Word::csv_weight,           Word::csv_cap_fen,
-    Word::csv_cap_yuan,    Word::csv_paid_fen,     Word::csv_paid_yuan,        Word::csv_closing,
-    Word::csv_penalty_fen, Word::csv_penalty_yuan, Word::csv_returned_fen,     Word::csv_returned_yuan,
-    Word::csv_net_fen,     Word::csv_net_yuan};
+// Money stands in two columns.
+void add_money(Heads &heads, Word name) {
+    heads.emplace_back(Word::csv_in_fen, std::vector<Hole>{Said(name)});
+    heads.emplace_back(Word::csv_in_yuan, std::vector<Hole>{Said(name)});
+}
 
-std::vector<Word> joined(std::initializer_list<std::span<const Word>> parts) {
-    std::vector<Word> all;
-    for (const std::span<const Word> part : parts) {
+Heads line_heads() {
+    Heads heads;
+    for (const Field &field : fields()) {
+        switch (field.unit) {
+        case Unit::money:
+            add_money(heads, field.csv);
+            break;
+        case Unit::energy:
+            heads.emplace_back(Word::csv_in_kwh, std::vector<Hole>{Said(field.csv)});
+            break;
+        case Unit::round:
+            heads.emplace_back(field.csv);
+        }
+    }
+    return heads;
+}
+
+Heads joined(const std::vector<Heads> &parts) {
+    Heads all;
+    for (const Heads &part : parts) {
         all.insert(all.end(), part.begin(), part.end());
     }
     return all;
 }
 
+Heads slot_heads() {
+    return {Word::csv_date, Word::csv_quarter, Word::csv_start, Word::csv_end, Word::csv_row};
+}
+
 void put_line(Sheet &sheet, const Line &line) {
-    sheet.number(line.called[0]);
-    sheet.number(line.called[1]);
-    sheet.money(line.compensation);
-    sheet.money(line.cut);
-    sheet.number(line.weight);
-    sheet.money(line.cap);
-    sheet.money(line.paid);
-    sheet.number(line.closing);
-    sheet.money(line.penalty);
-    sheet.money(line.returned);
-    sheet.money(line.net());
+    for (const Field &field : fields()) {
+        field.unit == Unit::money ? sheet.money({field.of(line)}) : sheet.number(field.of(line));
+    }
 }
 
 void put_row(Sheet &sheet, const std::optional<Row> &row) {
@@ -164,10 +183,16 @@ void put_file(Sheet &sheet, const File *file) {
     sheet.text(hash_of(*file));
 }
 
-const std::vector<Word> day_head =
-    joined({slot_head, std::array{Word::csv_state, Word::csv_kind, Word::csv_status, Word::csv_metered}, line_head,
-            std::array{Word::csv_before_fen, Word::csv_before_yuan, Word::csv_interval, Word::csv_interval_hash,
-                       Word::csv_correction, Word::csv_correction_hash, Word::csv_taken}});
+Heads day_heads() {
+    Heads before;
+    add_money(before, Word::csv_before);
+    return joined({slot_heads(),
+                   {Word::csv_state, Word::csv_kind, Word::csv_status, {Word::csv_in_kwh, {Said(Word::csv_metered)}}},
+                   line_heads(),
+                   before,
+                   {Word::csv_interval, Word::csv_interval_hash, Word::csv_correction, Word::csv_correction_hash,
+                    Word::csv_taken}});
+}
 
 void put_quarter(Sheet &sheet, const PlantDay &day, unsigned number) {
     const PlantQuarter &quarter = day.quarters[number];
@@ -175,7 +200,7 @@ void put_quarter(Sheet &sheet, const PlantDay &day, unsigned number) {
     sheet.number(day.id.number);
     sheet.text(Said(name_of(quarter.read->state)));
     put_row(sheet, quarter.row);
-    quarter.line ? put_line(sheet, *quarter.line) : sheet.blank(line_head.size());
+    quarter.line ? put_line(sheet, *quarter.line) : sheet.blank(line_heads().size());
     quarter.before ? sheet.money(quarter.before->net()) : sheet.blank(2);
     put_file(sheet, only(*day.reading, quarter.read->intervals));
     put_file(sheet, only(*day.reading, quarter.read->corrections));
@@ -183,9 +208,12 @@ void put_quarter(Sheet &sheet, const PlantDay &day, unsigned number) {
     sheet.end_line();
 }
 
-const std::vector<Word> rows_head =
-    joined({slot_head, std::array{Word::csv_name, Word::csv_state}, line_head,
-            std::array{Word::csv_interval_hash, Word::csv_correction_hash, Word::csv_taken}});
+Heads rows_heads() {
+    return joined({slot_heads(),
+                   {Word::csv_name, Word::csv_state},
+                   line_heads(),
+                   {Word::csv_interval_hash, Word::csv_correction_hash, Word::csv_taken}});
+}
 
 std::string name_in_both(const Names &names, RowId id) {
     const std::string chinese = names.of(id, Tongue::chinese);
@@ -214,10 +242,12 @@ void put_rows(Sheet &sheet, const Reading &reading, Slot slot, const std::string
     }
 }
 
-constexpr std::array files_head{Word::csv_file,           Word::csv_form,           Word::csv_date,
-                                Word::csv_quarter,        Word::csv_bytes,          Word::csv_hash,
-                                Word::csv_faulty,         Word::csv_says_english,   Word::csv_says_chinese,
-                                Word::csv_advice_english, Word::csv_advice_chinese, Word::csv_taken};
+Heads files_heads() {
+    return {Word::csv_file,         Word::csv_form,         Word::csv_date,           Word::csv_quarter,
+            Word::csv_bytes,        Word::csv_hash,         Word::csv_faulty,         Word::csv_accounted,
+            Word::csv_says_english, Word::csv_says_chinese, Word::csv_advice_english, Word::csv_advice_chinese,
+            Word::csv_taken};
+}
 
 void put_listed(Sheet &sheet, const File &file, const std::string &taken) {
     sheet.text(file.name);
@@ -230,7 +260,8 @@ void put_listed(Sheet &sheet, const File &file, const std::string &taken) {
     }
     file.obstacle ? sheet.blank() : sheet.number(static_cast<std::int64_t>(file.stamp.size));
     sheet.text(hash_of(file));
-    sheet.number(file.faulty ? 1 : 0);
+    sheet.number(file.is_faulty() ? 1 : 0);
+    sheet.number(file.fault == Fault::unaccounted ? 0 : 1);
     for (const Tongue tongue : {Tongue::english, Tongue::chinese}) {
         sheet.text(file.says.in(tongue));
     }
@@ -245,7 +276,7 @@ void put_listed(Sheet &sheet, const File &file, const std::string &taken) {
 
 std::string day_as_csv(const PlantDay &day) {
     Sheet sheet;
-    begin(sheet, *day.reading, day.day, day_head);
+    begin(sheet, unreadiness(*day.reading, day.day), day_heads());
     for (unsigned number = 0; number < quarters_of_day; ++number) {
         put_quarter(sheet, day, number);
     }
@@ -254,7 +285,7 @@ std::string day_as_csv(const PlantDay &day) {
 
 std::string rows_as_csv(const Reading &reading, Day day) {
     Sheet sheet;
-    begin(sheet, reading, day, rows_head);
+    begin(sheet, unreadiness(reading, day), rows_heads());
     const std::string taken = local_time(reading.taken);
     for (unsigned number = 0; number < quarters_of_day; ++number) {
         put_rows(sheet, reading, {day, {static_cast<std::uint8_t>(number)}}, taken);
@@ -264,7 +295,7 @@ std::string rows_as_csv(const Reading &reading, Day day) {
 
 std::string files_as_csv(const Reading &reading) {
     Sheet sheet;
-    sheet.head(files_head);
+    begin(sheet, reservation(reading), files_heads());
     const std::string taken = local_time(reading.taken);
     for (const File &file : reading.files) {
         put_listed(sheet, file, taken);
@@ -274,8 +305,22 @@ std::string files_as_csv(const Reading &reading) {
 
 std::string csv_name(const Reading &reading, Day day, std::optional<RowId> id) {
     const std::string who = id ? std::to_string(id->number) : "all";
-    const bool is_complete = arrived(reading, day).is_complete();
-    return who + "-" + date(day) + (is_complete ? "" : "-incomplete") + ".csv";
+    const bool is_ready = arrived(reading, day).is_ready();
+    return who + "-" + date(day) + (is_ready ? "" : "-not-ready") + ".csv";
+}
+
+bool is_export(View bytes) {
+    const std::string_view text(reinterpret_cast<const char *>(bytes.data()), bytes.size());
+    if (!text.starts_with(byte_order_mark)) {
+        return false;
+    }
+    const std::string_view first = text.substr(byte_order_mark.size());
+    const std::size_t end = first.find(line_end);
+    const std::string_view second = end == std::string_view::npos ? "" : first.substr(end + line_end.size());
+    const auto is_head = [](std::string_view line) {
+        return line.starts_with(in_both(Word::csv_date) + ",") || line.starts_with(in_both(Word::csv_file) + ",");
+    };
+    return is_head(first) || is_head(second);
 }
 
 } // namespace client

@@ -1,5 +1,7 @@
 #include "folder.h"
 
+#include "known.h"
+
 #include <algorithm>
 #include <array>
 #include <cerrno>
@@ -145,6 +147,21 @@ ssize_t fill(int file, Bytes &bytes) {
     return static_cast<ssize_t>(held);
 }
 
+// The last bytes of a file, of which the front was read.
+std::optional<Bytes> ending_of(int file, const Bytes &front, std::uint64_t size) {
+    if (front.size() >= size) {
+        const auto length = static_cast<std::ptrdiff_t>(std::min(front.size(), ending_length));
+        return Bytes(front.end() - length, front.end());
+    }
+    Bytes ending(static_cast<std::size_t>(std::min<std::uint64_t>(size, ending_length)));
+    const ssize_t held = pread(file, ending.data(), ending.size(), static_cast<off_t>(size - ending.size()));
+    if (held < 0) {
+        return std::nullopt;
+    }
+    ending.resize(static_cast<std::size_t>(held));
+    return ending;
+}
+
 std::variant<Content, Obstacle> read_once(int folder, const char *name, std::size_t most) {
     const Descriptor file(openat(folder, name, O_RDONLY | O_NOFOLLOW | O_NONBLOCK | O_CLOEXEC));
     struct stat about {};
@@ -156,12 +173,18 @@ std::variant<Content, Obstacle> read_once(int folder, const char *name, std::siz
     }
     // One byte more than there should be, so that a file that has grown meanwhile shows it.
     Content content{.bytes = Bytes(std::min(most, static_cast<std::size_t>(about.st_size) + 1)),
+                    .ending = {},
                     .stamp = stamp_of(about)};
     const ssize_t held = fill(file.number(), content.bytes);
     if (held < 0) {
         return of_system(errno);
     }
     content.bytes.resize(static_cast<std::size_t>(held));
+    auto ending = ending_of(file.number(), content.bytes, content.stamp.size);
+    if (!ending) {
+        return of_system(errno);
+    }
+    content.ending = std::move(*ending);
     // Asked for by its name, so that another file put in its place is noticed too.
     content.steady = content.bytes.size() == std::min<std::uint64_t>(most, content.stamp.size) &&
                      plain_file(folder, name) == content.stamp;

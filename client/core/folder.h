@@ -66,6 +66,7 @@ struct Listing {
 
 struct Content {
     Bytes bytes;
+    Bytes ending; // the last ending_length bytes of the file, or all of it where it is shorter
     Stamp stamp;
     bool steady = false; // it did not change from before the first byte until after the last
 };

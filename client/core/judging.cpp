@@ -1,5 +1,7 @@
 #include "judging.h"
 
+#include "naming.h"
+#include "recognising.h"
 #include "saying.h"
 #include "wheatrudder.h"
 
@@ -11,46 +13,17 @@ namespace client {
 
 namespace {
 
-const char *const names_file = "plants.csv";
-
 // An interval file without rows that is accepted: day 0, quarter 0, tariff 1, need 0. Beside it a correction that
 // belongs to no quarter is judged as a correction.
 constexpr std::array<std::uint8_t, interval_head> no_rows{'P', 'H', 0, 0, 0, 0, 0, 1, 0, 0, 0, 0, 0, 0, 0};
 
-Form form_by_mark(View bytes) {
-    if (bytes.empty()) {
-        return Form::empty;
-    }
-    if (bytes.size() < 2 || bytes[0] != 'P') {
-        return Form::other;
-    }
-    switch (bytes[1]) {
-    case 'H':
-        return Form::interval;
-    case 'K':
-        return Form::correction;
-    case 'S':
-        return Form::statement;
-    case 'G':
-    case 'T':
-    case 'U':
-    case 'W':
-        return Form::coming;
-    default:
-        return Form::other;
-    }
-}
-
-// Day by bytes 2 to 5, quarter by byte 6. Whether the rest is whole is for the engine to say.
-std::optional<Slot> slot_by_head(View bytes) {
-    if (bytes.size() < 7) {
-        return std::nullopt;
-    }
-    return slot_of(wheatrudder_u32(bytes.data() + 2), wheatrudder_u8(bytes.data() + 6));
-}
-
 bool has_slot(Form form) {
     return form == Form::interval || form == Form::correction || form == Form::statement;
+}
+
+// Whether a file takes part in settling a quarter.
+bool is_of_quarter(const File &file) {
+    return file.slot && (file.form == Form::interval || file.form == Form::correction);
 }
 
 // Whether a file was written less than arriving_for ago. A time in the future tells nothing.
@@ -59,10 +32,18 @@ bool is_fresh(const Stamp &stamp) {
     return is_before(stamp.written, now) && !is_before(stamp.written, now - arriving_for);
 }
 
-void tell(File &file, Said says, std::optional<Said> to_do, bool faulty) {
+// What is to be said of a file that is accounted for.
+void account_for(File &file, Said says) {
+    file.says = std::move(says);
+    file.advice.reset();
+    file.fault = Fault::none;
+}
+
+// What is to be said of one that is at fault, and what to do.
+void blame(File &file, Said says, Said to_do, Fault fault = Fault::unaccounted) {
     file.says = std::move(says);
     file.advice = std::move(to_do);
-    file.faulty = faulty;
+    file.fault = fault;
 }
 
 // The id of the entry at a place, counted from 1, where the bytes reach so far.
@@ -97,10 +78,11 @@ class Judge {
     Places different(Places &places);
     void set_against(const Places &places);
     void put_aside(const Places &places, const Places &because_of);
-    void judge_alone(File &file);
+    void judge_alone(std::size_t place);
     void judge_nowhere(File &file);
-    void compare(File &file);
+    void compare(std::size_t place);
     void take_names(File &file);
+    void hold_against_name(std::size_t place);
     void put_in_order();
 
     Reading &reading_;
@@ -117,8 +99,10 @@ bool Judge::judge(const std::stop_token &stop) {
             look_at(quarter);
         }
     }
-    for (File &file : files_) {
-        judge_alone(file);
+    for (std::size_t place = 0; place < files_.size(); ++place) {
+        reading_.arriving |= files_[place].form != Form::unread && !files_[place].steady;
+        judge_alone(place);
+        hold_against_name(place);
     }
     put_in_order();
     return true;
@@ -127,7 +111,7 @@ bool Judge::judge(const std::stop_token &stop) {
 void Judge::place_files() {
     for (std::size_t place = 0; place < files_.size(); ++place) {
         const File &file = files_[place];
-        if (file.slot && file.form != Form::statement) {
+        if (is_of_quarter(file)) {
             QuarterRead &quarter = reading_.days[file.slot->day][file.slot->quarter.number];
             (file.form == Form::interval ? quarter.intervals : quarter.corrections).push_back(place);
         }
@@ -152,7 +136,7 @@ Places Judge::different(Places &places) {
         }
         copies.push_back(place);
         file.same_as = held->second;
-        tell(file, {Word::file_double, {files_[held->second].name}}, std::nullopt, false);
+        account_for(file, {Word::file_double, {files_[held->second].name}});
     }
     places = found;
     places.insert(places.end(), copies.begin(), copies.end());
@@ -166,14 +150,14 @@ void Judge::set_against(const Places &places) {
         Places others;
         std::copy_if(some.begin(), some.end(), std::back_inserter(others),
                      [&](std::size_t other) { return other != place; });
-        tell(files_[place], {Word::file_two, {list(files_, others)}}, Word::advice_take_away, true);
+        blame(files_[place], {Word::file_two, {list(files_, others)}}, Word::advice_take_away);
     }
 }
 
 // Files that nothing is wrong with, but whose quarter has no statement.
 void Judge::put_aside(const Places &places, const Places &because_of) {
     for (const std::size_t place : places) {
-        tell(files_[place], {Word::file_waits, {list(files_, because_of)}}, std::nullopt, false);
+        account_for(files_[place], {Word::file_waits, {list(files_, because_of)}});
     }
 }
 
@@ -182,7 +166,7 @@ void Judge::look_at(QuarterRead &quarter) {
     const Places corrections = different(quarter.corrections);
     if (intervals.empty()) {
         for (const std::size_t place : corrections) {
-            tell(files_[place], Word::file_alone, Word::advice_interval, true);
+            blame(files_[place], Word::file_alone, Word::advice_interval);
         }
     } else if (intervals.size() > 1) {
         quarter.state = State::two_intervals;
@@ -221,7 +205,7 @@ void Judge::wait_for(QuarterRead &quarter, std::size_t interval, std::optional<s
     std::partition_copy(pair.begin(), pair.end(), std::back_inserter(resting), std::back_inserter(moving),
                         [&](std::size_t place) { return files_[place].steady; });
     for (const std::size_t place : moving) {
-        tell(files_[place], Word::file_moving, Word::advice_wait, true);
+        blame(files_[place], Word::file_moving, Word::advice_wait);
     }
     put_aside(resting, moving);
 }
@@ -230,11 +214,11 @@ void Judge::accept(QuarterRead &quarter, Statement statement, std::size_t interv
                    std::optional<std::size_t> correction) {
     quarter.state = correction ? State::corrected : State::settled;
     quarter.statement = std::move(statement);
-    tell(files_[interval], Word::file_counts, std::nullopt, false);
+    account_for(files_[interval], Word::file_counts);
     if (!correction) {
         return;
     }
-    tell(files_[*correction], Word::file_counts, std::nullopt, false);
+    account_for(files_[*correction], Word::file_counts);
     auto before = settle(files_[interval].bytes, {});
     if (auto *found = std::get_if<Statement>(&before)) {
         quarter.before = std::move(*found);
@@ -253,64 +237,81 @@ void Judge::refuse(QuarterRead &quarter, const Refusal &refusal, std::size_t int
     const bool is_arriving = file.fresh || (refusal.number == 10 && files_[interval].fresh);
     quarter.state = is_arriving ? State::arriving : State::refused;
     const Said words = refusal_words(*quarter.refused);
-    tell(file, file.fresh ? sentences(Word::file_arriving, words) : words,
-         is_arriving ? Said(Word::advice_wait) : refusal_advice(refusal), true);
+    blame(file, file.fresh ? sentences(Word::file_arriving, words) : words,
+          is_arriving ? Said(Word::advice_wait) : refusal_advice(refusal));
     if (correction) {
         put_aside({is_correction ? interval : *correction}, {at_fault});
     }
 }
 
 // What is to be said of a file that no quarter has looked at.
-void Judge::judge_alone(File &file) {
-    if (file.form == Form::unread) {
-        return;
-    }
-    reading_.arriving |= !file.steady;
-    const bool is_of_quarter = file.slot && file.form != Form::statement;
-    if (is_of_quarter) {
+void Judge::judge_alone(std::size_t place) {
+    File &file = files_[place];
+    if (file.form == Form::unread || is_of_quarter(file)) {
         return;
     }
     if (!file.steady) {
-        tell(file, Word::file_moving, Word::advice_wait, true);
-    } else if (file.form == Form::interval || file.form == Form::correction || file.form == Form::empty) {
+        blame(file, Word::file_moving, Word::advice_wait);
+        return;
+    }
+    switch (file.form) {
+    case Form::interval:
+    case Form::correction:
+    case Form::empty:
+    case Form::unknown:
         judge_nowhere(file);
-    } else if (file.form == Form::coming) {
-        tell(file, Word::file_coming, Word::advice_newer, true);
-    } else if (file.form == Form::statement) {
-        compare(file);
-    } else if (file.form == Form::names) {
+        return;
+    case Form::coming:
+        blame(file, Word::file_coming, Word::advice_newer);
+        return;
+    case Form::statement:
+        compare(place);
+        return;
+    case Form::names:
         take_names(file);
+        return;
+    default:
+        account_for(file, file.form == Form::exported ? Word::file_exported : Word::file_other);
     }
 }
 
-// A file that names no quarter: empty, cut within its head, or with a head out of range.
+// A file that names no quarter: unknown, empty, cut within its head, or with a head out of range.
 void Judge::judge_nowhere(File &file) {
     reading_.arriving |= file.fresh;
     if (file.form == Form::empty) {
-        tell(file, Word::file_empty, file.fresh ? Word::advice_wait : Word::advice_empty, true);
+        blame(file, Word::file_empty, file.fresh ? Word::advice_wait : Word::advice_empty);
+        return;
+    }
+    if (file.form == Form::unknown) {
+        blame(file, Word::file_unknown, file.fresh ? Word::advice_wait : Word::advice_unknown);
         return;
     }
     const bool is_correction = file.form == Form::correction;
     const auto answer = is_correction ? settle(no_rows, file.bytes) : settle(file.bytes, {});
     const auto *refusal = std::get_if<Refusal>(&answer);
-    const Said why = refusal ? refusal_words({*refusal, 0, std::nullopt}) : Said(Word::file_other);
-    const Said what = file.fresh ? Said(Word::advice_wait) : Said(Word::advice_again);
-    tell(file, {Word::file_nowhere, {why}}, what, true);
+    const Said why = refusal ? refusal_words({*refusal, 0, std::nullopt}) : Said(Word::file_unknown);
+    blame(file, {Word::file_nowhere, {why}}, file.fresh ? Word::advice_wait : Word::advice_again);
 }
 
-void Judge::compare(File &file) {
-    if (!file.slot || !reading_.at(*file.slot).statement) {
-        tell(file, Word::file_incomparable, std::nullopt, false);
+// A statement of another time is no fault: somebody may have booked it, and is told.
+void Judge::compare(std::size_t place) {
+    File &file = files_[place];
+    if (!file.whole || !is_whole_statement(file.bytes)) {
+        reading_.arriving |= file.fresh;
+        blame(file, Word::file_half_statement, file.fresh ? Word::advice_wait : Word::advice_empty);
         return;
     }
-    const View now = reading_.at(*file.slot).statement->bytes();
-    const bool is_same = file.whole && std::equal(now.begin(), now.end(), file.bytes.begin(), file.bytes.end());
-    tell(file, is_same ? Word::file_same : Word::file_old, std::nullopt, false);
-}
-
-Said counted(std::size_t number, Word one, Word several, std::vector<Hole> holes) {
-    holes.emplace_back(std::to_string(number));
-    return {number == 1 ? one : several, std::move(holes)};
+    const auto &statement = reading_.at(*file.slot).statement;
+    if (!statement) {
+        account_for(file, Word::file_incomparable);
+        return;
+    }
+    const View now = statement->bytes();
+    const bool is_same = std::equal(now.begin(), now.end(), file.bytes.begin(), file.bytes.end());
+    account_for(file, is_same ? Word::file_same : Word::file_old);
+    if (!is_same) {
+        reading_.outdated.push_back(place);
+    }
 }
 
 void Judge::take_names(File &file) {
@@ -329,19 +330,56 @@ void Judge::take_names(File &file) {
     if (!file.whole) {
         says = {Word::file_names_cut, {says}};
     }
-    const bool is_faulty = passed > 0 || !file.whole;
-    tell(file, says, is_faulty ? std::optional<Said>(Word::advice_lines) : std::nullopt, is_faulty);
+    const bool is_blemished = passed > 0 || !file.whole;
+    is_blemished ? blame(file, says, Word::advice_lines, Fault::blemish) : account_for(file, says);
+}
+
+// Whether a file is what its name says. An interval file that could not be read may well be one.
+bool is_as_named(const File &file, const Naming &naming) {
+    constexpr std::array forms{Form::interval, Form::correction, Form::statement};
+    const bool is_other_form = naming.as && file.form != forms.at(static_cast<std::size_t>(*naming.as));
+    const bool is_other_slot = naming.slot && file.slot && *naming.slot != *file.slot;
+    return file.form == Form::unread || (!is_other_form && !is_other_slot);
+}
+
+// "2026-10-31 03:00–03:15", "an interval file", or both.
+Said name_says(const Naming &naming) {
+    constexpr std::array forms{Word::named_as_interval, Word::named_as_correction, Word::named_as_statement};
+    if (!naming.as) {
+        return {Word::named_as_slot, {text(*naming.slot)}};
+    }
+    const Said form = forms.at(static_cast<std::size_t>(*naming.as));
+    return naming.slot ? Said(Word::named_as_both, {form, text(*naming.slot)}) : form;
+}
+
+// Names decide nothing, but a file that is not what its name says is at fault, and the quarter that it is named for
+// tells of it, as it does of any other file at fault that is named for it.
+void Judge::hold_against_name(std::size_t place) {
+    File &file = files_[place];
+    const Naming naming = naming_of(file.path);
+    if (!is_as_named(file, naming)) {
+        blame(file, {Word::file_misnamed, {name_says(naming), file.says}},
+              file.is_faulty() ? *file.advice : Said(Word::advice_misnamed));
+    }
+    const bool is_known_there = is_of_quarter(file) && file.slot == naming.slot;
+    if (naming.slot && file.fault == Fault::unaccounted && !is_known_there) {
+        reading_.days[naming.slot->day][naming.slot->quarter.number].named.push_back(place);
+    }
 }
 
 int rank(const File &file) {
-    if (file.form == Form::unread) {
-        return 0;
+    switch (file.fault) {
+    case Fault::unaccounted:
+        return file.form == Form::unread ? 0 : 1;
+    case Fault::blemish:
+        return 2;
+    case Fault::none:
+        break;
     }
-    if (file.faulty) {
-        return 1;
+    if (is_of_quarter(file)) {
+        return file.same_as ? 4 : 3;
     }
-    const bool is_of_quarter = file.form == Form::interval || file.form == Form::correction;
-    return is_of_quarter && !file.same_as ? 2 : file.form == Form::other ? 4 : 3;
+    return file.form == Form::statement || file.form == Form::names ? 4 : 5;
 }
 
 // Every place in the reading is moved along with its file.
@@ -365,10 +403,13 @@ void Judge::put_in_order() {
     for (File &file : files_) {
         file.same_as = file.same_as ? std::optional(now_at[*file.same_as]) : std::nullopt;
     }
+    std::for_each(reading_.outdated.begin(), reading_.outdated.end(), move);
+    std::sort(reading_.outdated.begin(), reading_.outdated.end());
     for (auto &[day, quarters] : reading_.days) {
         for (QuarterRead &quarter : quarters) {
             std::for_each(quarter.intervals.begin(), quarter.intervals.end(), move);
             std::for_each(quarter.corrections.begin(), quarter.corrections.end(), move);
+            std::for_each(quarter.named.begin(), quarter.named.end(), move);
             if (quarter.refused) {
                 move(quarter.refused->file);
             }
@@ -378,10 +419,6 @@ void Judge::put_in_order() {
 }
 
 } // namespace
-
-std::size_t most_of(const std::string &path) {
-    return path == names_file ? most_name_bytes : most_bytes;
-}
 
 // A file by its path within the folder.
 File file_at(const std::string &path) {
@@ -396,18 +433,18 @@ File unread(File file, const Obstacle &obstacle) {
     file.obstacle = obstacle;
     file.says = {Word::file_unread, {reason(obstacle)}};
     file.advice = advice(obstacle);
-    file.faulty = true;
     return file;
 }
 
 File read(File file, Content content) {
+    const bool is_read_to_its_end = content.bytes.size() < most_of(file.path);
+    file.form = form_of(file.path, content, is_read_to_its_end);
     file.bytes = std::move(content.bytes);
     file.bytes.shrink_to_fit();
-    file.form = file.path == names_file ? Form::names : form_by_mark(file.bytes);
     file.slot = has_slot(file.form) ? slot_by_head(file.bytes) : std::nullopt;
     file.stamp = content.stamp;
     file.steady = content.steady;
-    file.whole = content.steady && file.bytes.size() < most_of(file.path);
+    file.whole = content.steady && is_read_to_its_end;
     file.fresh = is_fresh(content.stamp);
     return file;
 }

@@ -6,8 +6,6 @@
 
 namespace client {
 
-// So many bytes of a file are read, by its path within the folder.
-std::size_t most_of(const std::string &path);
 // A file of which only the path is known; then what came of reading it.
 File file_at(const std::string &path);
 File unread(File file, const Obstacle &obstacle);

@@ -1,6 +1,7 @@
 #include "reading.h"
 
 #include "judging.h"
+#include "recognising.h"
 #include "saying.h"
 
 #include <algorithm>
@@ -201,7 +202,8 @@ std::vector<const File *> by_path(const Reading &reading) {
 
 bool is_same(const File *one, const File *other) {
     const bool is_known = (one->steady && other->steady) || (one->obstacle && other->obstacle);
-    return is_known && one->path == other->path && one->obstacle == other->obstacle && one->bytes == other->bytes;
+    return is_known && one->path == other->path && one->obstacle == other->obstacle && one->form == other->form &&
+           one->bytes == other->bytes;
 }
 
 } // namespace
@@ -222,6 +224,11 @@ View Reading::correction(const QuarterRead &quarter) const {
 std::size_t Reading::count(Form form) const {
     return static_cast<std::size_t>(
         std::count_if(files.begin(), files.end(), [&](const File &file) { return file.form == form; }));
+}
+
+std::size_t Reading::unaccounted() const {
+    return static_cast<std::size_t>(
+        std::count_if(files.begin(), files.end(), [](const File &file) { return file.fault == Fault::unaccounted; }));
 }
 
 std::optional<Day> Reading::first_day() const {

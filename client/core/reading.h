@@ -23,23 +23,35 @@
 
 namespace client {
 
-// What a file is, by its first two bytes.
+// What a file is, by its content.
 enum class Form {
     interval,   // PH
     correction, // PK
     statement,  // PS: never used for a figure
     coming,     // PG, PT, PU, PW: forms that are announced, and that this version does not know
     names,      // plants.csv
-    empty,      // no byte: never taken for "no correction"
-    other,
+    exported,   // a CSV that this program wrote
+    text,       // these four are known to be none of ours (known.h)
+    pdf,
+    picture,
+    archive,
+    empty, // no byte: never taken for "no correction"
+    unknown,
     unread, // it could not be read, or is no plain file
+};
+
+// Whether something is wrong with a file.
+enum class Fault {
+    none,        // it counts, is an equal copy, is ours, or is known to be something else
+    blemish,     // it is known what it is, and a part of it is of no use: lines of plants.csv
+    unaccounted, // it may be a correction of any quarter: while there is one, no figure of the folder is final
 };
 
 // A file as it was read.
 struct File {
     std::string name; // within the folder, as it is shown: what does not print is escaped
     std::string path; // within the folder, byte by byte: for who opens or watches it
-    Form form = Form::other;
+    Form form = Form::unknown;
     std::optional<Slot> slot;           // where its head names a day and a quarter within their ranges
     Bytes bytes;                        // at most most_bytes of it
     bool whole = false;                 // read to its end, and it did not change meanwhile
@@ -48,10 +60,13 @@ struct File {
     Stamp stamp;                        // as it was when it was read, if it was
     std::optional<Obstacle> obstacle;   // why it was not read
     std::optional<std::size_t> same_as; // the place in Reading::files of the file that it is an equal copy of
-    // For the list of files: what is to be said of it, what to do about it, and whether it is at fault.
-    Said says = Word::file_other;
-    std::optional<Said> advice;
-    bool faulty = false;
+    // For the list of files: what is to be said of it, what to do about it, and whether it is at fault. Whoever knows
+    // nothing of a file leaves it unaccounted for.
+    Said says = Word::file_unknown;
+    std::optional<Said> advice = Word::advice_unknown;
+    Fault fault = Fault::unaccounted;
+
+    bool is_faulty() const { return fault != Fault::none; }
 };
 
 // So many bytes of a file are read: one more than the longest form has, a statement of 256 rows. An interval file or a
@@ -80,6 +95,7 @@ struct QuarterRead {
     // is the one that was used.
     std::vector<std::size_t> intervals;
     std::vector<std::size_t> corrections;
+    std::vector<std::size_t> named;     // files at fault whose names say that they are for this quarter
     std::optional<Refused> refused;     // where the state is refused, and where it is arriving because of a refusal
     std::optional<Statement> statement; // settled and corrected, and nowhere else
     std::optional<Statement> before;    // corrected: the interval file settled without its correction, at this reading
@@ -91,10 +107,12 @@ struct Reading {
     std::filesystem::path folder;
     std::chrono::system_clock::time_point taken;
     std::vector<std::filesystem::path> subfolders; // those that could be listed, for who watches them
-    // Unread ones first, then other faulty ones, then those of a quarter by day and quarter, each interval file before
-    // its correction, then copies, statements and names, and what is something else last.
+    // Those that are not accounted for first, unread ones before others, then those with a blemish, then those of a
+    // quarter by day and quarter, each interval file before its correction, then copies, statements and names, and what
+    // is something else last.
     std::vector<File> files;
-    std::map<Day, DayRead> days;
+    std::map<Day, DayRead> days;       // those that a file names, by its head or its name
+    std::vector<std::size_t> outdated; // whole statements of a quarter that has another statement now, by slot
     Names names;
     bool arriving = false; // some file has to be looked at again once it is no longer fresh
 
@@ -104,6 +122,8 @@ struct Reading {
     View interval(const QuarterRead &quarter) const;
     View correction(const QuarterRead &quarter) const;
     std::size_t count(Form form) const;
+    // So many files, the first ones, are not accounted for.
+    std::size_t unaccounted() const;
     // The day to show first: the one with the most settled quarters, the latest of several; none where no file names a
     // day.
     std::optional<Day> first_day() const;
@@ -134,6 +154,10 @@ bool same_files(const Reading &one, const Reading &other);
 // The sentence of a quarter without a statement: missing, two files, arriving, refused with its words. Empty where it
 // is settled.
 std::optional<Said> hindrance(const Reading &reading, const QuarterRead &quarter);
+// Which files are not accounted for, and that no figure is final. Empty where all are.
+std::optional<Said> reservation(const Reading &reading);
+// The same for one quarter: first the files that are named for it.
+std::optional<Said> reservation(const Reading &reading, const QuarterRead &quarter);
 // A refusal in plain words with its number, its entry and the id found there; and what to do about it.
 Said refusal_words(const Refused &refused);
 Said refusal_advice(const Refusal &refusal);

@@ -2,6 +2,7 @@
 
 #include <algorithm>
 #include <iterator>
+#include <numeric>
 
 namespace client {
 
@@ -129,7 +130,8 @@ Said contradiction(const std::vector<File> &files, const Places &places) {
 std::optional<Said> hindrance(const Reading &reading, const QuarterRead &quarter) {
     switch (quarter.state) {
     case State::missing:
-        return Word::state_missing;
+        return quarter.named.empty() ? Said(Word::state_missing)
+                                     : Said(Word::state_missing_named, {list(reading.files, quarter.named)});
     case State::two_intervals:
         return contradiction(reading.files, quarter.intervals);
     case State::two_corrections:
@@ -147,6 +149,25 @@ std::optional<Said> hindrance(const Reading &reading, const QuarterRead &quarter
         break;
     }
     return std::nullopt;
+}
+
+std::optional<Said> reservation(const Reading &reading) {
+    Places open(reading.unaccounted());
+    std::iota(open.begin(), open.end(), std::size_t{0});
+    if (open.empty()) {
+        return std::nullopt;
+    }
+    const Said names = list(reading.files, open);
+    return Said(open.size() == 1 ? Word::reservation_one : Word::reservation_several, {names});
+}
+
+std::optional<Said> reservation(const Reading &reading, const QuarterRead &quarter) {
+    const auto of_folder = reservation(reading);
+    // A quarter without a statement tells of the files that are named for it where it says that it has none.
+    if (!of_folder || quarter.named.empty() || !quarter.statement) {
+        return of_folder;
+    }
+    return sentences({Word::reservation_named, {list(reading.files, quarter.named)}}, *of_folder);
 }
 
 Said refusal_words(const Refused &refused) {
@@ -192,7 +213,9 @@ Word name_of(State state) {
 
 Word name_of(Form form) {
     constexpr std::array names{Word::form_interval, Word::form_correction, Word::form_statement, Word::form_coming,
-                               Word::form_names,    Word::form_empty,      Word::form_other,     Word::form_unread};
+                               Word::form_names,    Word::form_exported,   Word::form_text,      Word::form_pdf,
+                               Word::form_picture,  Word::form_archive,    Word::form_empty,     Word::form_unknown,
+                               Word::form_unread};
     return names.at(static_cast<std::size_t>(form));
 }
 

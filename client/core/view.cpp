@@ -14,39 +14,11 @@ Plant plant_at(View interval, std::size_t index) {
     return {{wheatrudder_u16(at + 2)}, static_cast<Kind>(wheatrudder_u8(at + 4)), wheatrudder_u16(at + 5)};
 }
 
-void add(Sums &sums, const Line &line) {
-    sums.compensation += line.compensation;
-    sums.cut += line.cut;
-    sums.paid += line.paid;
-    sums.penalty += line.penalty;
-    sums.returned += line.returned;
-    sums.net += line.net();
-}
-
-// A file that may be a correction of any day: it could not be read, is of a form that is not known here, or names no
-// quarter.
-bool is_of_unknown_use(const File &file) {
-    switch (file.form) {
-    case Form::unread:
-    case Form::empty:
-    case Form::coming:
-        return true;
-    case Form::interval:
-    case Form::correction:
-        return !file.slot;
-    default:
-        return false;
-    }
-}
-
-void count(Arrived &arrived, const Reading &reading, const QuarterRead &quarter, unsigned number) {
+void count(Arrived &arrived, const QuarterRead &quarter, unsigned number) {
     switch (quarter.state) {
     case State::missing:
         ++arrived.missing;
         arrived.first_missing = arrived.first_missing.value_or(Quarter{static_cast<std::uint8_t>(number)});
-        arrived.left_over += static_cast<std::size_t>(
-            std::count_if(quarter.corrections.begin(), quarter.corrections.end(),
-                          [&](std::size_t place) { return !reading.files.at(place).same_as; }));
         break;
     case State::settled:
     case State::corrected:
@@ -59,8 +31,42 @@ void count(Arrived &arrived, const Reading &reading, const QuarterRead &quarter,
     }
 }
 
-Said counted(std::size_t number, Word one, Word several) {
-    return {number == 1 ? one : several, {std::to_string(number)}};
+std::string number(std::size_t count) {
+    return text(static_cast<std::int64_t>(count));
+}
+
+// Everything of a day's quarters that keeps it from being booked.
+std::vector<Said> hindrances(const Arrived &arrived) {
+    std::vector<Said> all;
+    if (arrived.missing > 0 && arrived.first_missing) {
+        all.push_back({Word::day_missing, {number(arrived.missing), span(*arrived.first_missing)}});
+    }
+    if (arrived.without > arrived.arriving) {
+        all.push_back({Word::day_without, {number(arrived.without - arrived.arriving)}});
+    }
+    if (arrived.arriving > 0) {
+        all.push_back({Word::day_arriving, {number(arrived.arriving)}});
+    }
+    return all;
+}
+
+// What a plant gets or pays, in words: a sign alone would not tell a newcomer.
+Said amount_of(const Statement &statement, RowId id) {
+    const auto line = statement.of(id);
+    if (!line) {
+        return Word::outdated_absent;
+    }
+    const Fen net = line->net();
+    return net == Fen{}  ? Said(Word::outdated_zero)
+           : net > Fen{} ? Said(Word::outdated_gets, {text(net)})
+                         : Said(Word::outdated_pays, {text(-net)});
+}
+
+// A statement of another time beside that of now.
+Said outdated_by(const Reading &reading, const File &file, RowId id) {
+    const Said then = amount_of(Statement(file.bytes), id);
+    const Said now = amount_of(*reading.at(*file.slot).statement, id);
+    return {Word::outdated, {file.name, text(*file.slot), plant_name(reading, id), then, now}};
 }
 
 } // namespace
@@ -97,7 +103,7 @@ PlantDay plant_day(std::shared_ptr<const Reading> reading, Day day, RowId id) {
         at.line = at.read->statement->of(id);
         if (at.line) {
             at.row = counting_row(plant.reading->interval(*at.read), plant.reading->correction(*at.read), id);
-            add(plant.sums, *at.line);
+            plant.sums.add(*at.line);
         }
         if (at.read->before) {
             at.before = at.read->before->of(id);
@@ -119,40 +125,54 @@ std::optional<Quarter> dearest(const PlantDay &day) {
     return found;
 }
 
-bool Arrived::is_complete() const {
-    return settled == quarters_of_day && left_over == 0 && unread == 0;
-}
-
 Arrived arrived(const Reading &reading, Day day) {
     Arrived arrived;
     for (unsigned number = 0; number < quarters_of_day; ++number) {
-        count(arrived, reading, reading.at({day, {static_cast<std::uint8_t>(number)}}), number);
+        count(arrived, reading.at({day, {static_cast<std::uint8_t>(number)}}), number);
     }
-    arrived.unread =
-        static_cast<std::size_t>(std::count_if(reading.files.begin(), reading.files.end(), is_of_unknown_use));
+    arrived.unaccounted = reading.unaccounted();
     return arrived;
 }
 
-std::optional<Said> hindrance(const Arrived &arrived) {
-    if (arrived.is_complete()) {
-        return std::nullopt;
+Said readiness(const Reading &reading, Day day) {
+    const Arrived all = arrived(reading, day);
+    if (all.is_ready()) {
+        return Word::day_ready;
     }
-    const auto quarters = [](std::size_t number) {
-        return counted(number, Word::arrived_count_quarters_one, Word::arrived_count_quarters);
-    };
-    Said all{Word::arrived_incomplete_quarters, {quarters(arrived.missing), quarters(arrived.without)}};
-    const auto add_sentence = [&](Word word, Said what) {
-        all = {Word::listing_sentences, {all, Said(word, {std::move(what)})}};
-    };
-    if (arrived.left_over > 0) {
-        add_sentence(Word::arrived_incomplete_left_over,
-                     counted(arrived.left_over, Word::arrived_count_corrections_one, Word::arrived_count_corrections));
+    const auto sentences = hindrances(all);
+    const Said why =
+        sentences.empty() ? Said(Word::day_not_ready_plain) : Said(Word::day_not_ready, {beside(sentences)});
+    const auto open = reservation(reading);
+    return open ? Said(Word::listing_sentences, {why, *open}) : why;
+}
+
+std::vector<Said> outdated(const Reading &reading, Day day, RowId id) {
+    std::vector<Said> told;
+    std::size_t others = 0;
+    for (const std::size_t place : reading.outdated) {
+        const File &file = reading.files.at(place);
+        if (file.slot->day == day) {
+            told.push_back(outdated_by(reading, file, id));
+        } else {
+            ++others;
+        }
     }
-    if (arrived.unread > 0) {
-        add_sentence(Word::arrived_incomplete_unread,
-                     counted(arrived.unread, Word::arrived_count_files_one, Word::arrived_count_files));
+    if (others > 0) {
+        told.push_back(counted(others, Word::outdated_others_one, Word::outdated_others));
     }
-    return all;
+    return told;
+}
+
+std::optional<Said> outdated(const Reading &reading, Slot slot, RowId id) {
+    std::optional<Said> told;
+    for (const std::size_t place : reading.outdated) {
+        const File &file = reading.files.at(place);
+        if (file.slot == slot) {
+            const Said one = outdated_by(reading, file, id);
+            told = told ? Said(Word::listing_sentences, {*told, one}) : one;
+        }
+    }
+    return told;
 }
 
 Said plant_name(const Reading &reading, RowId id) {

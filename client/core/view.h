@@ -2,6 +2,7 @@
 // chosen.
 #pragma once
 
+#include "fields.h"
 #include "reading.h"
 
 #include <optional>
@@ -27,17 +28,12 @@ struct PlantQuarter {
     std::optional<Line> before; // its line without the correction, where there is one
 };
 
-// What a plant's settled quarters come to.
-struct Sums {
-    Fen compensation, cut, paid, penalty, returned, net;
-};
-
 struct PlantDay {
     std::shared_ptr<const Reading> reading;
     Day day;
     RowId id;
     std::array<PlantQuarter, quarters_of_day> quarters;
-    Sums sums;
+    Sums sums; // of its settled quarters
 };
 
 PlantDay plant_day(std::shared_ptr<const Reading> reading, Day day, RowId id);
@@ -53,19 +49,23 @@ struct Arrived {
     std::size_t without = 0;  // they have an interval file, and no statement
     std::size_t arriving = 0; // of these, the ones that may still be arriving
     std::optional<Quarter> first_missing;
-    std::size_t left_over = 0; // corrections of the day that have no interval file
-    // Files of the folder that could not be read, are of a form that is not known here, or name no quarter (empty, or a
-    // head that is cut or out of range): each may be a correction of this day.
-    std::size_t unread = 0;
+    std::size_t unaccounted = 0; // files of the folder, whichever day they name: a damaged head can name any
 
-    // All 96 are settled, nothing is left over and everything could be read.
-    bool is_complete() const;
+    // It may be booked: all 96 are settled, and every file of the folder is accounted for.
+    bool is_ready() const { return settled == quarters_of_day && unaccounted == 0; }
 };
 
 Arrived arrived(const Reading &reading, Day day);
 
-// Why the day may not be booked, in words; empty where it is complete.
-std::optional<Said> hindrance(const Arrived &arrived);
+// Whether a day may be booked, and if not, everything that hinders it: one sentence, and which files are not accounted
+// for.
+Said readiness(const Reading &reading, Day day);
+
+// Statements in the folder that differ from those of now, for the top of a screen: of the day each with both amounts of
+// the plant, those of other days counted.
+std::vector<Said> outdated(const Reading &reading, Day day, RowId id);
+// The same for one quarter; none where there is none.
+std::optional<Said> outdated(const Reading &reading, Slot slot, RowId id);
 
 // "Row 753", or its name and its id where it has one.
 Said plant_name(const Reading &reading, RowId id);

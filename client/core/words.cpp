@@ -1,5 +1,9 @@
 #include "words.h"
 
+#include "figures.h"
+
+#include <utility>
+
 namespace client {
 
 namespace {
@@ -41,6 +45,19 @@ std::string Said::in(Tongue tongue) const {
         at += 2;
     }
     return text;
+}
+
+Said counted(std::size_t number, Word one, Word several, std::vector<Hole> holes) {
+    holes.emplace_back(text(static_cast<std::int64_t>(number)));
+    return {number == 1 ? one : several, std::move(holes)};
+}
+
+Said beside(const std::vector<Said> &all) {
+    Said line = all.front();
+    for (std::size_t at = 1; at < all.size(); ++at) {
+        line = {Word::listing_beside, {std::move(line), all[at]}};
+    }
+    return line;
 }
 
 std::string_view raw(Word word, Tongue tongue) {

@@ -43,6 +43,12 @@ struct Said {
 std::string_view raw(Word word, Tongue tongue);
 std::string_view key(Word word);
 
+// "1 file", "3 files": the number stands in the hole behind the others.
+Said counted(std::size_t number, Word one, Word several, std::vector<Hole> holes = {});
+
+// Phrases beside one another: "a · b". There is at least one.
+Said beside(const std::vector<Said> &all);
+
 inline std::string say(Word word, Tongue tongue) {
     return Said(word).in(tongue);
 }

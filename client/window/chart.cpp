@@ -126,25 +126,29 @@ QString Chart::told_of(Quarter quarter) const {
     if (!day_) {
         return {};
     }
+    const Said amount = amount_of(quarter);
+    const auto open = reservation(*day_->reading, *day_->quarters[quarter.number].read);
+    return words(open ? Said(Word::chart_reserved, {amount, *open}) : amount, tongue_);
+}
+
+Said Chart::amount_of(Quarter quarter) const {
     const std::string when = span(quarter);
     const PlantQuarter &here = day_->quarters[quarter.number];
     if (const auto why = hindrance(*day_->reading, *here.read)) {
-        return words({Word::chart_hindered, {when, *why}}, tongue_);
+        return {Word::chart_hindered, {when, *why}};
     }
     if (!here.line) {
-        return words({Word::chart_not_in, {when}}, tongue_);
+        return {Word::chart_not_in, {when}};
     }
     const Fen net = here.line->net();
     const Said amount = net > Fen{}   ? Said(Word::chart_gets, {when, text(net)})
                         : net < Fen{} ? Said(Word::chart_pays, {when, text(-net)})
                                       : Said(Word::chart_zero, {when});
     if (!here.before) {
-        return words(amount, tongue_);
+        return amount;
     }
     const Fen before = here.before->net();
-    const Said was =
-        before == net ? Said(Word::chart_was_same, {amount}) : Said(Word::chart_was, {amount, text(before)});
-    return words(was, tongue_);
+    return before == net ? Said(Word::chart_was_same, {amount}) : Said(Word::chart_was, {amount, text(before)});
 }
 
 QSize Chart::sizeHint() const {

@@ -1,7 +1,6 @@
 #include "day_model.h"
 
 #include "cell_delegate.h"
-#include "line_figures.h"
 #include "look.h"
 #include "shown.h"
 
@@ -18,22 +17,29 @@ namespace {
 enum class Own { time, metered, load, note };
 using Column = std::variant<Own, Figure>;
 
-const Column columns[] = {Own::time,       Own::metered,    Own::load,        Figure::called_1, Figure::called_2,
-                          Figure::earned,  Figure::cut,     Figure::weight,   Figure::cap,      Figure::paid,
-                          Figure::closing, Figure::penalty, Figure::returned, Figure::net,      Own::note};
-constexpr int column_count = static_cast<int>(std::size(columns));
+// Time, meter and load, then every field of a line, then the note.
+const std::vector<Column> &columns() {
+    static const std::vector<Column> all = [] {
+        std::vector<Column> made{Own::time, Own::metered, Own::load};
+        for (const Field &each : fields()) {
+            made.emplace_back(each.figure);
+        }
+        made.emplace_back(Own::note);
+        return made;
+    }();
+    return all;
+}
+
+int column_count() {
+    return static_cast<int>(columns().size());
+}
 
 const Column &column_at(int column) {
-    return columns[static_cast<std::size_t>(column)];
+    return columns()[static_cast<std::size_t>(column)];
 }
 
 bool is_text(const Column &column) {
     return column == Column(Own::time) || column == Column(Own::note);
-}
-
-// Weights, caps and rounds of a day have no sum that means anything.
-bool has_sum(Figure figure) {
-    return figure != Figure::weight && figure != Figure::cap && figure != Figure::closing;
 }
 
 std::string load_text(const Row &row) {
@@ -70,7 +76,7 @@ Word own_name(Own own) {
 // The name, and below it the unit.
 QString head(const Column &column, Tongue tongue) {
     if (const auto *figure = std::get_if<Figure>(&column)) {
-        return words(short_name(*figure), tongue) + QLatin1Char('\n') + words(unit_of(*figure), tongue);
+        return words(field(*figure).name, tongue) + QLatin1Char('\n') + words(unit_of(field(*figure)), tongue);
     }
     const Own own = std::get<Own>(column);
     const QString name = words(own_name(own), tongue);
@@ -103,7 +109,7 @@ void DayModel::show_day(const PlantDay &day, Tongue tongue) {
 }
 
 int DayModel::note_column() {
-    return column_count - 1;
+    return column_count() - 1;
 }
 
 bool DayModel::is_idle(int column) const {
@@ -113,7 +119,7 @@ bool DayModel::is_idle(int column) const {
     const auto is_nothing = [&](const PlantQuarter &quarter) {
         const auto *figure = std::get_if<Figure>(&column_at(column));
         if (figure) {
-            return *figure != Figure::net && (!quarter.line || count_of(*quarter.line, *figure) == 0);
+            return *figure != Figure::net && (!quarter.line || field(*figure).of(*quarter.line) == 0);
         }
         const Own own = std::get<Own>(column_at(column));
         return own == Own::load && own_text(quarter, own).empty();
@@ -126,7 +132,7 @@ int DayModel::rowCount(const QModelIndex &parent) const {
 }
 
 int DayModel::columnCount(const QModelIndex &parent) const {
-    return parent.isValid() ? 0 : column_count;
+    return parent.isValid() ? 0 : column_count();
 }
 
 QVariant DayModel::data(const QModelIndex &index, int role) const {
@@ -161,7 +167,7 @@ QVariant DayModel::headerData(int section, Qt::Orientation orientation, int role
         const bool is_known = role == Qt::DisplayRole || role == Qt::FontRole || role == Qt::TextAlignmentRole;
         return is_known ? data(index(section, time_column()), role) : QVariant();
     }
-    if (section < 0 || section >= column_count) {
+    if (section < 0 || section >= column_count()) {
         return {};
     }
     const Column &column = column_at(section);
@@ -170,7 +176,7 @@ QVariant DayModel::headerData(int section, Qt::Orientation orientation, int role
         return head(column, tongue_);
     case Qt::AccessibleTextRole: {
         const auto *figure = std::get_if<Figure>(&column);
-        return figure ? words(long_name(*figure), tongue_)
+        return figure ? words(long_name(field(*figure)), tongue_)
                       : head(column, tongue_).replace(QLatin1Char('\n'), QLatin1Char(' '));
     }
     case Qt::TextAlignmentRole:
@@ -197,7 +203,7 @@ QString DayModel::hint(const QModelIndex &index) const {
 QString DayModel::quarter_text(int number, int column) const {
     const PlantQuarter &quarter = day_->quarters[static_cast<std::size_t>(number)];
     if (const auto *figure = std::get_if<Figure>(&column_at(column))) {
-        return quarter.line ? text(figure_text(*figure, count_of(*quarter.line, *figure))) : QString();
+        return quarter.line ? text(text_of(field(*figure), field(*figure).of(*quarter.line))) : QString();
     }
     switch (const Own own = std::get<Own>(column_at(column))) {
     case Own::time:
@@ -211,12 +217,9 @@ QString DayModel::quarter_text(int number, int column) const {
 
 QString DayModel::sums_text(int column) const {
     if (const auto *figure = std::get_if<Figure>(&column_at(column))) {
-        std::int64_t sum = 0;
-        for (const PlantQuarter &quarter : day_->quarters) {
-            sum += quarter.line ? count_of(*quarter.line, *figure) : 0;
-        }
         const bool is_any = quarters_outside(*day_) < quarters_of_day;
-        return is_any && has_sum(*figure) ? text(figure_text(*figure, sum)) : QString();
+        const Field &summed = field(*figure);
+        return is_any && summed.has_sum ? text(text_of(summed, day_->sums.count(*figure))) : QString();
     }
     switch (std::get<Own>(column_at(column))) {
     case Own::time:
@@ -259,6 +262,9 @@ QString DayModel::note(const PlantQuarter &quarter) const {
     }
     if (!quarter.line) {
         return words(Word::note_absent, tongue_);
+    }
+    if (!read.named.empty()) {
+        return words({Word::note_named, {day_->reading->files.at(read.named.front()).name}}, tongue_);
     }
     if (!quarter.before) {
         return {};

@@ -18,6 +18,7 @@
 #include <QVBoxLayout>
 
 #include <algorithm>
+#include <array>
 #include <exception>
 #include <utility>
 
@@ -27,67 +28,44 @@ namespace {
 
 const QKeySequence dearest_keys(Qt::CTRL | Qt::Key_D);
 
+// So many statements of another time are told one by one.
+constexpr std::size_t most_outdated = 3;
+
 std::string number(std::size_t count) {
     return text(static_cast<std::int64_t>(count));
 }
 
 // What the net amount is made of, where it is more than one thing.
 std::vector<Said> parts_of(const Sums &sums) {
-    struct Part {
-        Fen amount;
-        Word word;
-    };
+    constexpr std::array<std::pair<Figure, Word>, 5> all{{{Figure::earned, Word::day_earned},
+                                                          {Figure::cut, Word::day_cut},
+                                                          {Figure::paid, Word::day_paid},
+                                                          {Figure::penalty, Word::day_penalty},
+                                                          {Figure::returned, Word::day_returned}}};
     std::vector<Said> parts;
-    for (const Part &part :
-         {Part{sums.compensation, Word::day_earned}, Part{sums.cut, Word::day_cut}, Part{sums.paid, Word::day_paid},
-          Part{sums.penalty, Word::day_penalty}, Part{sums.returned, Word::day_returned}}) {
-        if (part.amount != Fen{}) {
-            parts.push_back({part.word, {text(part.amount)}});
+    for (const auto &[figure, word] : all) {
+        if (const Fen amount = sums.money(figure); amount != Fen{}) {
+            parts.push_back({word, {text(amount)}});
         }
     }
     return parts;
 }
 
-// The day in one sentence. Where quarters are still to come it says so: the amount is not the day's.
-Said answer_for(const PlantDay &day, bool is_whole) {
+// The day in one sentence. Where the day may not be booked yet it says so: the amount may not be the day's.
+Said answer_for(const PlantDay &day, bool is_ready) {
     const Said name = plant_name(*day.reading, day.id);
     const bool is_anywhere = std::any_of(day.quarters.begin(), day.quarters.end(),
                                          [](const PlantQuarter &quarter) { return quarter.line.has_value(); });
     if (!is_anywhere) {
         return {Word::day_nowhere, {name, date(day.day)}};
     }
-    const Fen net = day.sums.net;
+    const Fen net = day.sums.money(Figure::net);
     if (net == Fen{}) {
-        return {is_whole ? Word::day_zero : Word::day_so_far_zero, {name, date(day.day)}};
+        return {is_ready ? Word::day_zero : Word::day_so_far_zero, {name, date(day.day)}};
     }
-    const Word gets = is_whole ? Word::day_gets : Word::day_so_far_gets;
-    const Word pays = is_whole ? Word::day_pays : Word::day_so_far_pays;
+    const Word gets = is_ready ? Word::day_gets : Word::day_so_far_gets;
+    const Word pays = is_ready ? Word::day_pays : Word::day_so_far_pays;
     return {net > Fen{} ? gets : pays, {name, text(net > Fen{} ? net : -net), date(day.day)}};
-}
-
-Said counted(std::size_t count, Word one, Word several) {
-    return count == 1 ? Said(one) : Said(several, {number(count)});
-}
-
-// Everything that keeps a day from being booked.
-std::vector<Said> hindrances(const Arrived &arrived) {
-    std::vector<Said> all;
-    if (arrived.missing > 0 && arrived.first_missing) {
-        all.push_back({Word::day_missing, {number(arrived.missing), span(*arrived.first_missing)}});
-    }
-    if (arrived.without > arrived.arriving) {
-        all.push_back({Word::day_without, {number(arrived.without - arrived.arriving)}});
-    }
-    if (arrived.arriving > 0) {
-        all.push_back({Word::day_arriving, {number(arrived.arriving)}});
-    }
-    if (arrived.left_over > 0) {
-        all.push_back(counted(arrived.left_over, Word::day_left_over_one, Word::day_left_over));
-    }
-    if (arrived.unread > 0) {
-        all.push_back(counted(arrived.unread, Word::day_unread_one, Word::day_unread));
-    }
-    return all;
 }
 
 // Quarters that are settled without the plant.
@@ -131,12 +109,14 @@ void DayScreen::make_answer(QBoxLayout &column) {
     parts_ = plain_label(page_);
     standing_ = plain_label(page_);
     booking_ = plain_label(page_);
+    outdated_ = plain_label(page_);
     dearest_ = new QPushButton(page_);
     dearest_->setSizePolicy(QSizePolicy::Maximum, QSizePolicy::Maximum);
 
     auto *standing = new QVBoxLayout;
     standing->addWidget(standing_);
     standing->addWidget(booking_);
+    standing->addWidget(outdated_);
     below_answer_ = new QBoxLayout(QBoxLayout::LeftToRight);
     below_answer_->addLayout(standing, 1);
     below_answer_->addWidget(dearest_, 0, Qt::AlignBottom | Qt::AlignLeft);
@@ -183,6 +163,7 @@ void DayScreen::connect_all() {
 void DayScreen::set_fonts() {
     answer_->setFont(scaled(font(), 1.6, QFont::DemiBold));
     booking_->setFont(scaled(font(), 1, QFont::DemiBold));
+    outdated_->setFont(scaled(font(), 1, QFont::DemiBold));
     mute(*parts_);
     mute(*standing_);
     table_->setMinimumHeight(lines(*this, 7));
@@ -225,7 +206,7 @@ void DayScreen::changeEvent(QEvent *event) {
 
 void DayScreen::clear(Tongue tongue) {
     // Nothing is hidden here: what has the keys would lose them at every reading.
-    for (QLabel *label : {answer_, parts_, standing_, booking_}) {
+    for (QLabel *label : {answer_, parts_, standing_, booking_, outdated_}) {
         label->clear();
     }
     dearest_->setText({});
@@ -256,7 +237,7 @@ void DayScreen::show_day(const Shown &shown) {
         clear(shown.tongue);
         answer_->setText(words(Word::screen_fault, shown.tongue));
     }
-    for (QLabel *label : {answer_, parts_, standing_, booking_}) {
+    for (QLabel *label : {answer_, parts_, standing_, booking_, outdated_}) {
         label->setVisible(!label->text().isEmpty());
     }
     dearest_->setVisible(dearest_quarter_.has_value());
@@ -279,6 +260,7 @@ void DayScreen::show_plant(const Shown &shown) {
     const PlantDay day = plant_day(shown.reading, *shown.day, *shown.plant);
     show_answer(day, shown.tongue);
     show_standing(*shown.reading, day.day, shown.tongue, absent_from(day));
+    show_outdated(day, shown.tongue);
     show_dearest(day, shown.tongue);
     chart_->show_day(day, shown.tongue);
     is_marking_ = true;
@@ -302,11 +284,10 @@ void DayScreen::show_plant(const Shown &shown) {
 }
 
 void DayScreen::show_answer(const PlantDay &day, Tongue tongue) {
-    const bool is_whole = arrived(*day.reading, day.day).settled == quarters_of_day;
-    answer_->setText(words(answer_for(day, is_whole), tongue));
+    answer_->setText(words(answer_for(day, arrived(*day.reading, day.day).is_ready()), tongue));
     const std::vector<Said> parts = parts_of(day.sums);
     if (parts.size() > 1) {
-        parts_->setText(words({Word::day_parts, {listed(parts, tongue).toStdString()}}, tongue));
+        parts_->setText(words({Word::day_parts, {beside(parts)}}, tongue));
     }
 }
 
@@ -319,9 +300,21 @@ void DayScreen::show_standing(const Reading &reading, Day day, Tongue tongue, st
     if (absent > 0) {
         standing.push_back(counted(absent, Word::day_absent_one, Word::day_absent));
     }
-    standing_->setText(listed(standing, tongue));
-    const std::string why = listed(hindrances(all), tongue).toStdString();
-    booking_->setText(words(all.is_complete() ? Said(Word::day_ready) : Said(Word::day_not_ready, {why}), tongue));
+    standing_->setText(words(beside(standing), tongue));
+    booking_->setText(words(readiness(reading, day), tongue));
+}
+
+// Statements of another time, which somebody may have booked.
+void DayScreen::show_outdated(const PlantDay &day, Tongue tongue) {
+    const std::vector<Said> all = outdated(*day.reading, day.day, day.id);
+    QStringList sentences;
+    for (std::size_t at = 0; at < std::min(all.size(), most_outdated); ++at) {
+        sentences.append(words(all[at], tongue));
+    }
+    if (all.size() > most_outdated) {
+        sentences.append(words({Word::outdated_more, {number(all.size() - most_outdated)}}, tongue));
+    }
+    outdated_->setText(sentences.join(QLatin1Char('\n')));
 }
 
 void DayScreen::show_dearest(const PlantDay &day, Tongue tongue) {

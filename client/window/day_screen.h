@@ -57,6 +57,7 @@ class DayScreen : public QWidget {
     void show_emptiness(const Shown &shown);
     void show_answer(const PlantDay &day, Tongue tongue);
     void show_standing(const Reading &reading, Day day, Tongue tongue, std::size_t absent);
+    void show_outdated(const PlantDay &day, Tongue tongue);
     void show_dearest(const PlantDay &day, Tongue tongue);
     void pick(Quarter quarter);
     void pick_row(const QModelIndex &current);
@@ -67,6 +68,7 @@ class DayScreen : public QWidget {
     QLabel *parts_ = nullptr;
     QLabel *standing_ = nullptr;
     QLabel *booking_ = nullptr;
+    QLabel *outdated_ = nullptr;
     QPushButton *dearest_ = nullptr;
     QBoxLayout *below_answer_ = nullptr;
     QSplitter *split_ = nullptr;

@@ -20,8 +20,8 @@ void FilesModel::show_files(std::shared_ptr<const Reading> reading, Tongue tongu
     beginResetModel();
     reading_ = std::move(reading);
     tongue_ = tongue;
-    faulty_ = static_cast<int>(
-        std::count_if(reading_->files.begin(), reading_->files.end(), [](const File &file) { return file.faulty; }));
+    faulty_ = static_cast<int>(std::count_if(reading_->files.begin(), reading_->files.end(),
+                                             [](const File &file) { return file.is_faulty(); }));
     endResetModel();
 }
 
@@ -40,7 +40,7 @@ int FilesModel::columnCount(const QModelIndex &parent) const {
 QString FilesModel::cell_text(const File &file, int column) const {
     switch (column) {
     case fault:
-        return file.faulty ? words(Word::files_at_fault, tongue_) : QString();
+        return file.is_faulty() ? words(Word::files_at_fault, tongue_) : QString();
     case name:
         return text(file.name);
     case is:
@@ -69,7 +69,7 @@ QVariant FilesModel::data(const QModelIndex &index, int role) const {
     case Qt::FontRole: {
         QFont bold;
         bold.setBold(true);
-        return file.faulty && index.column() <= name ? QVariant(bold) : QVariant();
+        return file.is_faulty() && index.column() <= name ? QVariant(bold) : QVariant();
     }
     default:
         return {};

@@ -42,10 +42,6 @@ class FilesTable : public FillingTable {
 
 namespace {
 
-Said counted(std::size_t count, Word one, Word several) {
-    return count == 1 ? Said(one) : Said(several, {text(static_cast<std::int64_t>(count))});
-}
-
 std::vector<Said> kinds_of(const Reading &reading, std::size_t faulty) {
     const std::size_t intervals = reading.count(Form::interval);
     const std::size_t corrections = reading.count(Form::correction);
@@ -69,10 +65,10 @@ QString summary_of(const Reading &reading, std::size_t faulty, Tongue tongue) {
     if (reading.files.empty()) {
         return words(Word::files_none, tongue);
     }
-    const std::string kinds = listed(kinds_of(reading, faulty), tongue).toStdString();
-    const std::string all = text(static_cast<std::int64_t>(reading.files.size()));
-    return words(reading.files.size() == 1 ? Said(Word::files_sum_one, {kinds}) : Said(Word::files_sum, {all, kinds}),
-                 tongue);
+    const Said all =
+        counted(reading.files.size(), Word::files_sum_one, Word::files_sum, {beside(kinds_of(reading, faulty))});
+    const auto open = reservation(reading);
+    return open ? words(*open, tongue) + QLatin1Char('\n') + words(all, tongue) : words(all, tongue);
 }
 
 } // namespace

@@ -124,12 +124,4 @@ void forget_tool_tips() {
     QToolTip::hideText();
 }
 
-QString listed(const std::vector<Said> &all, Tongue tongue) {
-    QStringList parts;
-    for (const Said &said : all) {
-        parts.append(words(said, tongue));
-    }
-    return parts.join(QStringLiteral(" · "));
-}
-
 } // namespace client

@@ -8,8 +8,6 @@
 #include <QFontMetrics>
 #include <QPalette>
 
-#include <vector>
-
 class QLabel;
 class QPainter;
 class QWidget;
@@ -47,8 +45,5 @@ QString tool_tip(const QString &plain);
 void explain_button(QWidget &button, const QString &plain);
 // No tool tip that is up, or fading away, keeps a figure.
 void forget_tool_tips();
-
-// Sentences beside one another.
-QString listed(const std::vector<Said> &all, Tongue tongue);
 
 } // namespace client

@@ -412,7 +412,7 @@ void MainWindow::show_as_of() {
     as_of_->setText(
         words(files == 1 ? Said(Word::as_of_one, {at}) : Said(Word::as_of, {at, text(files)}), shown_.tongue));
     const auto faulty =
-        std::count_if(reading.files.begin(), reading.files.end(), [](const File &file) { return file.faulty; });
+        std::count_if(reading.files.begin(), reading.files.end(), [](const File &file) { return file.is_faulty(); });
     faults_->setText(words(faulty == 1 ? Said(Word::faults_one) : Said(Word::faults, {text(faulty)}), shown_.tongue));
     faults_->setToolTip(words(Word::faults_what, shown_.tongue));
     faults_->setVisible(faulty > 0);

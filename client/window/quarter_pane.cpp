@@ -2,7 +2,6 @@
 
 #include "explain.h"
 #include "fitted_table.h"
-#include "line_figures.h"
 #include "look.h"
 #include "sha256.h"
 #include "view.h"
@@ -63,10 +62,6 @@ std::optional<Row> row_among(const std::vector<Row> &rows, RowId id) {
     return found == rows.end() ? std::nullopt : std::optional(*found);
 }
 
-// The order in which the figures of a line are read in a comparison.
-constexpr std::array compared_figures{Figure::weight, Figure::cap,     Figure::earned,   Figure::cut,
-                                      Figure::paid,   Figure::penalty, Figure::returned, Figure::net};
-
 } // namespace
 
 // The page.
@@ -95,6 +90,7 @@ void QuarterPane::make_page() {
     headline_ = add_label();
     headline_->setTextInteractionFlags(Qt::TextSelectableByMouse | Qt::TextSelectableByKeyboard);
     hindrance_ = add_label();
+    reservation_ = add_label();
     reasons_heading_ = add_label();
     reasons_ = add_label();
     comparison_ = make_section(0);
@@ -123,6 +119,7 @@ QuarterPane::Section QuarterPane::make_section(int wrapping_column) {
 
 void QuarterPane::set_fonts() {
     headline_->setFont(scaled(font(), 1.35, QFont::DemiBold));
+    reservation_->setFont(scaled(font(), 1, QFont::DemiBold));
     for (QLabel *heading :
          {reasons_heading_, comparison_.heading, steps_.heading, line_.heading, head_.heading, files_.heading}) {
         heading->setFont(scaled(font(), 1.1, QFont::DemiBold));
@@ -166,7 +163,7 @@ void QuarterPane::name(Section &section, Word word, Tongue tongue) {
 }
 
 void QuarterPane::clear(Tongue tongue) {
-    for (QLabel *label : {headline_, hindrance_, reasons_heading_, reasons_, disagreement_}) {
+    for (QLabel *label : {headline_, hindrance_, reservation_, reasons_heading_, reasons_, disagreement_}) {
         label->clear();
     }
     for (Section *section : {&comparison_, &steps_, &line_, &head_, &files_}) {
@@ -189,7 +186,7 @@ void QuarterPane::clear(Tongue tongue) {
 // Only what says something is seen.
 void QuarterPane::show_what_is_there() {
     reasons_heading_->setVisible(!reasons_->text().isEmpty());
-    for (QLabel *label : {headline_, hindrance_, reasons_, disagreement_}) {
+    for (QLabel *label : {headline_, hindrance_, reservation_, reasons_, disagreement_}) {
         label->setVisible(!label->text().isEmpty());
     }
     for (const Section &section : {comparison_, steps_, line_, head_, files_}) {
@@ -211,6 +208,7 @@ void QuarterPane::show_quarter(const Shown &shown) {
             const Slot slot{*shown.day, *shown.quarter};
             const At at{*shown.reading, shown.reading->at(slot), slot, *shown.plant, shown.tongue};
             show_statement(at);
+            show_reservations(at);
             show_files(at);
         } else if (shown.reading) {
             hindrance_->setText(words(Word::quarter_choose, shown.tongue));
@@ -255,6 +253,17 @@ void QuarterPane::show_statement(const At &at) {
     show_head(at);
 }
 
+// What keeps the figure from being final, and statements of another time for this quarter.
+void QuarterPane::show_reservations(const At &at) {
+    QStringList sentences;
+    for (const auto &said : {reservation(at.reading, at.read), outdated(at.reading, at.slot, at.id)}) {
+        if (said) {
+            sentences.append(words(*said, at.tongue));
+        }
+    }
+    reservation_->setText(sentences.join(QLatin1Char('\n')));
+}
+
 void QuarterPane::show_correction(const At &at, const std::vector<Row> &rows) {
     const std::vector<Row> rows_before = counting_rows(at.reading.interval(at.read), {}, *at.read.before);
     QStringList sentences;
@@ -279,12 +288,12 @@ void QuarterPane::show_comparison(const At &at, const Row &row_before, const Row
     std::vector<TextRow> rows;
     rows.push_back(compared(with_unit(Word::figure_metered, Word::unit_kwh), text(row_before.metered),
                             text(row_now.metered), change(row_now.metered - row_before.metered), at.tongue));
-    for (const Figure each : compared_figures) {
-        const std::int64_t was = count_of(*before, each);
-        const std::int64_t is = count_of(*now, each);
-        if (was != 0 || is != 0 || each == Figure::net) {
-            rows.push_back(compared(long_name(each), figure_text(each, was), figure_text(each, is),
-                                    figure_change(each, was, is), at.tongue));
+    for (const Field &each : fields()) {
+        const std::int64_t was = each.of(*before);
+        const std::int64_t is = each.of(*now);
+        if (was != 0 || is != 0 || each.figure == Figure::net) {
+            rows.push_back(
+                compared(long_name(each), text_of(each, was), text_of(each, is), change_of(each, was, is), at.tongue));
         }
     }
     rows.back().is_result = true;
@@ -321,10 +330,10 @@ void QuarterPane::show_steps(const At &at, const std::vector<Row> &rows) {
 void QuarterPane::show_line(const At &at, const Line &line, const Row &row) {
     std::vector<TextRow> rows;
     rows.push_back(named(with_unit(Word::figure_metered, Word::unit_kwh), text(row.metered), at.tongue));
-    for (const Figure each : all_figures) {
-        const std::int64_t count = count_of(line, each);
-        if (count != 0 || each == Figure::net) {
-            rows.push_back(named(long_name(each), figure_text(each, count), at.tongue));
+    for (const Field &each : fields()) {
+        const std::int64_t count = each.of(line);
+        if (count != 0 || each.figure == Figure::net) {
+            rows.push_back(named(long_name(each), text_of(each, count), at.tongue));
         }
     }
     rows.back().is_result = true;
@@ -360,6 +369,7 @@ void QuarterPane::show_files(const At &at) {
     };
     std::for_each(at.read.intervals.begin(), at.read.intervals.end(), add);
     std::for_each(at.read.corrections.begin(), at.read.corrections.end(), add);
+    std::for_each(at.read.named.begin(), at.read.named.end(), add);
     name(files_, at.read.statement ? Word::quarter_files : Word::quarter_files_here, at.tongue);
     files_.table->fill(heads(at.tongue, {Word::quarter_form, Word::quarter_file, Word::quarter_hash}), std::move(rows));
 }

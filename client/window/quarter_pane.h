@@ -66,6 +66,7 @@ class QuarterPane : public QScrollArea {
     void name(Section &section, Word word, Tongue tongue);
 
     void show_statement(const At &at);
+    void show_reservations(const At &at);
     void show_correction(const At &at, const std::vector<Row> &rows);
     void show_comparison(const At &at, const Row &row_before, const Row &row_now);
     void show_steps(const At &at, const std::vector<Row> &rows);
@@ -77,6 +78,7 @@ class QuarterPane : public QScrollArea {
     QWidget *page_ = nullptr;
     QLabel *headline_ = nullptr;
     QLabel *hindrance_ = nullptr;
+    QLabel *reservation_ = nullptr;
     QLabel *reasons_heading_ = nullptr;
     QLabel *reasons_ = nullptr;
     Section comparison_{};

@@ -47,12 +47,12 @@ std::vector<QString> RowsModel::longest() const {
     for (int column = 0; column < columnCount() && !plants_.empty(); ++column) {
         const auto &statement = quarter_at(column).statement;
         for (std::size_t i = 0; statement && i < statement->rows(); ++i) {
-            const std::int64_t count = count_of(statement->line(i), figure_);
+            const std::int64_t count = field(figure_).of(statement->line(i));
             lowest = std::min(lowest, count);
             highest = std::max(highest, count);
         }
     }
-    return {text(figure_text(figure_, lowest)), text(figure_text(figure_, highest))};
+    return {text(text_of(field(figure_), lowest)), text(text_of(field(figure_), highest))};
 }
 
 int RowsModel::rowCount(const QModelIndex &parent) const {
@@ -70,7 +70,7 @@ const QuarterRead &RowsModel::quarter_at(int column) const {
 std::optional<std::int64_t> RowsModel::count_at(const QModelIndex &index) const {
     const auto &statement = quarter_at(index.column()).statement;
     const auto line = statement ? statement->of(id_at(index.row())) : std::nullopt;
-    return line ? std::optional(count_of(*line, figure_)) : std::nullopt;
+    return line ? std::optional(field(figure_).of(*line)) : std::nullopt;
 }
 
 QVariant RowsModel::data(const QModelIndex &index, int role) const {
@@ -95,7 +95,7 @@ QVariant RowsModel::data(const QModelIndex &index, int role) const {
 
 QString RowsModel::cell_text(const QModelIndex &index) const {
     const auto count = count_at(index);
-    return count ? text(figure_text(figure_, *count)) : QString();
+    return count ? text(text_of(field(figure_), *count)) : QString();
 }
 
 // A cell that says by itself which it is, also where it is empty.
@@ -104,7 +104,7 @@ QString RowsModel::told(const QModelIndex &index) const {
     const bool is_settled = quarter_at(index.column()).statement.has_value();
     const Word nothing = !is_settled ? Word::rows_blank : !count_at(index) ? Word::rows_absent : Word::rows_never;
     const Said value =
-        cell.isEmpty() ? Said(nothing) : Said(Word::rows_value, {long_name(figure_), cell.toStdString()});
+        cell.isEmpty() ? Said(nothing) : Said(Word::rows_value, {long_name(field(figure_)), cell.toStdString()});
     const Quarter quarter{static_cast<std::uint8_t>(index.column())};
     return words({Word::rows_what, {row_text(index.row()).toStdString(), client::span(quarter), value}}, tongue_);
 }

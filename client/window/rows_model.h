@@ -1,7 +1,6 @@
 // The table of all rows of a day: one figure of each row in each quarter, looked up in the statements as it is painted.
 #pragma once
 
-#include "line_figures.h"
 #include "shown.h"
 #include "view.h"
 

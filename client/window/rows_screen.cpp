@@ -22,9 +22,19 @@ namespace client {
 
 namespace {
 
-// What people look for first comes first.
-constexpr std::array offered{Figure::net, Figure::paid,    Figure::earned,  Figure::cut,     Figure::weight,
-                             Figure::cap, Figure::closing, Figure::penalty, Figure::returned};
+// What people look for first comes first: the net amount, then every other field.
+const std::vector<Figure> &offered() {
+    static const std::vector<Figure> all = [] {
+        std::vector<Figure> made{Figure::net};
+        for (const Field &each : fields()) {
+            if (each.figure != Figure::net) {
+                made.push_back(each.figure);
+            }
+        }
+        return made;
+    }();
+    return all;
+}
 
 constexpr double most_name_letters = 40;
 
@@ -47,7 +57,7 @@ void RowsScreen::make_page() {
     figures_ = new QComboBox(this);
     figures_->setSizeAdjustPolicy(QComboBox::AdjustToContents);
     label_->setBuddy(figures_);
-    for (std::size_t i = 0; i < offered.size(); ++i) {
+    for (std::size_t i = 0; i < offered().size(); ++i) {
         figures_->addItem({});
     }
     empty_ = plain_label(this);
@@ -80,12 +90,12 @@ void RowsScreen::make_page() {
 }
 
 Figure RowsScreen::figure() const {
-    return offered[static_cast<std::size_t>(std::max(0, figures_->currentIndex()))];
+    return offered()[static_cast<std::size_t>(std::max(0, figures_->currentIndex()))];
 }
 
 void RowsScreen::name_figures(Tongue tongue) {
-    for (std::size_t i = 0; i < offered.size(); ++i) {
-        figures_->setItemText(static_cast<int>(i), words(long_name(offered[i]), tongue));
+    for (std::size_t i = 0; i < offered().size(); ++i) {
+        figures_->setItemText(static_cast<int>(i), words(long_name(field(offered()[i])), tongue));
     }
     label_->setText(words(Word::rows_figure, tongue));
     figures_->setAccessibleName(words(Word::rows_figure, tongue));

@@ -1,0 +1,104 @@
+#include "recognising.h"
+
+#include "balance.h"
+#include "csv.h"
+#include "known.h"
+#include "wheatrudder.h"
+
+#include <algorithm>
+
+namespace client {
+
+namespace {
+
+const char *const names_file = "plants.csv";
+
+Form form_of(Known known) {
+    switch (known) {
+    case Known::text:
+        return Form::text;
+    case Known::pdf:
+        return Form::pdf;
+    case Known::picture:
+        return Form::picture;
+    case Known::archive:
+        break;
+    }
+    return Form::archive;
+}
+
+Form form_by_mark(View bytes) {
+    if (bytes.empty()) {
+        return Form::empty;
+    }
+    if (bytes.size() < 2 || bytes[0] != 'P') {
+        return Form::unknown;
+    }
+    switch (bytes[1]) {
+    case 'H':
+        return Form::interval;
+    case 'K':
+        return Form::correction;
+    case 'S':
+        return Form::statement;
+    case 'G':
+    case 'T':
+    case 'U':
+    case 'W':
+        return Form::coming;
+    default:
+        return Form::unknown;
+    }
+}
+
+// A list of names may be shorter than a head, if every line of it names a row.
+bool is_names(const std::string &path, View bytes, bool is_whole) {
+    if (path != names_file || !is_text(bytes, is_whole)) {
+        return false;
+    }
+    const Names names(bytes);
+    return names.size() > 0 && names.passed_over() == 0;
+}
+
+} // namespace
+
+std::size_t most_of(const std::string &path) {
+    return path == names_file ? most_name_bytes : most_bytes;
+}
+
+// What is known is none of ours, whatever mark it begins with.
+Form form_of(const std::string &path, const Content &content, bool is_whole) {
+    const auto known = known_as({content.bytes, content.ending, is_whole});
+    if (!known) {
+        const Form form = form_by_mark(content.bytes);
+        return form == Form::unknown && is_names(path, content.bytes, is_whole) ? Form::names : form;
+    }
+    if (known == Known::text && path == names_file) {
+        return Form::names;
+    }
+    return known == Known::text && is_export(content.bytes) ? Form::exported : form_of(*known);
+}
+
+std::optional<Slot> slot_by_head(View bytes) {
+    if (bytes.size() < 7) {
+        return std::nullopt;
+    }
+    return slot_of(wheatrudder_u32(bytes.data() + 2), wheatrudder_u8(bytes.data() + 6));
+}
+
+bool is_whole_statement(View bytes) {
+    if (bytes.size() < WHEATRUDDER_HEAD_LENGTH || !slot_by_head(bytes)) {
+        return false;
+    }
+    const Statement statement(Bytes(bytes.begin(), bytes.end()));
+    if (bytes.size() != WHEATRUDDER_STATEMENT_LENGTH(statement.rows())) {
+        return false;
+    }
+    const auto lines = statement.lines();
+    const bool rises = std::adjacent_find(lines.begin(), lines.end(), [](const Line &one, const Line &next) {
+                           return one.id >= next.id;
+                       }) == lines.end();
+    return rises && !imbalance(statement);
+}
+
+} // namespace client
