@@ -1,5 +1,6 @@
 #include "calendar.h"
 
+#include <algorithm>
 #include <chrono>
 
 namespace client {
@@ -26,11 +27,26 @@ std::optional<Slot> slot_of(std::uint32_t day, std::uint8_t quarter) {
     return Slot{{day}, {quarter}};
 }
 
-std::optional<Day> day_of(int year, unsigned month, unsigned day) {
+std::optional<Day> day_of(std::string_view date) {
     using namespace std::chrono;
-    const year_month_day named{std::chrono::year{year}, std::chrono::month{month}, std::chrono::day{day}};
-    const auto number = named.ok() ? (sys_days{named} - day_0).count() : -1;
-    return number >= 0 && number <= last_day ? std::optional(Day{static_cast<std::uint32_t>(number)}) : std::nullopt;
+    constexpr std::string_view form = "0000-00-00";
+    const bool has_form = std::equal(date.begin(), date.end(), form.begin(), form.end(), [](char letter, char due) {
+        return due == '0' ? letter >= '0' && letter <= '9' : letter == due;
+    });
+    if (!has_form) {
+        return std::nullopt;
+    }
+    const auto number = [&](std::size_t at, std::size_t length) {
+        unsigned sum = 0;
+        for (const char digit : date.substr(at, length)) {
+            sum = 10 * sum + static_cast<unsigned>(digit - '0');
+        }
+        return sum;
+    };
+    const year_month_day named{year{static_cast<int>(number(0, 4))}, month{number(5, 2)}, day{number(8, 2)}};
+    const auto since_day_0 = named.ok() ? (sys_days{named} - day_0).count() : -1;
+    return since_day_0 >= 0 && since_day_0 <= last_day ? std::optional(Day{static_cast<std::uint32_t>(since_day_0)})
+                                                       : std::nullopt;
 }
 
 std::string date(Day day) {

@@ -5,6 +5,7 @@
 #include <cstdint>
 #include <optional>
 #include <string>
+#include <string_view>
 
 namespace client {
 
@@ -32,8 +33,8 @@ struct Slot {
 // The slot of two numbers, where both are within the files' ranges.
 std::optional<Slot> slot_of(std::uint32_t day, std::uint8_t quarter);
 
-// A day of the calendar, where there is such a one and the files can name it.
-std::optional<Day> day_of(int year, unsigned month, unsigned day);
+// The day of a date as `date` writes it, where there is such a day and the files can name it.
+std::optional<Day> day_of(std::string_view date);
 
 // "2026-10-31".
 std::string date(Day day);

@@ -9,8 +9,6 @@ namespace client {
 
 namespace {
 
-constexpr std::string_view form_of_slot = "0000-00-00-q00";
-
 bool is_digit(char letter) {
     return letter >= '0' && letter <= '9';
 }
@@ -23,31 +21,17 @@ std::string in_small_letters(std::string_view text) {
     return small;
 }
 
-// The number that digits make, which are few.
-unsigned number_of(std::string_view digits) {
-    unsigned number = 0;
-    for (const char digit : digits) {
-        number = 10 * number + static_cast<unsigned>(digit - '0');
-    }
-    return number;
-}
-
-// Whether a text has the form, with any digits where the form has noughts.
-bool has_form(std::string_view text) {
-    return std::equal(text.begin(), text.end(), form_of_slot.begin(), form_of_slot.end(),
-                      [](char letter, char due) { return due == '0' ? is_digit(letter) : letter == due; });
-}
-
+// "2026-10-31-q09" at a place of a name, with no other digit before or behind.
 std::optional<Slot> slot_at(std::string_view name, std::size_t at) {
-    const std::string_view text = name.substr(at, form_of_slot.size());
-    const std::size_t end = at + form_of_slot.size();
+    constexpr std::size_t date_length = 10, length = 14;
+    const std::string_view quarter = name.substr(at).substr(std::min(date_length, name.size() - at));
+    const bool has_quarter = quarter.size() >= length - date_length && quarter.starts_with("-q") &&
+                             is_digit(quarter[2]) && is_digit(quarter[3]);
+    const std::size_t end = at + length;
     const bool is_longer = (at > 0 && is_digit(name[at - 1])) || (end < name.size() && is_digit(name[end]));
-    if (is_longer || !has_form(text)) {
-        return std::nullopt;
-    }
-    const auto day = day_of(static_cast<int>(number_of(text.substr(0, 4))), number_of(text.substr(5, 2)),
-                            number_of(text.substr(8, 2)));
-    return day ? slot_of(day->number, static_cast<std::uint8_t>(number_of(text.substr(12, 2)))) : std::nullopt;
+    const auto day = has_quarter && !is_longer ? day_of(name.substr(at, date_length)) : std::nullopt;
+    const int number = has_quarter ? 10 * (quarter[2] - '0') + quarter[3] - '0' : 0;
+    return day ? slot_of(day->number, static_cast<std::uint8_t>(number)) : std::nullopt;
 }
 
 } // namespace

@@ -78,7 +78,7 @@ std::vector<Fields> records_of(const std::string &csv) {
 }
 
 struct Table {
-    std::string note; // of a day that is not complete
+    std::string note; // of a day that is not ready
     std::vector<std::map<std::string, std::string>> lines;
 };
 
@@ -217,8 +217,8 @@ Table day_read_back(const PlantDay &plant) {
         net += sum("net_fen");
         paid += sum("paid_fen");
     }
-    equal(net, plant.sums.net.count);
-    equal(paid, plant.sums.paid.count);
+    equal(net, plant.sums.count(Figure::net));
+    equal(paid, plant.sums.count(Figure::paid));
     return table;
 }
 
@@ -228,8 +228,11 @@ void days_that_are_not_complete() {
     holds(plants.size() > 20, "few plants");
     for (const Plant &plant : plants) {
         const Table table = day_read_back(plant_day(reading, day, plant.id));
-        equal(table.note, "Not ready to book: 1 quarter missing, 3 quarters without a statement. "
-                          "尚不能入账：缺 1 个时段，3 个时段无结算单。");
+        equal(table.note,
+              "Not ready to book: 1 missing (first: 01:45–02:00) · 3 without a statement. Not accounted "
+              "for: h8, h9, second and 1 more. Each may be a correction of any quarter, so no figure is "
+              "final. 尚不能入账：缺 1 个（首个：01:45–02:00） · 3 个无结算单。未能查明：h8、h9、second等另外 "
+              "1 个。其中每一个都可能是任一时段的更正，因此所有数值均非最终结果。");
     }
     const Table table = day_read_back(plant_day(reading, day, plants[0].id));
     equal(table.lines[7].at("state"), "missing 未到");
@@ -241,17 +244,17 @@ void days_that_are_not_complete() {
     equal(table.lines[9].at("correction_file"), "k9");
     equal(table.lines[10].at("correction_sha256"), sha256(bytes_at(reading->folder / "k10")));
     equal(table.lines[5].at("interval_file"), "a copy");
-    equal(csv_name(*reading, day, plants[0].id), numbered("", plants[0].id.number) + "-2026-10-31-incomplete.csv");
+    equal(csv_name(*reading, day, plants[0].id), numbered("", plants[0].id.number) + "-2026-10-31-not-ready.csv");
     day_read_back(plant_day(reading, day, {60'000}));
 }
 
 void a_complete_day() {
     const ReadIn reading = read_now(drawn_day(true));
-    holds(arrived(*reading, day).is_complete(), "the drawn day is not complete");
+    holds(arrived(*reading, day).is_ready(), "the drawn day is not ready");
     equal(day_read_back(plant_day(reading, day, plants_of(*reading, day)[1].id)).note, "");
     equal(csv_name(*reading, day, RowId{753}), "753-2026-10-31.csv");
     equal(csv_name(*reading, day, std::nullopt), "all-2026-10-31.csv");
-    equal(csv_name(*reading, {1}, std::nullopt), "all-2000-01-02-incomplete.csv");
+    equal(csv_name(*reading, {1}, std::nullopt), "all-2000-01-02-not-ready.csv");
 }
 
 void all_rows() {
@@ -318,7 +321,8 @@ void the_list_of_files() {
         equal(line.at("what_to_do_zh"), file.advice ? file.advice->in(Tongue::chinese) : "");
         equal(line.at("sha256"), file.whole ? sha256(file.bytes) : "");
         equal(line.at("quarter").empty(), !file.slot.has_value());
-        equal(line.at("faulty"), file.faulty ? "1" : "0");
+        equal(line.at("faulty"), file.is_faulty() ? "1" : "0");
+        equal(line.at("accounted_for"), file.fault == Fault::unaccounted ? "0" : "1");
     }
     equal(table.lines[0].at("file"), "link");
     equal(table.lines[0].at("bytes"), "");

@@ -77,13 +77,15 @@ std::string chinese(const Said &said) {
 
 // ---- what holds of every reading ----
 
+// Those at fault first, what is something else last.
 int rank(const File &file) {
-    const bool is_of_quarter = file.form == Form::interval || file.form == Form::correction;
-    return file.form == Form::unread        ? 0
-           : file.faulty                    ? 1
-           : is_of_quarter && !file.same_as ? 2
-           : file.form == Form::other       ? 4
-                                            : 3;
+    const bool is_of_quarter = file.slot && (file.form == Form::interval || file.form == Form::correction);
+    const bool is_ours = is_of_quarter || file.form == Form::statement || file.form == Form::names;
+    return file.fault == Fault::unaccounted ? (file.form == Form::unread ? 0 : 1)
+           : file.fault == Fault::blemish   ? 2
+           : is_of_quarter && !file.same_as ? 3
+           : is_ours                        ? 4
+                                            : 5;
 }
 
 void files_hold(const Reading &reading) {
@@ -95,9 +97,10 @@ void files_hold(const Reading &reading) {
         before = rank(file);
         for (const Tongue tongue : {Tongue::english, Tongue::chinese}) {
             holds(!file.says.in(tongue).empty(), file.name + ": nothing is said");
-            holds(!file.faulty || (file.advice && !file.advice->in(tongue).empty()), file.name + ": no advice");
+            holds(!file.is_faulty() || (file.advice && !file.advice->in(tongue).empty()), file.name + ": no advice");
         }
         holds(file.obstacle.has_value() == (file.form == Form::unread), file.name);
+        holds(file.form != Form::unknown || file.fault == Fault::unaccounted, file.name + ": unknown and harmless");
         holds(!file.same_as || reading.files.at(*file.same_as).bytes == file.bytes, file.name + ": no copy");
         holds(file.bytes.size() <= most_bytes || file.form == Form::names, file.name + ": too long");
     }
@@ -122,6 +125,9 @@ void quarter_holds(const Reading &reading, Slot slot) {
     holds(quarter.state != State::refused || quarter.refused, "refused by nothing");
     holds(quarter.state != State::arriving || reading.arriving, "nobody looks again");
     equal(quarter.intervals.empty(), quarter.state == State::missing);
+    for (const std::size_t place : quarter.named) {
+        holds(reading.files.at(place).fault == Fault::unaccounted, "named, and nothing is wrong with it");
+    }
     holds(is_settled || (reading.interval(quarter).empty() && reading.correction(quarter).empty()), "files of nothing");
     if (is_settled) {
         const auto again = settle(reading.interval(quarter), reading.correction(quarter));
@@ -212,7 +218,7 @@ void two_interval_files() {
           "无结算单：a 与 b 同属本时段但内容不同，请移走错误的文件。");
     equal(english(file_named(reading, "a").says), "For the same quarter as b, and they differ: none of them counts.");
     equal(english(file_named(reading, "k").says), "Not used: its quarter has no statement because of a, b.");
-    holds(!file_named(reading, "k").faulty && file_named(reading, "b").faulty, "the wrong one is blamed");
+    holds(!file_named(reading, "k").is_faulty() && file_named(reading, "b").is_faulty(), "the wrong one is blamed");
     // The damaged one may be the newer.
     put(in / "b", with(interval_of(), 15, 0, 1));
     equal(quarter_of(read_now(in)).state, State::two_intervals);
@@ -236,7 +242,7 @@ void two_corrections() {
     equal(quarter_of(reading).state, State::two_corrections);
     equal(english(*hindrance(*reading, quarter_of(reading))),
           "No statement: k and l are both for this quarter and differ. Take away the wrong one.");
-    holds(!file_named(reading, "h").faulty, "the interval file is blamed");
+    holds(!file_named(reading, "h").is_faulty(), "the interval file is blamed");
 }
 
 void equal_copies() {
@@ -252,7 +258,7 @@ void equal_copies() {
     equal(quarter_of(reading).intervals.size(), 3u);
     equal(english(file_named(reading, "b").says), "The same bytes as 0/copy; counted once.");
     equal(chinese(file_named(reading, "l").says), "与 k 内容相同，只计一次。");
-    holds(!file_named(reading, "b").faulty && file_named(reading, "b").same_as, "no copy");
+    holds(!file_named(reading, "b").is_faulty() && file_named(reading, "b").same_as, "no copy");
     equal(reading->files[quarter_of(reading).intervals[0]].name, "0/copy");
     equal(reading->subfolders.size(), 1u);
     // What is cut at the limit is not known to be equal.
@@ -273,8 +279,10 @@ void corrections_left_over() {
     const ReadIn reading = read_now(in);
     equal(quarter_of(reading).state, State::missing);
     equal(english(file_named(reading, "k").says), "There is no interval file for this quarter yet.");
-    holds(file_named(reading, "k").faulty && file_named(reading, "l").faulty && !file_named(reading, "m").faulty, "");
-    equal(arrived(*reading, {day}).left_over, 2u);
+    holds(file_named(reading, "k").is_faulty() && file_named(reading, "l").is_faulty() &&
+              !file_named(reading, "m").is_faulty(),
+          "");
+    equal(arrived(*reading, {day}).unaccounted, 2u);
     equal(arrived(*reading, {day}).missing, 95u);
     equal(arrived(*reading, {day}).first_missing->number, 0u);
 }
@@ -325,7 +333,7 @@ void is_refused(const Bytes &interval, const Bytes &correction, const Due &due) 
     equal(file.name, due.file);
     equal(english(file.says), due.english);
     equal(chinese(file.says), due.chinese);
-    holds(file.faulty && !quarter.statement && !quarter.before, "a figure is left");
+    holds(file.is_faulty() && !quarter.statement && !quarter.before, "a figure is left");
     const bool is_correction = file.name == "k";
     equal(english(*hindrance(*reading, quarter)),
           is_correction
@@ -459,74 +467,16 @@ void files_of_no_quarter() {
     equal(file_named(reading, "empty").form, Form::empty);
     equal(reading->count(Form::coming), 4u);
     equal(english(file_named(reading, "G").says), "This version does not know this form.");
-    equal(english(file_named(reading, "other").says), "Not used.");
-    equal(reading->files.back().name, "p");
-    equal(arrived(*reading, {day}).unread, 9u);
+    equal(english(file_named(reading, "other").says),
+          "Nobody knows what this is. It may be a correction that was damaged.");
+    equal(file_named(reading, "p").form, Form::unknown);
+    equal(arrived(*reading, {day}).unaccounted, 11u);
     equal(arrived(*reading, {day}).settled, 1u);
     holds(!reading->arriving, "something is awaited");
     set_age(in / "empty", 0);
     holds(read_now(in)->arriving, "an empty file may be filled");
-    // An empty file is no correction and hinders nothing.
+    // An empty file is no correction: its quarter is settled, and the day is not ready.
     equal(quarter_of(reading).state, State::settled);
-}
-
-void statements_are_compared() {
-    const fs::path in = folder();
-    put(in / "h", interval_of());
-    const auto statement = std::get<Statement>(settle(interval_of(), {}));
-    const Bytes same(statement.bytes().begin(), statement.bytes().end());
-    put(in / "same", same);
-    put(in / "old", with(same, 11, 1, 1));
-    put(in / "cut", View(same).first(20));
-    put(in / "none", for_slot(same, day, 10));
-    put(in / "short", bytes_of("PS"));
-    const ReadIn reading = read_now(in);
-    equal(english(file_named(reading, "same").says), "The same as worked out now.");
-    equal(english(file_named(reading, "old").says), "It differs from what the files give now: old.");
-    equal(english(file_named(reading, "cut").says), "It differs from what the files give now: old.");
-    equal(chinese(file_named(reading, "none").says), "该时段现无结算单，无法比对。");
-    equal(chinese(file_named(reading, "short").says), "该时段现无结算单，无法比对。");
-    // The longest of all: 256 rows.
-    const Bytes long_interval = Drawer(1).interval(day, 20, 256);
-    const auto long_statement = std::get<Statement>(settle(long_interval, {}));
-    put(in / "long", long_interval);
-    put(in / "long-statement", long_statement.bytes());
-    equal(english(file_named(read_now(in), "long-statement").says), "The same as worked out now.");
-    // A statement is never a figure.
-    equal(quarter_of(reading, 10).state, State::missing);
-    put(in / "k", correction_of());
-    equal(english(file_named(read_now(in), "same").says), "It differs from what the files give now: old.");
-}
-
-void plants_are_named() {
-    const fs::path in = folder();
-    put(in / "h", interval_of());
-    put(in / "plants.csv", bytes_of("1,一厂,One\n2,二厂,Two\n"));
-    ReadIn reading = read_now(in);
-    equal(reading->names.of({2}, Tongue::english), "Two");
-    equal(english(file_named(reading, "plants.csv").says), "Names of 2 rows.");
-    holds(!file_named(reading, "plants.csv").faulty, "names are at fault");
-    equal(english(plant_name(*reading, {3})), "Row 3");
-    equal(chinese(plant_name(*reading, {3})), "编号 3");
-    equal(english(plant_name(*reading, {1})), "One (row 1)");
-    equal(chinese(plant_name(*reading, {1})), "一厂（编号 1）");
-    put(in / "plants.csv", bytes_of("1,一厂,One\nx\n"));
-    reading = read_now(in);
-    equal(english(file_named(reading, "plants.csv").says), "The name of 1 row. 1 line was passed over.");
-    equal(chinese(file_named(reading, "plants.csv").says), "共 1 个编号的名称。有 1 行未采用。");
-    holds(file_named(reading, "plants.csv").faulty, "nobody is told");
-    // Longer than is read: the last line that is read is half a line.
-    std::string text;
-    while (text.size() < 300'000) {
-        text += std::to_string(1 + text.size() % 60'000) + ",厂,a name\n";
-    }
-    put(in / "plants.csv", bytes_of(text));
-    holds(english(file_named(read_now(in), "plants.csv").says).ends_with("longer than 256 KB; the rest was not read."),
-          "");
-    // Only in the folder itself.
-    fs::create_directory(in / "sub");
-    fs::rename(in / "plants.csv", in / "sub" / "plants.csv");
-    equal(file_named(read_now(in), "sub/plants.csv").form, Form::other);
 }
 
 // ---- names and kinds of entries ----
@@ -596,7 +546,7 @@ void what_is_no_plain_file() {
     equal(said("sub/inner"), "Not read: a folder within a subfolder. A correction may be missed.");
     equal(chinese(file_named(reading, "link").says), "未读取：链接。可能遗漏更正文件。");
     equal(chinese(file_named(reading, "pipe").says), "未读取：管道。可能遗漏更正文件。");
-    equal(arrived(*reading, {day}).unread, has_device ? 7u : 6u);
+    equal(arrived(*reading, {day}).unaccounted, has_device ? 7u : 6u);
     if (has_device) {
         equal(said("device"), "Not read: a device. A correction may be missed.");
     }
@@ -657,7 +607,7 @@ void without_permission() {
         equal(english(file_named(reading, "k").says), "Not read: no permission. A correction may be missed.");
         equal(chinese(file_named(reading, "closed").says), "未读取：没有权限。可能遗漏更正文件。");
         equal(english(*file_named(reading, "k").advice), "Make it readable.");
-        equal(arrived(*reading, {day}).unread, 2u);
+        equal(arrived(*reading, {day}).unaccounted, 2u);
         equal(reading->subfolders.size(), 0u);
         holds(!has_changed(*reading, Day{day}), "nothing changed");
     });
@@ -795,13 +745,12 @@ void a_file_of_a_gigabyte() {
     set_age(in / "h", 60);
     put(in / "zeros", {});
     fs::resize_file(in / "zeros", 1'000'000'000);
-    const auto before = std::chrono::steady_clock::now();
     const ReadIn reading = read_now(in);
-    const auto took = std::chrono::steady_clock::now() - before;
-    holds(took < std::chrono::milliseconds(200), "it takes long");
     equal(quarter_of(reading).state, State::refused);
     equal(quarter_of(reading).refused->refusal.number, 4u);
-    equal(file_named(reading, "h").bytes.size(), most_bytes);
+    for (const char *name : {"h", "zeros"}) {
+        equal(file_named(reading, name).bytes.size(), most_bytes); // and not a billion
+    }
     holds(!file_named(reading, "h").whole && file_named(reading, "h").steady, "whole");
 }
 
@@ -987,10 +936,10 @@ void growing_while_read() {
           "It changed while it was read. It is looked at again in two seconds.");
     equal(english(file_named(reading, "h").says), "Not used: its quarter has no statement because of k.");
     // The same of a file that belongs nowhere.
-    put(in / "k", bytes_of("text"));
+    put(in / "k", bytes_of("a text that is longer than a head"));
     const ReadIn other = read_disturbed(in, 1'000, [&] { std::ofstream(in / "k", std::ios::app) << "x"; });
     equal(quarter_of(other).state, State::settled);
-    holds(other->arriving && file_named(other, "k").faulty, "nobody looks again");
+    holds(other->arriving && file_named(other, "k").is_faulty(), "nobody looks again");
 }
 
 // It changes once while it is read: what counts is what it is then.
@@ -1033,13 +982,14 @@ void order_of_files() {
     put(in / "5-empty", {});
     put(in / "6-refused", with(interval_of(30), 15, 0, 1));
     put(in / "7-statement", bytes_of("PS"));
+    put(in / "4-text", bytes_of("a text that is longer than a head\n"));
     fs::create_symlink("x", in / "8-link");
     std::string order;
     const ReadIn reading = read_now(in);
     for (const File &file : reading->files) {
         order += file.name + " ";
     }
-    equal(order, "8-link 6-refused 5-empty 2-copy 3-k 1-late 9-early 7-statement 1-other ");
+    equal(order, "8-link 6-refused 7-statement 5-empty 1-other 2-copy 3-k 1-late 9-early 4-text ");
 }
 
 void the_first_day() {
@@ -1074,93 +1024,24 @@ void a_plants_day() {
     equal(of_3.quarters[5].before->paid.count, 25'000);
     holds(!of_3.quarters[3].before, "before what");
     const auto paid = of_3.quarters[3].line->paid + of_3.quarters[4].line->paid + of_3.quarters[5].line->paid;
-    equal(of_3.sums.paid.count, paid.count);
-    equal(of_3.sums.net.count, -paid.count);
+    equal(of_3.sums.count(Figure::paid), paid.count);
+    equal(of_3.sums.count(Figure::net), -paid.count);
     equal(dearest(of_3)->number, of_3.quarters[5].line->paid.count > 25'000 ? 5u : 3u);
     const PlantDay of_nobody = plant_day(reading, {day}, {77});
     holds(!of_nobody.quarters[3].line && !dearest(of_nobody), "nobody");
     holds(!dearest(plant_day(reading, {day}, {1})), "a receiver pays");
     equal(plants_of(*reading, {1}).size(), 0u);
-    equal(plant_day(reading, {1}, {3}).sums.net.count, 0);
-    equal(english(*hindrance(arrived(*reading, {day}))),
-          "Not ready to book: 93 quarters missing, 0 quarters without a statement.");
+    equal(plant_day(reading, {1}, {3}).sums.count(Figure::net), 0);
+    equal(english(readiness(*reading, {day})), "Not ready to book: 93 missing (first: 00:00–00:15).");
     put(in / "l", correction_of(7));
     put(in / "empty", {});
     put(in / "d", with(interval_of(6), 15, 0, 1));
-    equal(english(*hindrance(arrived(*read_now(in), {day}))),
-          "Not ready to book: 92 quarters missing, 1 quarter without a statement. Without an interval file: 1 "
-          "correction. Not read, or of no known quarter: 1 file. A correction may be missed.");
-}
-
-void a_whole_day() {
-    const fs::path in = folder();
-    for (std::uint8_t quarter = 0; quarter < quarters_of_day; ++quarter) {
-        put(in / std::to_string(quarter), interval_of(quarter));
-    }
-    put(in / "k", correction_of(95));
-    const Arrived all = arrived(*read_now(in), {day});
-    holds(all.is_complete() && all.settled == 96 && all.corrected == 1 && !all.first_missing && !hindrance(all),
-          "whole");
-    put(in / "empty", {});
-    holds(!arrived(*read_now(in), {day}).is_complete(), "an empty file may be a correction");
-    fs::remove(in / "empty");
-    put(in / "0", with(interval_of(0), 15, 0, 1));
-    holds(!arrived(*read_now(in), {day}).is_complete(), "one is refused");
+    equal(english(readiness(*read_now(in), {day})),
+          "Not ready to book: 92 missing (first: 00:00–00:15) · 1 without a statement. Not accounted for: d, l, empty. "
+          "Each may be a correction of any quarter, so no figure is final.");
 }
 
 // ---- drawn files ----
-
-void damage(Drawer &drawer, Bytes &bytes) {
-    const auto at = [&] { return drawer.below(static_cast<std::uint32_t>(bytes.size())); };
-    switch (drawer.below(5)) {
-    case 0:
-        bytes.resize(at());
-        break;
-    case 1:
-        bytes.resize(bytes.size() + 1 + drawer.below(3));
-        break;
-    case 2:
-        bytes.erase(bytes.begin() + at());
-        break;
-    default:
-        bytes[at()] = static_cast<std::uint8_t>(drawer.below(256));
-    }
-}
-
-// What the engine says of the files, paired here once more in the plainest way.
-bool is_due(const Bytes &interval, const Bytes &correction) {
-    const auto is = [](const Bytes &bytes, char mark) {
-        return bytes.size() >= 7 && bytes[0] == 'P' && bytes[1] == mark;
-    };
-    if (!is(interval, 'H')) {
-        return false;
-    }
-    const bool is_of_slot = correction.size() >= 7 && std::equal(correction.begin() + 2, correction.begin() + 7,
-                                                                 interval.begin() + 2, interval.begin() + 7);
-    const bool is_second_interval = is_of_slot && is(correction, 'H');
-    const bool is_correction = is_of_slot && is(correction, 'K');
-    const auto answer = settle(interval, is_correction ? View(correction) : View());
-    return !is_second_interval && std::holds_alternative<Statement>(answer);
-}
-
-void damaged_pairs() {
-    Drawer drawer(7);
-    const fs::path in = folder();
-    for (int round = 0; round < 3'000; ++round) {
-        Bytes interval = drawer.interval(day, nine, 1 + drawer.below(6));
-        Bytes correction = drawer.correction(interval);
-        damage(drawer, drawer.below(2) == 0 ? interval : correction);
-        put(in / "h", interval);
-        put(in / "k", correction);
-        const ReadIn reading = read_now(in);
-        std::size_t settled = 0;
-        for (const auto &[of, quarters] : reading->days) {
-            settled += static_cast<std::size_t>(std::ranges::count_if(
-                quarters, [](const QuarterRead &quarter) { return quarter.statement.has_value(); }));
-        }
-        equal(settled, is_due(interval, correction) ? 1u : 0u);
-    }
-}
 
 Bytes random_bytes(Drawer &drawer) {
     static const std::string marks = "HKSGTUWR";
@@ -1239,8 +1120,6 @@ void all_states() {
 
 void all_files() {
     files_of_no_quarter();
-    statements_are_compared();
-    plants_are_named();
     names_of_any_bytes();
     what_is_no_plain_file();
     swapped_while_read();
@@ -1248,7 +1127,6 @@ void all_files() {
     order_of_files();
     the_first_day();
     a_plants_day();
-    a_whole_day();
 }
 
 void all_changes() {
@@ -1277,7 +1155,6 @@ int main(int argc, char **argv) {
     all_states();
     all_files();
     all_changes();
-    damaged_pairs();
     random_files();
     drawn_day();
     return check::passed("reading");

@@ -106,6 +106,11 @@ inline Bytes with(Bytes bytes, std::size_t at, std::uint64_t number, std::size_t
     return bytes;
 }
 
+inline Bytes cut(Bytes bytes, std::size_t length) {
+    bytes.resize(length);
+    return bytes;
+}
+
 inline Bytes for_slot(Bytes bytes, std::uint32_t day, std::uint8_t quarter) {
     return with(with(std::move(bytes), 2, day, 4), 6, quarter, 1);
 }
