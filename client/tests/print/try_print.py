@@ -1,0 +1,132 @@
+"""Try the day's book without a window: what it says, what it prints, and its exit status, on whole and on damaged days.
+
+    try_print.py PRINT EXAMPLE
+
+PRINT is the command (wheatrudder-print, or `tools/client --print`), EXAMPLE the example day. No display is there.
+"""
+import csv, io, os, shlex, shutil, subprocess, sys, tempfile
+
+READY, NOT_READY, COULD_NOT_RUN = 0, 1, 2
+LAST = 'It may be a correction of any quarter, so no figure is final.'
+held = 0
+
+
+def run(*arguments, tongue='C.UTF-8'):
+    """What the program answers: exit status, standard output, standard error."""
+    environment = {name: value for name, value in os.environ.items() if name not in ('DISPLAY', 'WAYLAND_DISPLAY', 'QT_QPA_PLATFORM')}
+    done = subprocess.run([*PRINT, *arguments], env={**environment, 'LC_ALL': tongue}, capture_output=True)
+    return done.returncode, done.stdout.decode(), done.stderr.decode()
+
+
+def holds(fact, what):
+    global held
+    if not fact:
+        sys.exit(f'print: does not hold: {what}')
+    held += 1
+
+
+def must(due, answer, *sentences):
+    """The exit status that is due, and that each of the sentences is on standard error."""
+    status, _, said = answer
+    holds(status == due, f'exit status {status} and not {due}; it said: {said}')
+    for sentence in sentences:
+        holds(sentence in said, f'“{sentence}” in: {said}')
+
+
+def records(text):
+    """The lines of the book below its head, and the sentence before the head if there is one."""
+    holds(text.startswith('\ufeff'), 'a byte order mark')
+    rows = list(csv.reader(io.StringIO(text[1:])))
+    note = rows.pop(0)[0] if not rows[0][0].startswith('date ') else None
+    names = [name.split(' ')[0] for name in rows[0]]
+    return [dict(zip(names, row)) for row in rows[1:]], note
+
+
+def whole_day(example, folder):
+    """The example day without its faults: quarters that are missing or refused get the interval file of the first."""
+    os.makedirs(folder)
+    with open(os.path.join(example, '2026-10-31-q00.interval'), 'rb') as file:
+        first = file.read()
+    for quarter in range(96):
+        with open(path(folder, quarter, 'interval'), 'wb') as file:
+            file.write(first[:6] + bytes([quarter]) + first[7:])
+    for quarter in (9, 10):
+        for kind in ('interval', 'correction'):
+            shutil.copy(path(example, quarter, kind), folder)
+    for name in os.listdir(folder):     # not as if they were just arriving
+        os.utime(os.path.join(folder, name), (1, 1))
+
+
+def path(folder, quarter, kind):
+    return os.path.join(folder, f'2026-10-31-q{quarter:02}.{kind}')
+
+
+def change(file, edit):
+    """Other bytes in a file, which seems as old as before."""
+    with open(file, 'rb') as old:
+        bytes_now = edit(old.read())
+    with open(file, 'wb') as new:
+        new.write(bytes_now)
+    os.utime(file, (1, 1))
+
+
+def whole(folder):
+    answer = run(folder)
+    must(READY, answer, '2026-10-31: Ready to book')
+    rows, note = records(answer[1])
+    holds(note is None, 'no sentence before the head')
+    holds({row['quarter'] for row in rows} == {str(quarter) for quarter in range(96)}, 'all quarters')
+    for quarter in range(96):
+        holds(sum(int(row['net_fen']) for row in rows if row['quarter'] == str(quarter)) == 0, 'who pays pays who gets')
+    must(READY, run(folder, '2026-10-31'), 'Ready to book')
+    must(READY, run(folder, tongue='zh_CN.UTF-8'), '2026-10-31：可以入账')
+    must(NOT_READY, run(folder, '2026-10-30'), '2026-10-30: Not ready to book: 96 missing (first: 00:00–00:15).')
+    return answer[1]
+
+
+def damaged(folder):
+    correction = path(folder, 10, 'correction')
+    name = os.path.basename(correction)
+    for what, edit in {'mark': lambda old: b'X' + old[1:], 'one byte': lambda old: old[:1], 'empty': lambda old: b'',
+                       'day': lambda old: old[:3] + bytes([old[3] ^ 1]) + old[4:], 'cut': lambda old: old[:-1]}.items():
+        shutil.copy2(correction, folder + '.kept')
+        change(correction, edit)
+        answer = run(folder)
+        must(NOT_READY, answer, 'Not ready to book', name, LAST)
+        _, note = records(answer[1])
+        holds(note and name in note and LAST in note, f'{what}: the book says so before its head')
+        os.replace(folder + '.kept', correction)
+    os.rename(correction, folder + '.kept')
+    os.symlink(folder + '.kept', correction)
+    must(NOT_READY, run(folder), name, LAST)
+    os.remove(correction)
+    os.rename(folder + '.kept', correction)
+
+
+def could_not_run(folder):
+    must(COULD_NOT_RUN, run(os.path.join(folder, 'nowhere')))
+    must(COULD_NOT_RUN, run(folder, 'yesterday'))
+    must(COULD_NOT_RUN, run(folder, '2026-10-31', 'more'))
+    must(COULD_NOT_RUN, run())
+    with open('/dev/full', 'wb') as full:
+        holds(subprocess.run([*PRINT, folder], stdout=full, stderr=subprocess.DEVNULL).returncode == COULD_NOT_RUN, 'a full disk')
+
+
+def main():
+    with tempfile.TemporaryDirectory() as around:
+        folder = os.path.join(around, 'day')
+        whole_day(EXAMPLE, folder)
+        book = whole(folder)
+        damaged(folder)
+        same = [line.rsplit(',', 1)[0] for line in book.splitlines()]    # but for the time
+        holds([line.rsplit(',', 1)[0] for line in run(folder)[1].splitlines()] == same, 'put right again: the same book')
+        could_not_run(folder)
+        os.makedirs(os.path.join(around, 'empty'))
+        must(NOT_READY, run(os.path.join(around, 'empty')), 'There is no interval file in this folder.')
+        must(NOT_READY, run(EXAMPLE), '1 missing (first: 17:45–18:00) · 2 without a statement', '2026-10-31-q54.correction',
+             'A statement of another time')
+    print(f'print: {held} things hold')
+
+
+PRINT, EXAMPLE = shlex.split(sys.argv[1]), sys.argv[2]
+main()
