@@ -1,7 +1,5 @@
 #include "workings.h"
 
-#include "wheatrudder.h"
-
 #include <algorithm>
 #include <optional>
 
@@ -13,16 +11,16 @@ using Failed = std::optional<Said>;
 
 bool has_whole_lines(const Statement &statement) {
     const std::size_t length = statement.bytes().size();
-    return length >= WHEATRUDDER_HEAD_LENGTH && length == WHEATRUDDER_STATEMENT_LENGTH(statement.rows());
+    return length >= statement_form.head && length == statement_form.length(statement.rows());
 }
 
 // The stages of a quarter, each of which works something out and checks it. Of the statement only calls and prices are
 // taken over; every other figure of it is only compared, so that no stage depends on a figure that may be wrong.
 class Work {
   public:
-    Work(const Statement &statement, const std::vector<Row> &rows, Hao tariff) : statement_(statement) {
+    Work(const Statement &statement, const std::vector<Row> &rows, const Rules &rules) : statement_(statement) {
         is_.rows = rows;
-        is_.tariff = tariff;
+        is_.rules = rules;
     }
 
     std::variant<Workings, Said> done() {
@@ -101,11 +99,11 @@ Failed Work::add_up() {
 
 Failed Work::weigh() {
     for (std::size_t position = 0; position < count(); ++position) {
-        const Kwh weight = weight_of(is_.rows[position]);
+        const Kwh weight = weight_of(is_.rows[position], is_.rules);
         if (is_.lines[position].weight != weight) {
             return of_row(Word::check_weight, position);
         }
-        if (is_.lines[position].cap != cap_of(is_.rows[position], is_.tariff).cut()) {
+        if (is_.lines[position].cap != cap_of(is_.rows[position], is_.rules).cut()) {
             return of_row(Word::check_cap, position);
         }
         if (weight > Kwh{0}) {
@@ -119,7 +117,7 @@ Failed Work::weigh() {
 Failed Work::earn() {
     for (std::size_t position = 0; position < count(); ++position) {
         const Line &line = is_.lines[position];
-        if (line.compensation != compensation_of(is_.rows[position], line.called, is_.prices).rounded()) {
+        if (line.compensation != compensation_of(is_.rows[position], is_.rules, {line.called, is_.prices}).rounded()) {
             return of_row(Word::check_compensation, position);
         }
         is_.total += line.compensation;
@@ -130,7 +128,7 @@ Failed Work::earn() {
 Failed Work::owe() {
     for (std::size_t position = 0; position < count(); ++position) {
         const Line &line = is_.lines[position];
-        if (line.penalty != penalty_of(is_.rows[position], line.called, is_.prices).rounded()) {
+        if (line.penalty != penalty_of(is_.rows[position], is_.rules, {line.called, is_.prices}).rounded()) {
             return of_row(Word::check_penalty, position);
         }
         is_.penalties += line.penalty;
@@ -243,8 +241,8 @@ Failed Work::cover() {
 
 } // namespace
 
-std::variant<Workings, Said> work_out(const Statement &statement, const std::vector<Row> &rows, Hao tariff) {
-    return Work(statement, rows, tariff).done();
+std::variant<Workings, Said> work_out(const Statement &statement, const std::vector<Row> &rows, const Rules &rules) {
+    return Work(statement, rows, rules).done();
 }
 
 } // namespace client
