@@ -17,58 +17,73 @@ Kwh above(Kwh energy, Kwh floor) {
 
 } // namespace
 
-Role role_of(const Row &row) {
+std::string load_of(const Row &row, unsigned least, unsigned most) {
+    if (!is_thermal(row) || row.capacity == 0) {
+        return {};
+    }
+    return decimal(static_cast<Wide>(row.metered.count) * 100, row.at_percent(100).count, least, most);
+}
+
+Kwh baseline_of(const Row &row, const Rules &rules) {
+    return row.at_percent(rules.baseline);
+}
+
+Role role_of(const Row &row, const Rules &rules) {
     if (!is_thermal(row)) {
         return row.status == Status::normal ? Role::payer : Role::bystander;
     }
     if (row.status == Status::accident) {
         return Role::bystander;
     }
-    if (row.metered >= row.at_percent(50)) {
+    if (row.metered >= baseline_of(row, rules)) {
         return Role::payer;
     }
     return row.status == Status::normal ? Role::receiver : Role::bystander;
 }
 
-std::array<Kwh, 2> held_back(const Row &row) {
-    const Kwh two_fifths = row.at_percent(40);
-    return {above(row.at_percent(50), std::max(row.metered, two_fifths)), above(two_fifths, row.metered)};
+std::array<Kwh, 2> held_back(const Row &row, const Rules &rules) {
+    const Kwh tier_2 = row.at_percent(rules.tier_2);
+    return {above(baseline_of(row, rules), std::max(row.metered, tier_2)), above(tier_2, row.metered)};
 }
 
-std::array<Kwh, 3> bands_of(const Row &row) {
-    const auto between = [&](int from, int to) {
-        return above(std::min(row.metered, row.at_percent(to)), row.at_percent(from));
-    };
-    return {between(50, 60), between(60, 70), above(row.metered, row.at_percent(70))};
+std::array<Kwh, 3> bands_of(const Row &row, const Rules &rules) {
+    const Kwh first = row.at_percent(rules.band_ends[0]), second = row.at_percent(rules.band_ends[1]);
+    return {above(std::min(row.metered, first), baseline_of(row, rules)), above(std::min(row.metered, second), first),
+            above(row.metered, second)};
 }
 
-Kwh weight_of(const Row &row) {
-    if (role_of(row) != Role::payer) {
+Kwh weight_of(const Row &row, const Rules &rules) {
+    if (role_of(row, rules) != Role::payer) {
         return {};
     }
     if (!is_thermal(row)) {
         return row.metered;
     }
-    const auto [once, twice, thrice] = bands_of(row);
-    return {once.count + 2 * twice.count + 3 * thrice.count};
+    const std::array<Kwh, 3> bands = bands_of(row, rules);
+    Kwh weight;
+    for (std::size_t band = 0; band < bands.size(); ++band) {
+        weight += Kwh{rules.factors[band] * bands[band].count};
+    }
+    return weight;
 }
 
-Exactly cap_of(const Row &row, Hao tariff) {
-    if (role_of(row) != Role::payer) {
+Exactly cap_of(const Row &row, const Rules &rules) {
+    if (role_of(row, rules) != Role::payer) {
         return {};
     }
+    const Ratio &part = rules.cap_part(row.kind);
     // A hao is a hundredth of a fen.
-    return {static_cast<Wide>(row.metered.count) * tariff.count, is_thermal(row) ? 4 * 100 : 2 * 100};
+    return {static_cast<Wide>(row.metered.count) * rules.tariff.count * part.numerator, part.denominator * 100};
 }
 
-Due compensation_of(const Row &row, const std::array<Kwh, 2> &called, const std::array<Li, 2> &prices) {
+Due compensation_of(const Row &row, const Rules &rules, const Calls &calls) {
     Due due;
-    if (role_of(row) != Role::receiver) {
+    if (role_of(row, rules) != Role::receiver) {
         return due;
     }
-    const std::array<Kwh, 2> energy = held_back(row);
+    const std::array<Kwh, 2> energy = held_back(row, rules);
     for (std::size_t tier = 0; tier < 2; ++tier) {
-        due.by_tier[tier] = called[tier] > Kwh{0} ? energy[tier].count * prices[tier].count : 0;
+        due.by_tier[tier] = calls.called[tier] > Kwh{0} ? energy[tier].count * calls.prices[tier].count : 0;
     }
     return due;
 }
@@ -77,19 +92,19 @@ bool is_liable(const Row &row) {
     return is_thermal(row) && row.status == Status::reduced;
 }
 
-std::array<Kwh, 2> missing(const Row &row, const std::array<Kwh, 2> &called) {
-    const std::array<Kwh, 2> delivered = held_back(row);
+std::array<Kwh, 2> missing(const Row &row, const Rules &rules, const std::array<Kwh, 2> &called) {
+    const std::array<Kwh, 2> delivered = held_back(row, rules);
     return {above(called[0], delivered[0]), above(called[1], delivered[1])};
 }
 
-Due penalty_of(const Row &row, const std::array<Kwh, 2> &called, const std::array<Li, 2> &prices) {
+Due penalty_of(const Row &row, const Rules &rules, const Calls &calls) {
     Due due;
     if (!is_liable(row)) {
         return due;
     }
-    const std::array<Kwh, 2> short_by = missing(row, called);
+    const std::array<Kwh, 2> short_by = missing(row, rules, calls.called);
     for (std::size_t tier = 0; tier < 2; ++tier) {
-        due.by_tier[tier] = 2 * short_by[tier].count * prices[tier].count;
+        due.by_tier[tier] = rules.penalty * short_by[tier].count * calls.prices[tier].count;
     }
     return due;
 }

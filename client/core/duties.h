@@ -2,9 +2,10 @@
 // for and what it owes. Articles are those of source document 001.
 #pragma once
 
-#include "engine.h"
+#include "rules.h"
 
 #include <array>
+#include <string>
 
 namespace client {
 
@@ -14,17 +15,24 @@ enum class Role {
     bystander, // neither: its status keeps it out (Article 24)
 };
 
-Role role_of(const Row &row);
+// A thermal unit's load in percent, with so many decimal places at least and at most: "79.99…". Empty for wind and
+// solar, which have none that the rules ask for.
+std::string load_of(const Row &row, unsigned least, unsigned most);
 
-// What it held back in each tier, by the meter: the energy between half load and 40 percent, and below 40 percent
+// The energy below which a thermal unit is paid, and from which upward it pays.
+Kwh baseline_of(const Row &row, const Rules &rules);
+
+Role role_of(const Row &row, const Rules &rules);
+
+// What it held back in each tier, by the meter: the energy between the baseline and where tier 2 begins, and below that
 // (Article 27).
-std::array<Kwh, 2> held_back(const Row &row);
+std::array<Kwh, 2> held_back(const Row &row, const Rules &rules);
 
-// A thermal unit's energy from 50 to 60 percent load, from 60 to 70, and above 70 (Article 29).
-std::array<Kwh, 3> bands_of(const Row &row);
+// A thermal unit's energy above the baseline, by the bands of the rules (Article 29).
+std::array<Kwh, 3> bands_of(const Row &row, const Rules &rules);
 
 // 0 for who is no payer.
-Kwh weight_of(const Row &row);
+Kwh weight_of(const Row &row, const Rules &rules);
 
 // An amount of fen before it is cut to whole ones.
 struct Exactly {
@@ -35,9 +43,8 @@ struct Exactly {
     bool is_whole() const { return numerator % denominator == 0; }
 };
 
-// A payer's cap: a quarter of the tariff for what a thermal unit produced, half of it for wind and solar (Article 30);
-// 0 for who is no payer.
-Exactly cap_of(const Row &row, Hao tariff);
+// A payer's cap: the tariff's part for what it produced (Article 30); 0 for who is no payer.
+Exactly cap_of(const Row &row, const Rules &rules);
 
 // Money in li, before it is brought to fen.
 struct Due {
@@ -48,13 +55,19 @@ struct Due {
     Fen rounded() const { return {(together() + 5) / 10}; }
 };
 
-// What a receiver has earned in the tiers in which it was called (Article 28).
-Due compensation_of(const Row &row, const std::array<Kwh, 2> &called, const std::array<Li, 2> &prices);
+// What the statement says of a row's calls and of their prices, by tier.
+struct Calls {
+    std::array<Kwh, 2> called;
+    std::array<Li, 2> prices;
+};
 
-// Who owes twice the price for what it was called for and did not hold back (Article 52).
+// What a receiver has earned in the tiers in which it was called (Article 28).
+Due compensation_of(const Row &row, const Rules &rules, const Calls &calls);
+
+// Who owes a penalty for what it was called for and did not hold back (Article 52).
 bool is_liable(const Row &row);
 // What is missing in each tier: more than was called in one does not make up for less in the other.
-std::array<Kwh, 2> missing(const Row &row, const std::array<Kwh, 2> &called);
-Due penalty_of(const Row &row, const std::array<Kwh, 2> &called, const std::array<Li, 2> &prices);
+std::array<Kwh, 2> missing(const Row &row, const Rules &rules, const std::array<Kwh, 2> &called);
+Due penalty_of(const Row &row, const Rules &rules, const Calls &calls);
 
 } // namespace client

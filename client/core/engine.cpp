@@ -1,7 +1,6 @@
 #include "engine.h"
 
-#include "wheatrudder.h"
-
+#include <algorithm>
 #include <utility>
 
 namespace client {
@@ -110,7 +109,7 @@ std::variant<Statement, Refusal> settle(View interval, View correction) {
 }
 
 std::optional<Row> counting_row(View interval, View correction, RowId id) {
-    std::array<std::uint8_t, WHEATRUDDER_ROW_LENGTH> bytes{};
+    std::array<std::uint8_t, interval_form.row> bytes{};
     const std::uint64_t answer = wheatrudder_row(interval.data(), interval.size(), correction.data(), correction.size(),
                                                  id.number, bytes.data(), bytes.size());
     if (wheatrudder_number(answer) != 0 || wheatrudder_value(answer) != bytes.size()) {
@@ -133,6 +132,13 @@ std::vector<Row> counting_rows(View interval, View correction, const Statement &
 Terms terms_of(View accepted_interval) {
     const std::uint8_t *at = accepted_interval.data();
     return {.tariff = {wheatrudder_u16(at + 7)}, .need = {wheatrudder_u32(at + 9)}};
+}
+
+std::optional<FileForm> form_of(View bytes) {
+    const auto found = std::find_if(forms.begin(), forms.end(), [&](const FileForm &form) {
+        return bytes.size() >= form.mark.size() && std::equal(form.mark.begin(), form.mark.end(), bytes.begin());
+    });
+    return found == forms.end() ? std::nullopt : std::optional(*found);
 }
 
 } // namespace client

@@ -4,6 +4,7 @@
 
 #include "calendar.h"
 #include "figures.h"
+#include "wheatrudder.h"
 
 #include <array>
 #include <compare>
@@ -36,8 +37,10 @@ struct Row {
     Status status = Status::normal;
 
     friend bool operator==(const Row &, const Row &) = default;
-    // The energy of a quarter hour at so many percent of full load; full load is 250 kWh for each MW.
+    // The energy of a quarter hour at so many percent of full load, cut to whole kWh; full load is 250 kWh for each MW.
     Kwh at_percent(int percent) const { return {capacity * percent * 5 / 2}; }
+    // Whether nothing is cut there.
+    bool is_whole_at(int percent) const { return capacity * percent * 5 % 2 == 0; }
 };
 
 // One line of a statement.
@@ -106,8 +109,25 @@ struct Terms {
 };
 Terms terms_of(View accepted_interval);
 
-// Forms of the files, for who looks at them before the engine does.
-inline constexpr std::size_t interval_head = 15;
-inline constexpr std::size_t correction_head = 9;
+// How a file is laid out, for who looks at it before the engine does: a head that begins with a mark, and rows (in a
+// statement: lines) that are all of one length.
+struct FileForm {
+    std::array<char, 2> mark{};
+    std::size_t head = 0;
+    std::size_t row = 0;
+
+    friend bool operator==(const FileForm &, const FileForm &) = default;
+    // The length of a file with so many rows; the row at a place, counted from 0, begins at length(place).
+    constexpr std::size_t length(std::size_t rows) const { return head + row * rows; }
+};
+
+// Every form that the engine knows. A correction's rows are as long as those of its interval file.
+inline constexpr FileForm interval_form{{'P', 'H'}, WHEATRUDDER_INTERVAL_LENGTH(0), WHEATRUDDER_ROW_LENGTH};
+inline constexpr FileForm correction_form{{'P', 'K'}, WHEATRUDDER_CORRECTION_LENGTH(0), WHEATRUDDER_ROW_LENGTH};
+inline constexpr FileForm statement_form{{'P', 'S'}, WHEATRUDDER_HEAD_LENGTH, WHEATRUDDER_LINE_LENGTH};
+inline constexpr std::array forms{interval_form, correction_form, statement_form};
+
+// The form that the first two bytes name; none where there are fewer, or they name none.
+std::optional<FileForm> form_of(View bytes);
 
 } // namespace client

@@ -7,9 +7,9 @@
 
 namespace client {
 
-std::variant<Explanation, Disagreement> explain(const Statement &statement, const std::vector<Row> &rows, Hao tariff,
-                                                RowId id, const Said &name) {
-    const auto worked = work_out(statement, rows, tariff);
+std::variant<Explanation, Disagreement> explain(const Statement &statement, const std::vector<Row> &rows,
+                                                const Rules &rules, RowId id, const Namer &name_of) {
+    const auto worked = work_out(statement, rows, rules);
     if (const Said *failed = std::get_if<Said>(&worked)) {
         return Disagreement{*failed};
     }
@@ -20,9 +20,9 @@ std::variant<Explanation, Disagreement> explain(const Statement &statement, cons
     }
     const auto position = static_cast<std::size_t>(found - rows.begin());
     const Line &line = quarter.lines[position];
-    Steps steps(quarter, position);
+    Steps steps(quarter, position, name_of);
     steps.tell();
-    return Explanation{answer_of(line, statement.slot(), name), question_of(line), steps.take()};
+    return Explanation{answer_of(line, statement.slot(), called(id, name_of)), question_of(line), steps.take()};
 }
 
 Said answer_of(const Line &line, Slot slot, const Said &name) {

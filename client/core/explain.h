@@ -6,7 +6,8 @@
 // statement: they follow from bids, which are not shown.
 #pragma once
 
-#include "engine.h"
+#include "named.h"
+#include "rules.h"
 #include "words.h"
 
 #include <optional>
@@ -33,10 +34,11 @@ struct Disagreement {
     Said check;
 };
 
-// `rows` are the rows that count, one for each line and in the same order; `name` is what the row is called on the
-// screen.
-std::variant<Explanation, Disagreement> explain(const Statement &statement, const std::vector<Row> &rows, Hao tariff,
-                                                RowId id, const Said &name);
+// `rows` are the rows that count, one for each line and in the same order; `rules` are those of the same interval file.
+// Steps call this row and its neighbours by their names. A check that failed has ids alone: it is to be reported, and
+// names are the folder's.
+std::variant<Explanation, Disagreement> explain(const Statement &statement, const std::vector<Row> &rows,
+                                                const Rules &rules, RowId id, const Namer &name_of = {});
 
 // The amount in one sentence, which needs no explanation: it is the statement's.
 Said answer_of(const Line &line, Slot slot, const Said &name);
@@ -49,7 +51,7 @@ struct Settlement {
     const Statement &statement;
     const std::vector<Row> &rows;
 };
-std::vector<Said> reasons(const Settlement &before, const Settlement &now, RowId id);
+std::vector<Said> reasons(const Settlement &before, const Settlement &now, RowId id, const Namer &name_of = {});
 
 // The explanation as text, for the clipboard.
 std::string as_text(const Explanation &explanation, Tongue tongue);

@@ -146,7 +146,7 @@ std::optional<Known> known_as(const Glimpse &glimpse) {
         return Known::archive;
     }
     // What is shorter than a head may be the front of one.
-    const bool is_long = glimpse.front.size() > interval_head;
+    const bool is_long = glimpse.front.size() > interval_form.head;
     return is_long && is_text(glimpse.front, glimpse.is_whole) ? std::optional(Known::text) : std::nullopt;
 }
 

@@ -2,6 +2,18 @@
 
 namespace client {
 
+namespace {
+
+Said called(RowId id, const Namer &name_of, Word without_name) {
+    const std::string number = std::to_string(id.number);
+    if (!has_name(id, name_of)) {
+        return {without_name, {number}};
+    }
+    return {Word::row_named, {number, Hole(name_of(id, Tongue::english), name_of(id, Tongue::chinese))}};
+}
+
+} // namespace
+
 Word kind_word(Kind kind) {
     switch (kind) {
     case Kind::wind:
@@ -24,6 +36,18 @@ Word status_word(Status status) {
     default:
         return Word::status_0;
     }
+}
+
+bool has_name(RowId id, const Namer &name_of) {
+    return name_of && !name_of(id, Tongue::english).empty();
+}
+
+Said called(RowId id, const Namer &name_of) {
+    return called(id, name_of, Word::row);
+}
+
+Said called_within(RowId id, const Namer &name_of) {
+    return called(id, name_of, Word::row_within);
 }
 
 } // namespace client

@@ -1,12 +1,24 @@
-// What kinds and statuses of rows are called.
+// What rows, their kinds and their statuses are called.
 #pragma once
 
 #include "engine.h"
 #include "words.h"
 
+#include <functional>
+#include <string>
+
 namespace client {
 
 Word kind_word(Kind kind);
 Word status_word(Status status);
+
+// A row's name in a tongue, empty where it has none; and nobody has one where there is no function.
+using Namer = std::function<std::string(RowId, Tongue)>;
+
+bool has_name(RowId id, const Namer &name_of);
+// What a row is called: its name with its id, "North Wind (row 753)". Without a name it is "Row 753" where a sentence
+// begins, and "row 753" within one.
+Said called(RowId id, const Namer &name_of);
+Said called_within(RowId id, const Namer &name_of);
 
 } // namespace client

@@ -6,7 +6,35 @@ namespace client {
 
 namespace {
 
-constexpr std::size_t most_listed = 8;
+// More names than this, each with its id, would hide the figures of the sentence.
+constexpr std::size_t most_by_name = 3;
+constexpr std::size_t most_by_id = 8;
+
+bool are_named(const std::vector<RowId> &ids, const Namer &name_of) {
+    return ids.size() <= most_by_name &&
+           std::any_of(ids.begin(), ids.end(), [&](RowId id) { return has_name(id, name_of); });
+}
+
+// "a, b and c"; or "a, b" where more are to follow.
+Said joined(const std::vector<Hole> &items, bool is_whole) {
+    Said list(Word::list_first, {items.front()});
+    for (std::size_t place = 1; place < items.size(); ++place) {
+        const bool is_last = is_whole && place + 1 == items.size();
+        list = Said(is_last ? Word::list_last : Word::list, {list, items[place]});
+    }
+    return list;
+}
+
+Said listed_by_id(const std::vector<RowId> &ids) {
+    const std::size_t told = std::min(ids.size(), most_by_id);
+    std::vector<Hole> numbers;
+    for (std::size_t place = 0; place < told; ++place) {
+        numbers.emplace_back(number(ids[place]));
+    }
+    const std::size_t more = ids.size() - told;
+    const Said list = joined(numbers, more == 0);
+    return {Word::list_rows, {more == 0 ? list : Said(Word::list_more, {list, text(static_cast<std::int64_t>(more))})}};
+}
 
 } // namespace
 
@@ -18,8 +46,9 @@ std::string number(RowId id) {
     return std::to_string(id.number);
 }
 
-std::string load(const Row &row) {
-    return decimal(static_cast<Wide>(row.metered.count) * 100, row.at_percent(100).count, 0, 3);
+Said baseline(const Row &row, const Rules &rules) {
+    const Word word = row.is_whole_at(rules.baseline) ? Word::baseline : Word::baseline_cut;
+    return {word, {std::to_string(rules.baseline), text(baseline_of(row, rules))}};
 }
 
 std::string rate(Fen money, Kwh weight) {
@@ -48,15 +77,15 @@ Said rounded_to_fen(const Due &due) {
     return {Word::amount_rounded, {in_yuan(due.together()), text(due.rounded())}};
 }
 
-Said listed(const std::vector<RowId> &ids) {
-    const std::size_t named = std::min(ids.size(), most_listed);
-    const bool is_whole = named == ids.size();
-    Said list(Word::list_first, {number(ids.front())});
-    for (std::size_t place = 1; place < named; ++place) {
-        const Word link = is_whole && place + 1 == named ? Word::list_last : Word::list;
-        list = Said(link, {list, number(ids[place])});
+Said listed(const std::vector<RowId> &ids, const Namer &name_of) {
+    if (ids.size() > 1 && !are_named(ids, name_of)) {
+        return listed_by_id(ids);
     }
-    return is_whole ? list : Said(Word::list_more, {list, text(static_cast<std::int64_t>(ids.size() - named))});
+    std::vector<Hole> names;
+    for (const RowId id : ids) {
+        names.emplace_back(called_within(id, name_of));
+    }
+    return joined(names, true);
 }
 
 } // namespace client

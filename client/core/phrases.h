@@ -12,8 +12,8 @@ namespace client {
 Word tier_word(std::size_t tier); // 0 for tier 1
 std::string number(RowId id);
 
-// A load in percent: "79.99…".
-std::string load(const Row &row);
+// The baseline of a row: "50 percent (12,500 kWh)".
+Said baseline(const Row &row, const Rules &rules);
 // Fen for each kWh; the weight is above 0.
 std::string rate(Fen money, Kwh weight);
 // amount × weight ÷ weights, in yuan; the weights are above 0.
@@ -25,7 +25,8 @@ std::string in_yuan(std::int64_t li);
 Said cut_to_fen(const Exactly &fen);
 // A sum of li and, where it is no whole number of fen, what it is rounded to.
 Said rounded_to_fen(const Due &due);
-// Ids, of which there is at least one: "3, 7 and 45 more".
-Said listed(const std::vector<RowId> &ids);
+// Rows, of which there is at least one, within a sentence: by their names where they are few and one has a name, else
+// by their ids, "rows 3, 7 and 45 more".
+Said listed(const std::vector<RowId> &ids, const Namer &name_of);
 
 } // namespace client

@@ -9,7 +9,7 @@ namespace client {
 
 namespace {
 
-constexpr std::size_t most_named = 6;
+constexpr std::size_t most_told = 6;
 
 // A row on both sides of the correction.
 struct Changed {
@@ -62,24 +62,24 @@ std::vector<Changed> side_by_side(const Settlement &before, const Settlement &no
     return rows;
 }
 
-void add_change(std::vector<Said> &all, const Changed &row) {
-    const std::string id = number(row.now.id);
+void add_change(std::vector<Said> &all, const Changed &row, const Namer &name_of) {
+    const Said name = called_within(row.now.id, name_of);
     if (row.is_meter()) {
-        all.push_back({Word::meter, {id, text(row.before.metered), text(row.now.metered)}});
+        all.push_back({Word::meter, {name, text(row.before.metered), text(row.now.metered)}});
     }
     if (row.is_status()) {
-        all.push_back({Word::status, {id, Said(status_word(row.before.status)), Said(status_word(row.now.status))}});
+        all.push_back({Word::status, {name, Said(status_word(row.before.status)), Said(status_word(row.now.status))}});
     }
 }
 
-void add_changes(std::vector<Said> &all, const std::vector<Changed> &others) {
-    for (std::size_t place = 0; place < std::min(others.size(), most_named); ++place) {
-        add_change(all, others[place]);
+void add_changes(std::vector<Said> &all, const std::vector<Changed> &others, const Namer &name_of) {
+    for (std::size_t place = 0; place < std::min(others.size(), most_told); ++place) {
+        add_change(all, others[place], name_of);
     }
-    if (others.size() == most_named + 1) {
+    if (others.size() == most_told + 1) {
         all.push_back(Word::change_more_one);
-    } else if (others.size() > most_named) {
-        all.push_back({Word::change_more, {text(static_cast<std::int64_t>(others.size() - most_named))}});
+    } else if (others.size() > most_told) {
+        all.push_back({Word::change_more, {text(static_cast<std::int64_t>(others.size() - most_told))}});
     }
 }
 
@@ -121,7 +121,7 @@ struct Lines {
 
 // One neighbour's weight has moved the rate that the row pays, and nothing else has changed: one sentence tells it.
 std::optional<Said> neighbour(const Settlement &before, const Settlement &now, const std::vector<Changed> &others,
-                              const Lines &own) {
+                              const Lines &own, const Namer &name_of) {
     if (others.size() != 1 || !own.is_below_its_cap()) {
         return std::nullopt;
     }
@@ -131,14 +131,14 @@ std::optional<Said> neighbour(const Settlement &before, const Settlement &now, c
     if (!was || !is || was->weight == is->weight || !end_was.has_rate() || !end_is.has_rate()) {
         return std::nullopt;
     }
-    return Said(Word::neighbour,
-                {number(id), text(was->weight), text(is->weight), end_was.fen_each(), end_is.fen_each()});
+    return Said(Word::neighbour, {called_within(id, name_of), text(was->weight), text(is->weight), end_was.fen_each(),
+                                  end_is.fen_each()});
 }
 
 // What the others' changes did to a row that was left as it was.
 void add_effects(std::vector<Said> &all, const Settlement &before, const Settlement &now,
-                 const std::vector<Changed> &others, const Lines &own) {
-    const std::optional<Said> by_neighbour = neighbour(before, now, others, own);
+                 const std::vector<Changed> &others, const Lines &own, const Namer &name_of) {
+    const std::optional<Said> by_neighbour = neighbour(before, now, others, own, name_of);
     all.push_back(by_neighbour.value_or(Said(Word::neighbours)));
     const std::size_t told = all.size();
     const End was(before.statement), is(now.statement);
@@ -169,7 +169,7 @@ Said amount_of(Fen net) {
 
 } // namespace
 
-std::vector<Said> reasons(const Settlement &before, const Settlement &now, RowId id) {
+std::vector<Said> reasons(const Settlement &before, const Settlement &now, RowId id, const Namer &name_of) {
     const auto line_before = before.statement.of(id), line_now = now.statement.of(id);
     if (!line_before || !line_now) {
         return {{Word::absent, {number(id)}}};
@@ -180,16 +180,16 @@ std::vector<Said> reasons(const Settlement &before, const Settlement &now, RowId
     for (const Changed &row : side_by_side(before, now)) {
         if (row.is_any() && row.now.id == id) {
             is_own = true;
-            add_change(all, row);
+            add_change(all, row, name_of);
         } else if (row.is_any()) {
             others.push_back(row);
         }
     }
-    add_changes(all, others);
+    add_changes(all, others, name_of);
     if (all.empty()) {
         all.push_back(Word::change_nothing);
     } else if (!is_own) {
-        add_effects(all, before, now, others, {*line_before, *line_now});
+        add_effects(all, before, now, others, {*line_before, *line_now}, name_of);
     }
     const Fen net_before = line_before->net(), net_now = line_now->net();
     all.push_back(net_before == net_now ? Said(Word::void_same, {amount_of(net_now)})

@@ -6,6 +6,7 @@
 #include "wheatrudder.h"
 
 #include <algorithm>
+#include <string_view>
 
 namespace client {
 
@@ -13,7 +14,7 @@ namespace {
 
 const char *const names_file = "plants.csv";
 
-Form form_of(Known known) {
+Form form_as(Known known) {
     switch (known) {
     case Known::text:
         return Form::text;
@@ -28,27 +29,13 @@ Form form_of(Known known) {
 }
 
 Form form_by_mark(View bytes) {
-    if (bytes.empty()) {
-        return Form::empty;
+    if (const auto form = form_of(bytes)) {
+        return *form == interval_form ? Form::interval : *form == correction_form ? Form::correction : Form::statement;
     }
-    if (bytes.size() < 2 || bytes[0] != 'P') {
-        return Form::unknown;
-    }
-    switch (bytes[1]) {
-    case 'H':
-        return Form::interval;
-    case 'K':
-        return Form::correction;
-    case 'S':
-        return Form::statement;
-    case 'G':
-    case 'T':
-    case 'U':
-    case 'W':
-        return Form::coming;
-    default:
-        return Form::unknown;
-    }
+    constexpr std::string_view coming = "GTUW";
+    const bool is_coming =
+        bytes.size() > 1 && bytes[0] == 'P' && coming.find(static_cast<char>(bytes[1])) != std::string_view::npos;
+    return bytes.empty() ? Form::empty : is_coming ? Form::coming : Form::unknown;
 }
 
 // A list of names may be shorter than a head, if every line of it names a row.
@@ -67,7 +54,7 @@ std::size_t most_of(const std::string &path) {
 }
 
 // What is known is none of ours, whatever mark it begins with.
-Form form_of(const std::string &path, const Content &content, bool is_whole) {
+Form recognised(const std::string &path, const Content &content, bool is_whole) {
     const auto known = known_as({content.bytes, content.ending, is_whole});
     if (!known) {
         const Form form = form_by_mark(content.bytes);
@@ -76,7 +63,7 @@ Form form_of(const std::string &path, const Content &content, bool is_whole) {
     if (known == Known::text && path == names_file) {
         return Form::names;
     }
-    return known == Known::text && is_export(content.bytes) ? Form::exported : form_of(*known);
+    return known == Known::text && is_export(content.bytes) ? Form::exported : form_as(*known);
 }
 
 std::optional<Slot> slot_by_head(View bytes) {
@@ -87,11 +74,11 @@ std::optional<Slot> slot_by_head(View bytes) {
 }
 
 bool is_whole_statement(View bytes) {
-    if (bytes.size() < WHEATRUDDER_HEAD_LENGTH || !slot_by_head(bytes)) {
+    if (bytes.size() < statement_form.head || !slot_by_head(bytes)) {
         return false;
     }
     const Statement statement(Bytes(bytes.begin(), bytes.end()));
-    if (bytes.size() != WHEATRUDDER_STATEMENT_LENGTH(statement.rows())) {
+    if (bytes.size() != statement_form.length(statement.rows())) {
         return false;
     }
     const auto lines = statement.lines();

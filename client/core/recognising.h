@@ -9,7 +9,7 @@ namespace client {
 std::size_t most_of(const std::string &path);
 
 // The form of a file that was read; `is_whole` where it was read to its end.
-Form form_of(const std::string &path, const Content &content, bool is_whole);
+Form recognised(const std::string &path, const Content &content, bool is_whole);
 
 // Day by bytes 2 to 5, quarter by byte 6, where both are within their ranges.
 std::optional<Slot> slot_by_head(View bytes);

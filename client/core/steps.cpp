@@ -18,7 +18,7 @@ void Steps::end(Word word, std::vector<Hole> holes, Fen amount) {
 
 void Steps::tell() {
     role();
-    switch (role_of(row())) {
+    switch (role_here()) {
     case Role::payer:
         share();
         break;
@@ -35,9 +35,9 @@ void Steps::tell() {
 }
 
 void Steps::role() {
-    const std::vector<Hole> load_of_unit{load(row()), text(row().metered), text(row().at_percent(50))};
+    const std::vector<Hole> load_of_unit{load_of(row(), 0, 3), text(row().metered), baseline(row(), rules())};
     const bool is_thermal = row().kind == Kind::thermal;
-    switch (role_of(row())) {
+    switch (role_here()) {
     case Role::payer:
         return is_thermal ? say(Word::role_thermal_pays, load_of_unit)
                           : say(Word::role_renewable_pays, {Said(kind_word(row().kind))});
@@ -71,7 +71,7 @@ void Steps::leftover(const Sharing &sharing, Word gets_one_more) {
         say(Word::fen, {quota, text(sharing.left), rank, of, outcome}, share);
     }
     if (sharing.is_decided_by_turn(*part)) {
-        say(Word::fen_turn, {number(quarter_.rows[quarter_.turns.first()].id)});
+        say(Word::fen_turn, {called_within(quarter_.rows[quarter_.turns.first()].id, name_of_)});
     }
 }
 

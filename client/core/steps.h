@@ -9,7 +9,8 @@ namespace client {
 // The steps of one row, as they are told.
 class Steps {
   public:
-    Steps(const Workings &quarter, std::size_t position) : quarter_(quarter), position_(position) {}
+    Steps(const Workings &quarter, std::size_t position, const Namer &name_of)
+        : quarter_(quarter), position_(position), name_of_(name_of) {}
 
     // Adds every part that the row has, and the result.
     void tell();
@@ -40,9 +41,14 @@ class Steps {
     // How a part of a sharing becomes whole fen, where it is none: what is left over, and whose turn it is.
     void leftover(const Sharing &sharing, Word gets_one_more);
 
+    const Rules &rules() const { return quarter_.rules; }
     const Row &row() const { return quarter_.rows[position_]; }
     const Line &line() const { return quarter_.lines[position_]; }
+    Calls calls() const { return {line().called, quarter_.prices}; }
+    Role role_here() const { return role_of(row(), rules()); }
     bool is_called() const { return line().called[0] > Kwh{0} || line().called[1] > Kwh{0}; }
+    // What it was called for in each tier, and where the tiers begin and end.
+    std::vector<Hole> calls_by_tier() const;
     // In how many rounds others reached their caps before the row did, if it did.
     std::size_t rounds_before() const { return line().closing > 0 ? line().closing - 1 : quarter_.rounds.size(); }
 
@@ -53,6 +59,7 @@ class Steps {
 
     const Workings &quarter_;
     std::size_t position_;
+    const Namer &name_of_;
     std::vector<Step> all_;
 };
 

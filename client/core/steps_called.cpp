@@ -4,24 +4,29 @@
 
 namespace client {
 
+std::vector<Hole> Steps::calls_by_tier() const {
+    return {text(line().called[0]), text(line().called[1]), std::to_string(rules().baseline),
+            std::to_string(rules().tier_2)};
+}
+
 void Steps::compensation() {
     if (!is_called()) {
         return say(Word::call_none);
     }
-    say(Word::call_paid, {text(line().called[0]), text(line().called[1])});
+    say(Word::call_paid, calls_by_tier());
     paid_tier(0);
     paid_tier(1);
-    const Due due = compensation_of(row(), line().called, quarter_.prices);
+    const Due due = compensation_of(row(), rules(), calls());
     say(Word::earned, {rounded_to_fen(due)}, text(line().compensation));
     cut();
 }
 
 void Steps::paid_tier(std::size_t tier) {
     const Said name = tier_word(tier);
-    const Kwh energy = held_back(row())[tier];
+    const Kwh energy = held_back(row(), rules())[tier];
     const bool is_called_here = line().called[tier] > Kwh{0};
     if (is_called_here && energy > Kwh{0}) {
-        const Due due = compensation_of(row(), line().called, quarter_.prices);
+        const Due due = compensation_of(row(), rules(), calls());
         const std::string earned = in_yuan(due.by_tier[tier]);
         return say(Word::tier_paid, {name, text(energy), text(quarter_.prices[tier]), earned}, earned);
     }
@@ -58,15 +63,15 @@ void Steps::cut() {
 void Steps::penalty() {
     if (!is_called()) {
         // A payer need not be told what it does not owe.
-        return role_of(row()) == Role::bystander ? say(Word::penalty_uncalled) : void();
+        return role_here() == Role::bystander ? say(Word::penalty_uncalled) : void();
     }
-    say(Word::penalty_why, {text(line().called[0]), text(line().called[1])});
+    say(Word::penalty_why, calls_by_tier());
     missing_tier(0);
     missing_tier(1);
     if (line().penalty == Fen{0}) {
         return say(Word::penalty_none);
     }
-    const Due due = penalty_of(row(), line().called, quarter_.prices);
+    const Due due = penalty_of(row(), rules(), calls());
     say(Word::penalty, {rounded_to_fen(due)}, text(line().penalty));
     returned();
 }
@@ -76,17 +81,20 @@ void Steps::missing_tier(std::size_t tier) {
     if (called == Kwh{0}) {
         return;
     }
-    const Kwh lacks = missing(row(), line().called)[tier];
+    const Kwh lacks = missing(row(), rules(), line().called)[tier];
     const Said name = tier_word(tier);
-    const std::string delivered = text(held_back(row())[tier]);
+    const std::string delivered = text(held_back(row(), rules())[tier]);
     if (lacks == Kwh{0}) {
         return say(Word::penalty_tier_none, {name, text(called), delivered});
     }
     if (quarter_.prices[tier] == Li{0}) {
         return say(Word::penalty_tier_free, {name, text(called), delivered, text(lacks)});
     }
-    const std::string owed = in_yuan(penalty_of(row(), line().called, quarter_.prices).by_tier[tier]);
-    say(Word::penalty_tier, {name, text(called), delivered, text(lacks), text(quarter_.prices[tier]), owed}, owed);
+    const std::string owed = in_yuan(penalty_of(row(), rules(), calls()).by_tier[tier]);
+    say(Word::penalty_tier,
+        {name, text(called), delivered, text(lacks), std::to_string(rules().penalty), text(quarter_.prices[tier]),
+         owed},
+        owed);
 }
 
 void Steps::returned() {

@@ -17,15 +17,16 @@ constexpr std::size_t last_rounds_told = 2;
 
 void Steps::share() {
     if (is_called() && !is_liable(row())) {
-        say(Word::call_above, {text(line().called[0]), text(line().called[1])});
+        say(Word::call_above, {text(line().called[0]), text(line().called[1]), std::to_string(rules().baseline)});
     }
     if (quarter_.total == Fen{0}) {
         return say(Word::share_nothing);
     }
     if (line().weight == Kwh{0}) {
-        return say(row().kind == Kind::thermal ? Word::weight_half : Word::weight_still);
+        return row().kind == Kind::thermal ? say(Word::weight_baseline, {baseline(row(), rules())})
+                                           : say(Word::weight_still);
     }
-    say(Word::share_total, {text(quarter_.total)}, text(quarter_.total));
+    say(Word::share_total, {std::to_string(rules().baseline), text(quarter_.total)}, text(quarter_.total));
     weight();
     cap();
     if (line().cap == Fen{0}) {
@@ -44,13 +45,25 @@ void Steps::weight() {
     if (row().kind != Kind::thermal) {
         return say(Word::weight_renewable, {text(line().weight)});
     }
-    const auto [once, twice, thrice] = bands_of(row());
-    say(Word::weight_thermal, {text(once), text(twice), text(thrice), text(line().weight)});
+    std::vector<Hole> holes{std::to_string(rules().baseline)};
+    for (const int end : rules().band_ends) {
+        holes.emplace_back(std::to_string(end));
+    }
+    for (const int factor : rules().factors) {
+        holes.emplace_back(std::to_string(factor));
+    }
+    for (const Kwh energy : bands_of(row(), rules())) {
+        holes.emplace_back(text(energy));
+    }
+    holes.emplace_back(text(line().weight));
+    say(Word::weight_thermal, holes);
 }
 
 void Steps::cap() {
-    const Word word = row().kind == Kind::thermal ? Word::cap_thermal : Word::cap_renewable;
-    say(word, {text(row().metered), text(quarter_.tariff), cut_to_fen(cap_of(row(), quarter_.tariff))},
+    const Ratio &part = rules().cap_part(row().kind);
+    say(Word::cap,
+        {text(row().metered), text(rules().tariff), decimal(part.numerator, part.denominator, 0, 3),
+         cut_to_fen(cap_of(row(), rules()))},
         text(line().cap));
 }
 
@@ -72,7 +85,8 @@ void Steps::others(const Round &round, std::size_t number_of_round) {
         ids.push_back(quarter_.rows[position].id);
     }
     say(ids.size() == 1 ? Word::share_others_one : Word::share_others,
-        {std::to_string(number_of_round), listed(ids), text(round.caps), text(round.left), text(round.left_weight)},
+        {std::to_string(number_of_round), listed(ids, name_of_), text(round.caps), text(round.left),
+         text(round.left_weight)},
         text(round.left));
 }
 
@@ -89,7 +103,7 @@ void Steps::others(std::size_t from, std::size_t to) {
     std::sort(ids.begin(), ids.end());
     const Round &last = quarter_.rounds[to - 1];
     say(Word::share_rounds,
-        {std::to_string(from + 1), std::to_string(to), listed(ids), text(caps), text(last.left),
+        {std::to_string(from + 1), std::to_string(to), listed(ids, name_of_), text(caps), text(last.left),
          text(last.left_weight)},
         text(last.left));
 }

@@ -1,5 +1,7 @@
 #include "view.h"
 
+#include "rules.h"
+
 #include "wheatrudder.h"
 
 #include <algorithm>
@@ -10,7 +12,7 @@ namespace {
 
 // The plant at a place of an accepted interval file, counted from 0. A correction changes neither kind nor capacity.
 Plant plant_at(View interval, std::size_t index) {
-    const std::uint8_t *at = interval.data() + interval_head + index * WHEATRUDDER_ROW_LENGTH;
+    const std::uint8_t *at = interval.data() + rules_of(interval).form.length(index);
     return {{wheatrudder_u16(at + 2)}, static_cast<Kind>(wheatrudder_u8(at + 4)), wheatrudder_u16(at + 5)};
 }
 
@@ -175,13 +177,12 @@ std::optional<Said> outdated(const Reading &reading, Slot slot, RowId id) {
     return told;
 }
 
+Namer names_of(const Reading &reading) {
+    return [&reading](RowId id, Tongue tongue) { return reading.names.of(id, tongue); };
+}
+
 Said plant_name(const Reading &reading, RowId id) {
-    const std::string number = std::to_string(id.number);
-    const std::string english = reading.names.of(id, Tongue::english);
-    if (english.empty()) {
-        return {Word::row, {number}};
-    }
-    return {Word::row_named, {number, Hole(english, reading.names.of(id, Tongue::chinese))}};
+    return called(id, names_of(reading));
 }
 
 } // namespace client

@@ -3,6 +3,7 @@
 #pragma once
 
 #include "fields.h"
+#include "named.h"
 #include "reading.h"
 
 #include <optional>
@@ -67,6 +68,8 @@ std::vector<Said> outdated(const Reading &reading, Day day, RowId id);
 // The same for one quarter; none where there is none.
 std::optional<Said> outdated(const Reading &reading, Slot slot, RowId id);
 
+// The names that the reading has, for as long as there is the reading.
+Namer names_of(const Reading &reading);
 // "Row 753", or its name and its id where it has one.
 Said plant_name(const Reading &reading, RowId id);
 

@@ -1,6 +1,6 @@
 #include "workings.h"
 
-#include "wheatrudder.h"
+#include "balance.h"
 
 #include <algorithm>
 #include <optional>
@@ -13,16 +13,16 @@ using Failed = std::optional<Said>;
 
 bool has_whole_lines(const Statement &statement) {
     const std::size_t length = statement.bytes().size();
-    return length >= WHEATRUDDER_HEAD_LENGTH && length == WHEATRUDDER_STATEMENT_LENGTH(statement.rows());
+    return length >= statement_form.head && length == statement_form.length(statement.rows());
 }
 
 // The stages of a quarter, each of which works something out and checks it. Of the statement only calls and prices are
 // taken over; every other figure of it is only compared, so that no stage depends on a figure that may be wrong.
 class Work {
   public:
-    Work(const Statement &statement, const std::vector<Row> &rows, Hao tariff) : statement_(statement) {
+    Work(const Statement &statement, const std::vector<Row> &rows, const Rules &rules) : statement_(statement) {
         is_.rows = rows;
-        is_.tariff = tariff;
+        is_.rules = rules;
     }
 
     std::variant<Workings, Said> done() {
@@ -74,38 +74,19 @@ Failed Work::read() {
     return fits ? Failed() : Word::check_rows;
 }
 
-// The statement's own sums, before anything is worked out: nobody gains and nobody loses on the whole.
+// The statement's own sums, before anything is worked out.
 Failed Work::add_up() {
-    Wide compensations = 0, cuts = 0, payments = 0, penalties = 0, returned = 0;
-    for (const Line &line : is_.lines) {
-        compensations += line.compensation.count;
-        cuts += line.cut.count;
-        payments += line.paid.count;
-        penalties += line.penalty.count;
-        returned += line.returned.count;
-    }
-    const Wide total = statement_.total().count;
-    const Wide shortfall = statement_.shortfall().count;
-    const Wide filled = std::min(shortfall, penalties);
-    if (compensations != total) {
-        return Word::check_total;
-    }
-    if (payments + shortfall != total) {
-        return Word::check_covered;
-    }
-    if (cuts != shortfall - filled) {
-        return Word::check_cuts;
-    }
-    return returned == penalties - filled ? Failed() : Word::check_returns;
+    const auto failed = imbalance(statement_);
+    return failed ? Failed(*failed) : Failed();
 }
 
 Failed Work::weigh() {
     for (std::size_t position = 0; position < count(); ++position) {
-        const Kwh weight = weight_of(is_.rows[position]);
+        const Kwh weight = weight_of(is_.rows[position], is_.rules);
         if (is_.lines[position].weight != weight) {
             return of_row(Word::check_weight, position);
         }
-        if (is_.lines[position].cap != cap_of(is_.rows[position], is_.tariff).cut()) {
+        if (is_.lines[position].cap != cap_of(is_.rows[position], is_.rules).cut()) {
             return of_row(Word::check_cap, position);
         }
         if (weight > Kwh{0}) {
@@ -119,7 +100,7 @@ Failed Work::weigh() {
 Failed Work::earn() {
     for (std::size_t position = 0; position < count(); ++position) {
         const Line &line = is_.lines[position];
-        if (line.compensation != compensation_of(is_.rows[position], line.called, is_.prices).rounded()) {
+        if (line.compensation != compensation_of(is_.rows[position], is_.rules, {line.called, is_.prices}).rounded()) {
             return of_row(Word::check_compensation, position);
         }
         is_.total += line.compensation;
@@ -130,7 +111,7 @@ Failed Work::earn() {
 Failed Work::owe() {
     for (std::size_t position = 0; position < count(); ++position) {
         const Line &line = is_.lines[position];
-        if (line.penalty != penalty_of(is_.rows[position], line.called, is_.prices).rounded()) {
+        if (line.penalty != penalty_of(is_.rows[position], is_.rules, {line.called, is_.prices}).rounded()) {
             return of_row(Word::check_penalty, position);
         }
         is_.penalties += line.penalty;
@@ -243,8 +224,8 @@ Failed Work::cover() {
 
 } // namespace
 
-std::variant<Workings, Said> work_out(const Statement &statement, const std::vector<Row> &rows, Hao tariff) {
-    return Work(statement, rows, tariff).done();
+std::variant<Workings, Said> work_out(const Statement &statement, const std::vector<Row> &rows, const Rules &rules) {
+    return Work(statement, rows, rules).done();
 }
 
 } // namespace client

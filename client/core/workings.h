@@ -27,7 +27,7 @@ struct Workings {
     std::vector<Line> lines; // the statement's
     std::vector<Row> rows;
     std::array<Li, 2> prices;
-    Hao tariff;
+    Rules rules;
     Turns turns;
     Fen total;
     Kwh weight; // of all payers
@@ -44,6 +44,6 @@ struct Workings {
 };
 
 // The workings, or the first check that the statement does not pass. Any bytes may stand in the statement.
-std::variant<Workings, Said> work_out(const Statement &statement, const std::vector<Row> &rows, Hao tariff);
+std::variant<Workings, Said> work_out(const Statement &statement, const std::vector<Row> &rows, const Rules &rules);
 
 } // namespace client

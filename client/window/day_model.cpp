@@ -1,6 +1,7 @@
 #include "day_model.h"
 
 #include "cell_delegate.h"
+#include "duties.h"
 #include "look.h"
 #include "shown.h"
 
@@ -42,20 +43,12 @@ bool is_text(const Column &column) {
     return column == Column(Own::time) || column == Column(Own::note);
 }
 
-std::string load_text(const Row &row) {
-    constexpr int kwh_of_mw = 250;
-    if (row.kind != Kind::thermal || row.capacity == 0) {
-        return {};
-    }
-    return decimal(static_cast<Wide>(row.metered.count) * 100, static_cast<Wide>(row.capacity) * kwh_of_mw, 1, 1);
-}
-
 std::string own_text(const PlantQuarter &quarter, Own own) {
     if (!quarter.row) {
         return {};
     }
     return own == Own::metered ? text(quarter.row->metered)
-           : own == Own::load  ? load_text(*quarter.row)
+           : own == Own::load  ? load_of(*quarter.row, 1, 1)
                                : std::string();
 }
 

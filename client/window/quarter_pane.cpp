@@ -267,7 +267,8 @@ void QuarterPane::show_reservations(const At &at) {
 void QuarterPane::show_correction(const At &at, const std::vector<Row> &rows) {
     const std::vector<Row> rows_before = counting_rows(at.reading.interval(at.read), {}, *at.read.before);
     QStringList sentences;
-    for (const Said &reason : reasons({*at.read.before, rows_before}, {*at.read.statement, rows}, at.id)) {
+    for (const Said &reason :
+         reasons({*at.read.before, rows_before}, {*at.read.statement, rows}, at.id, names_of(at.reading))) {
         sentences.append(words(reason, at.tongue));
     }
     reasons_heading_->setText(words(Word::quarter_changed, at.tongue));
@@ -304,8 +305,8 @@ void QuarterPane::show_comparison(const At &at, const Row &row_before, const Row
 
 // The steps as a bill; none where they do not come to the statement's fen.
 void QuarterPane::show_steps(const At &at, const std::vector<Row> &rows) {
-    const Hao tariff = terms_of(at.reading.interval(at.read)).tariff;
-    const auto explained = explain(*at.read.statement, rows, tariff, at.id, plant_name(at.reading, at.id));
+    const Rules rules = rules_of(at.reading.interval(at.read));
+    const auto explained = explain(*at.read.statement, rows, rules, at.id, names_of(at.reading));
     if (const auto *disagreement = std::get_if<Disagreement>(&explained)) {
         if (const auto line = at.read.statement->of(at.id)) {
             name(steps_, question_of(*line), at.tongue);

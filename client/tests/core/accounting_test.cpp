@@ -62,7 +62,7 @@ fs::path whole_day(Drawer &drawer) {
 Form form_of_text(const std::string &text, const std::string &path = "x") {
     const Bytes bytes = bytes_of(text);
     const std::size_t tail = std::min(bytes.size(), ending_length);
-    return form_of(path, {bytes, {bytes.end() - static_cast<std::ptrdiff_t>(tail), bytes.end()}, {}, true}, true);
+    return recognised(path, {bytes, {bytes.end() - static_cast<std::ptrdiff_t>(tail), bytes.end()}, {}, true}, true);
 }
 
 // The front and the end of a zip archive, and something between.

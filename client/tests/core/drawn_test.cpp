@@ -34,11 +34,9 @@ std::optional<Bytes> next_file(std::istream &in) {
 struct Quarter {
     Statement statement;
     std::vector<Row> rows;
-    Hao tariff;
+    Rules rules;
 
-    std::variant<Explanation, Disagreement> explained(RowId id) const {
-        return explain(statement, rows, tariff, id, {Word::row, {std::to_string(id.number)}});
-    }
+    std::variant<Explanation, Disagreement> explained(RowId id) const { return explain(statement, rows, rules, id); }
 };
 
 std::optional<Quarter> settled(const Bytes &interval, const Bytes &correction) {
@@ -47,7 +45,7 @@ std::optional<Quarter> settled(const Bytes &interval, const Bytes &correction) {
         return std::nullopt;
     }
     const Statement &statement = std::get<Statement>(answer);
-    return Quarter{statement, counting_rows(interval, correction, statement), terms_of(interval).tariff};
+    return Quarter{statement, counting_rows(interval, correction, statement), rules_of(interval)};
 }
 
 struct Tally {
@@ -168,7 +166,7 @@ class Moving {
     Bytes copy() const { return {quarter_.statement.bytes().begin(), quarter_.statement.bytes().end()}; }
 
     void demand_notice(const std::string &kind, const Bytes &bytes) {
-        const Quarter moved{Statement(bytes), quarter_.rows, quarter_.tariff};
+        const Quarter moved{Statement(bytes), quarter_.rows, quarter_.rules};
         const auto answer = moved.explained(lines_[below(lines_.size())].id);
         check::holds(std::holds_alternative<Disagreement>(answer), "not noticed: " + kind);
         check_sentence(std::get<Disagreement>(answer).check);

@@ -102,22 +102,18 @@ Bytes read(const std::string &path) {
 struct Settled {
     Statement statement;
     std::vector<Row> rows;
-    Hao tariff;
+    Rules rules;
 };
 
 Settled settled(const Bytes &interval, const Bytes &correction = {}) {
     const auto answer = settle(interval, correction);
     check::holds(std::holds_alternative<Statement>(answer), "the files are refused");
     const Statement &statement = std::get<Statement>(answer);
-    return {statement, counting_rows(interval, correction, statement), terms_of(interval).tariff};
+    return {statement, counting_rows(interval, correction, statement), rules_of(interval)};
 }
 
-Said name_of(RowId id) {
-    return {Word::row, {std::to_string(id.number)}};
-}
-
-std::string explained(const Settled &settled, RowId id) {
-    const auto answer = explain(settled.statement, settled.rows, settled.tariff, id, name_of(id));
+std::string explained(const Settled &settled, RowId id, const Namer &name_of) {
+    const auto answer = explain(settled.statement, settled.rows, settled.rules, id, name_of);
     if (const auto *disagreement = std::get_if<Disagreement>(&answer)) {
         check::holds(false, disagreement->check.in(Tongue::english));
     }
@@ -128,19 +124,20 @@ std::string explained(const Settled &settled, RowId id) {
 class Book {
   public:
     // Rows that are left out are like others that are in.
-    void add(const std::string &title, const Bytes &interval, const std::vector<std::uint16_t> &ids) {
+    void add(const std::string &title, const Bytes &interval, const std::vector<std::uint16_t> &ids,
+             const Namer &name_of = {}) {
         const Settled quarter = settled(interval);
         for (const std::uint16_t id : ids) {
-            text_ += "=== " + title + ", row " + std::to_string(id) + "\n\n" + explained(quarter, {id}) + "\n";
+            text_ += "=== " + title + ", row " + std::to_string(id) + "\n\n" + explained(quarter, {id}, name_of) + "\n";
         }
     }
 
     void add_reasons(const std::string &title, const Bytes &interval, const Bytes &correction,
-                     const std::vector<std::uint16_t> &ids) {
+                     const std::vector<std::uint16_t> &ids, const Namer &name_of = {}) {
         const Settled before = settled(interval), now = settled(interval, correction);
         for (const std::uint16_t id : ids) {
             text_ += "=== " + title + ", row " + std::to_string(id) + "\n";
-            const auto all = reasons({before.statement, before.rows}, {now.statement, now.rows}, {id});
+            const auto all = reasons({before.statement, before.rows}, {now.statement, now.rows}, {id}, name_of);
             for (const Tongue tongue : {Tongue::english, Tongue::chinese}) {
                 text_ += "\n";
                 for (const Said &reason : all) {
@@ -231,16 +228,22 @@ void add_penalties(Book &book) {
              {2, 3, 4});
 }
 
+const Unit large_seller{1, Kind::thermal, 2'000, 0, Status::normal, Offer{0, 320, 750}};
+
+Bytes many_rows_in_one_round() {
+    std::vector<Unit> units{large_seller};
+    for (std::uint16_t id = 2; id <= 13; ++id) {
+        units.push_back({id, Kind::wind, 2'000, 40'000u + id});
+    }
+    units.push_back({20, Kind::thermal, 2'000, 252'000});
+    units.push_back({21, Kind::thermal, 2'000, 250'001});
+    return interval({40, 400, 400'000}, units);
+}
+
 // Caps that are reached by many rows at once, and in many rounds.
 void add_many_rounds(Book &book) {
-    const Unit large_seller{1, Kind::thermal, 2'000, 0, Status::normal, Offer{0, 320, 750}};
-    std::vector<Unit> farms{large_seller}, units{large_seller};
-    for (std::uint16_t id = 2; id <= 13; ++id) {
-        farms.push_back({id, Kind::wind, 2'000, 40'000u + id});
-    }
-    farms.push_back({20, Kind::thermal, 2'000, 252'000});
-    farms.push_back({21, Kind::thermal, 2'000, 250'001});
-    book.add("Many rows in one round", interval({40, 400, 400'000}, farms), {13, 21});
+    book.add("Many rows in one round", many_rows_in_one_round(), {13, 21});
+    std::vector<Unit> units{large_seller};
     std::uint16_t id = 100;
     for (const std::uint32_t metered : {526'108u, 503'211u, 454'374u, 376'657u, 352'349u, 348'743u, 301'838u, 300'561u,
                                         290'610u, 284'976u, 283'203u, 282'499u, 255'334u, 250'768u}) {
@@ -275,27 +278,69 @@ void add_corrections(Book &book, const std::string &examples) {
     book.add_reasons("Many neighbours, one fewer", interval({9, 3'545, 3'000}, farms), correction(9, more), {10});
 }
 
-std::string check_failed(const Statement &statement, const std::vector<Row> &rows, Hao tariff, std::uint16_t id) {
-    const auto answer = explain(statement, rows, tariff, {id}, name_of({id}));
+// Rows 1 to 3 have names, the others have none.
+std::string name_in_folder(RowId id, Tongue tongue) {
+    switch (id.number) {
+    case 1:
+        return tongue == Tongue::english ? "Lower Power" : "下游电厂";
+    case 2:
+        return tongue == Tongue::english ? "Upper Power" : "上游电厂";
+    case 3:
+        return tongue == Tongue::english ? "North Wind" : "北坡风电场";
+    default:
+        return {};
+    }
+}
+
+// Names where a step or a reason speaks of a neighbour: one, a few with and without names, and many.
+void add_names(Book &book, const std::string &examples) {
+    Bytes x = read(examples + "/x.interval");
+    x[7] = 1'200 % 256;
+    x[8] = 1'200 / 256;
+    book.add("Interval X at tariff 1200 with names", x, {3}, name_in_folder);
+    const Bytes two = read(examples + "/tell/two-at-once.interval");
+    book.add("two-at-once with names", two, {4}, name_in_folder);
+    book.add("two-at-once with one name", two, {4},
+             [](RowId id, Tongue tongue) { return id == RowId{3} ? name_in_folder(id, tongue) : std::string(); });
+    book.add("Many rows in one round, three with names", many_rows_in_one_round(), {21}, name_in_folder);
+    book.add("odd-fen with names", read(examples + "/tell/odd-fen.interval"), {4}, name_in_folder);
+    book.add_reasons("Interval X with its correction and names", read(examples + "/x.interval"),
+                     read(examples + "/x.correction"), {2, 3}, name_in_folder);
+    const Unit high{2, Kind::thermal, 100, 20'000}, wind{3, Kind::wind, 100, 5'000}, solar{4, Kind::solar, 100, 5'000};
+    const Unit stopped{2, Kind::thermal, 100, 20'000, Status::accident}, less{4, Kind::solar, 100, 4'000};
+    const Unit windier{3, Kind::wind, 100, 6'000};
+    book.add_reasons("A neighbour's meter with names", interval({9, 3'545, 3'000}, {seller, high, wind}),
+                     correction(9, {windier}), {2}, name_in_folder);
+    book.add_reasons("A neighbour with a name and one without",
+                     interval({9, 3'545, 3'000}, {seller, high, wind, solar}), correction(9, {stopped, less}), {3},
+                     name_in_folder);
+}
+
+std::string check_failed(const Statement &statement, const std::vector<Row> &rows, const Rules &rules,
+                         std::uint16_t id) {
+    const auto answer = explain(statement, rows, rules, {id}, name_in_folder);
     const auto *disagreement = std::get_if<Disagreement>(&answer);
     return disagreement == nullptr ? "none" : disagreement->check.in(Tongue::english);
 }
 
 // What is said where statement and rows do not fit: no figure is ever explained then.
 void check_disagreements(const std::string &examples) {
-    const auto [statement, rows, tariff] = settled(read(examples + "/x.interval"));
+    const auto [statement, rows, rules] = settled(read(examples + "/x.interval"));
     const Bytes bytes(statement.bytes().begin(), statement.bytes().end());
-    const auto failed = [&](const Bytes &altered) { return check_failed(Statement(altered), rows, tariff, 2); };
+    const auto failed = [&, &rows = rows, &rules = rules](const Bytes &altered) {
+        return check_failed(Statement(altered), rows, rules, 2);
+    };
+    Rules dearer = rules;
+    dearer.tariff += Hao{1};
     check::equal(failed(bytes), "none");
-    check::equal(check_failed(statement, rows, tariff, 4), "row 4 is not in the statement");
-    check::equal(check_failed(statement, rows, tariff + Hao{1}, 2), "cap of row 2");
-    check::equal(check_failed(statement, {rows[0], rows[1]}, tariff, 2),
-                 "rows of the files and lines of the statement");
-    check::equal(check_failed(statement, {rows[1], rows[0], rows[2]}, tariff, 2),
+    check::equal(check_failed(statement, rows, rules, 4), "row 4 is not in the statement");
+    check::equal(check_failed(statement, rows, dearer, 2), "cap of row 2");
+    check::equal(check_failed(statement, {rows[0], rows[1]}, rules, 2), "rows of the files and lines of the statement");
+    check::equal(check_failed(statement, {rows[1], rows[0], rows[2]}, rules, 2),
                  "rows of the files and lines of the statement");
     std::vector<Row> other = rows;
     other[2].metered += Kwh{1};
-    check::equal(check_failed(statement, other, tariff, 2), "weight of row 3");
+    check::equal(check_failed(statement, other, rules, 2), "weight of row 3");
     for (std::size_t length = 0; length < bytes.size(); ++length) {
         check::equal(failed(Bytes(bytes.begin(), bytes.begin() + static_cast<std::ptrdiff_t>(length))),
                      "length of the statement");
@@ -317,13 +362,13 @@ struct Moved {
 };
 
 void check_notices(const Bytes &interval, const std::vector<Moved> &all) {
-    const auto [statement, rows, tariff] = settled(interval);
+    const auto [statement, rows, rules] = settled(interval);
     for (const Moved &moved : all) {
         Bytes bytes(statement.bytes().begin(), statement.bytes().end());
         for (const auto &[place, by] : moved.places) {
             bytes[place] = static_cast<std::uint8_t>(bytes[place] + by);
         }
-        check::equal(check_failed(Statement(bytes), rows, tariff, 2), moved.notice);
+        check::equal(check_failed(Statement(bytes), rows, rules, 2), moved.notice);
     }
 }
 
@@ -386,6 +431,7 @@ int main(int count, char **words) {
     add_penalties(book);
     add_many_rounds(book);
     add_corrections(book, examples);
+    add_names(book, examples);
     if (count == 2) {
         std::cout << book.text();
         return 0;

@@ -32,8 +32,8 @@ def see_correction(desk, client):
 
     book = no_longer_valid(OWED, LATE_OWED)
     reasons = client.must_say(book).name
-    meter = next((line for line in reasons.splitlines() if line.startswith(english('meter', 101, '', '').split(':')[0])), None)
-    assert meter == english('meter', 101, '31,779', '25,423'), reasons
+    meter = next((line for line in reasons.splitlines() if line.startswith(english('meter', ROW, '', '').split(':')[0])), None)
+    assert meter == english('meter', ROW, '31,779', '25,423'), reasons
     heads, rows = client.table(english('quarter.compared'))
     assert heads == [english(f'quarter.{key}') for key in ('figure', 'before', 'now', 'change')], heads
     assert rows[-1] == [english('unit.of', english('figure.net'), english('unit.yuan')), f'−{OWED}', f'−{LATE_OWED}', '+1,126.60'], rows[-1]

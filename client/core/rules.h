@@ -1,0 +1,40 @@
+// The rules by which a quarter is settled, as the head of its interval file states them. The numbers of the rules stand
+// here and nowhere else: who works a figure out, or tells it, takes them from here. Articles are those of source
+// document 001.
+#pragma once
+
+#include "engine.h"
+
+#include <array>
+
+namespace client {
+
+struct Ratio {
+    int numerator = 0;
+    int denominator = 1; // above 0
+
+    friend bool operator==(const Ratio &, const Ratio &) = default;
+};
+
+struct Rules {
+    FileForm form; // of the interval file
+    Hao tariff;
+    // In percent of full load, from here to the bands.
+    int baseline = 0; // a thermal unit is paid below it, and pays from it upward (Articles 19 and 21)
+    int tier_2 = 0;   // where tier 1 ends and tier 2 begins (Article 25)
+    // A thermal unit's energy from the baseline to the first end, from there to the second, and above it; and how often
+    // each of these counts (Article 29).
+    std::array<int, 2> band_ends{};
+    std::array<int, 3> factors{};
+    // What part of the tariff a payer's cap is, for each kWh that it produced (Article 30).
+    Ratio thermal_cap, renewable_cap;
+    // What a kWh costs that was called and is missing, in clearing prices (Article 52).
+    int penalty = 0;
+
+    friend bool operator==(const Rules &, const Rules &) = default;
+    const Ratio &cap_part(Kind kind) const { return kind == Kind::thermal ? thermal_cap : renewable_cap; }
+};
+
+Rules rules_of(View accepted_interval);
+
+} // namespace client

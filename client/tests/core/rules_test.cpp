@@ -1,0 +1,282 @@
+// Rules other than those that the engine settles by today. Every figure here was worked out by hand from document 01
+// with 45 percent in the place of 50: 45, 40, 60 and 70 percent of 100 MW are 11,250, 10,000, 15,000 and 17,500 kWh.
+#include "check.h"
+#include "duties.h"
+#include "explain.h"
+
+using namespace client;
+
+namespace {
+
+void set(Bytes &bytes, std::size_t at, std::uint64_t number, std::size_t width) {
+    for (std::size_t place = 0; place < width; ++place) {
+        bytes.at(at + place) = static_cast<std::uint8_t>(number >> (8 * place));
+    }
+}
+
+// An interval file without rows, at 0.1300 yuan for each kWh.
+Bytes interval() {
+    Bytes bytes(interval_form.length(0));
+    bytes[0] = 'P', bytes[1] = 'H';
+    set(bytes, 7, 1'300, 2);
+    return bytes;
+}
+
+Rules rules_at(int baseline) {
+    Rules rules = rules_of(interval());
+    rules.baseline = baseline;
+    return rules;
+}
+
+Row thermal(std::int64_t metered, Status status = Status::normal, std::int64_t capacity = 100) {
+    return {{1}, Kind::thermal, capacity, {metered}, status};
+}
+
+void check_forms() {
+    const auto lengths = [](const Bytes &bytes) {
+        const auto form = form_of(bytes);
+        return form ? std::to_string(form->head) + " + " + std::to_string(form->row) : "none";
+    };
+    check::equal(lengths({'P', 'H'}), "15 + 21");
+    check::equal(lengths({'P', 'K', 0}), "9 + 21");
+    check::equal(lengths({'P', 'S'}), "39 + 42");
+    for (const Bytes &other : {Bytes{}, Bytes{'P'}, Bytes{'P', 'G'}, Bytes{'H', 'P'}, Bytes{'P', 'h'}, Bytes{'K'}}) {
+        check::equal(lengths(other), "none");
+    }
+    check::equal(interval_form.length(256), std::size_t{5'391});
+    check::equal(interval_form.head, std::size_t{15});
+    check::equal(correction_form.head, std::size_t{9});
+}
+
+// What a head PH means.
+void check_rules_as_issued() {
+    const Rules rules = rules_of(interval());
+    check::holds(rules.form == interval_form, "the form");
+    check::equal(rules.tariff.count, 1'300);
+    check::equal(rules.baseline, 50);
+    check::equal(rules.tier_2, 40);
+    check::holds(rules.band_ends == std::array{60, 70} && rules.factors == std::array{1, 2, 3}, "the weights");
+    check::holds(rules.thermal_cap == Ratio{1, 4} && rules.renewable_cap == Ratio{1, 2}, "the caps");
+    check::equal(rules.penalty, 2);
+}
+
+void check_roles() {
+    const Rules issued = rules_at(50), lower = rules_at(45);
+    const auto is = [](Role role, const Row &row, const Rules &rules) {
+        check::holds(role_of(row, rules) == role, "the role at " + text(row.metered));
+    };
+    is(Role::receiver, thermal(12'000), issued);
+    is(Role::payer, thermal(12'000), lower);
+    is(Role::payer, thermal(11'250), lower);
+    is(Role::receiver, thermal(11'249), lower);
+    is(Role::bystander, thermal(11'249, Status::starting), lower);
+    is(Role::payer, thermal(11'250, Status::reduced), lower);
+    is(Role::bystander, thermal(20'000, Status::accident), lower);
+    // 45 percent of 101 MW is 11,362.5 kWh, cut.
+    is(Role::payer, thermal(11'362, Status::normal, 101), lower);
+    is(Role::receiver, thermal(11'361, Status::normal, 101), lower);
+}
+
+void check_energies() {
+    const auto held = [](const Row &row, int baseline) {
+        const auto [first, second] = held_back(row, rules_at(baseline));
+        return text(first) + " " + text(second);
+    };
+    check::equal(held(thermal(9'000), 50), "2,500 1,000");
+    check::equal(held(thermal(9'000), 45), "1,250 1,000");
+    check::equal(held(thermal(11'000), 45), "250 0");
+    check::equal(held(thermal(11'250), 45), "0 0");
+    check::equal(held(thermal(11'361, Status::normal, 101), 45), "1 0");
+    const auto weight = [](std::int64_t metered, int baseline) {
+        return weight_of(thermal(metered), rules_at(baseline)).count;
+    };
+    check::equal(weight(20'000, 50), 15'000);
+    check::equal(weight(20'000, 45), 16'250);
+    check::equal(weight(11'249, 45), 0);
+    check::equal(weight(11'250, 45), 0);
+    check::equal(weight(11'251, 45), 1);
+    check::equal(weight(15'000, 45), 3'750);
+    check::equal(weight(15'001, 45), 3'752);
+    check::equal(weight(17'500, 45), 8'750);
+    check::equal(weight(17'501, 45), 8'753);
+}
+
+// Every other number of the rules, moved by itself.
+void check_other_numbers() {
+    Rules rules = rules_at(50);
+    rules.tier_2 = 35;
+    check::equal(held_back(thermal(9'000), rules)[0].count, 3'500);
+    check::equal(held_back(thermal(9'000), rules)[1].count, 0);
+    rules.band_ends = {70, 80};
+    check::equal(weight_of(thermal(20'000), rules).count, 5'000 + 2 * 2'500);
+    rules.factors = {2, 3, 4};
+    check::equal(weight_of(thermal(20'001), rules).count, 2 * 5'000 + 3 * 2'500 + 4 * 1);
+    const Row wind{{2}, Kind::wind, 100, {5'000}, Status::normal};
+    check::equal(cap_of(thermal(20'000), rules).cut().count, 65'000);
+    check::equal(cap_of(wind, rules).cut().count, 32'500);
+    rules.thermal_cap = {3, 4};
+    rules.renewable_cap = {4, 5};
+    check::equal(cap_of(thermal(20'000), rules).cut().count, 195'000);
+    check::equal(cap_of(wind, rules).cut().count, 52'000);
+    // 1,000 kWh are called and 500 held back.
+    const Row reduced = thermal(12'000, Status::reduced);
+    const Calls calls{{Kwh{1'000}, Kwh{0}}, {Li{200}, Li{0}}};
+    check::equal(penalty_of(reduced, rules, calls).rounded().count, 20'000);
+    rules.penalty = 3;
+    check::equal(penalty_of(reduced, rules, calls).rounded().count, 30'000);
+}
+
+void check_loads() {
+    check::equal(load_of(thermal(9'000), 0, 3), "36");
+    check::equal(load_of(thermal(9'000), 1, 1), "36.0");
+    check::equal(load_of(thermal(19'999), 1, 1), "79.9…");
+    check::equal(load_of(thermal(11'362, Status::normal, 101), 0, 3), "44.998…");
+    check::equal(load_of(thermal(0, Status::normal, 0), 1, 1), "");
+    check::equal(load_of({{2}, Kind::wind, 100, {5'000}, Status::normal}, 1, 1), "");
+}
+
+// A quarter under a baseline of 45 percent, by hand.
+//
+// Row 1 holds back 1,250 and 1,000 kWh: 250.00 + 400.00 yuan. Rows 2, 3 and 4 weigh 750, 16,250 and 5,000 kWh; row 5
+// stands at its baseline. 65,000 fen by 22,000 kWh are 2,215, 48,011 and 14,772 fen, with remainders of 20,000, 8,000
+// and 16,000: the two fen that are left go to rows 2 and 4. Row 6 lacks 1,000 of the 1,250 kWh that it was called for,
+// which cost 400.00 yuan; nobody needs them.
+struct Given {
+    Row row;
+    std::uint32_t called_1, called_2, compensation, weight, cap, paid, penalty, returned;
+};
+
+const std::vector<Given> quarter{
+    {{{1}, Kind::thermal, 100, {9'000}, Status::normal}, 1'250, 500, 65'000, 0, 0, 0, 0, 0},
+    {{{2}, Kind::thermal, 100, {12'000}, Status::normal}, 100, 0, 0, 750, 39'000, 2'216, 0, 0},
+    {{{3}, Kind::thermal, 100, {20'000}, Status::normal}, 0, 0, 0, 16'250, 65'000, 48'011, 0, 0},
+    {{{4}, Kind::wind, 100, {5'000}, Status::normal}, 0, 0, 0, 5'000, 32'500, 14'773, 0, 0},
+    {{{5}, Kind::thermal, 101, {11'362}, Status::normal}, 0, 0, 0, 0, 36'926, 0, 0, 0},
+    {{{6}, Kind::thermal, 100, {11'000}, Status::reduced}, 1'250, 0, 0, 0, 0, 0, 40'000, 40'000},
+};
+
+Statement statement() {
+    Bytes bytes(statement_form.length(quarter.size()));
+    set(bytes, WHEATRUDDER_HEAD_PRICE1, 200, 2);
+    set(bytes, WHEATRUDDER_HEAD_PRICE2, 400, 2);
+    set(bytes, WHEATRUDDER_HEAD_TOTAL, 65'000, 8);
+    set(bytes, WHEATRUDDER_HEAD_ROWS, quarter.size(), 2);
+    set(bytes, WHEATRUDDER_HEAD_VISITS, 3, 4);
+    for (std::size_t position = 0; position < quarter.size(); ++position) {
+        const Given &is = quarter[position];
+        const std::size_t line = statement_form.length(position);
+        set(bytes, line + WHEATRUDDER_LINE_ID, is.row.id.number, 2);
+        set(bytes, line + WHEATRUDDER_LINE_CALLED1, is.called_1, 4);
+        set(bytes, line + WHEATRUDDER_LINE_CALLED2, is.called_2, 4);
+        set(bytes, line + WHEATRUDDER_LINE_COMPENSATION, is.compensation, 4);
+        set(bytes, line + WHEATRUDDER_LINE_WEIGHT, is.weight, 4);
+        set(bytes, line + WHEATRUDDER_LINE_CAP, is.cap, 4);
+        set(bytes, line + WHEATRUDDER_LINE_PAID, is.paid, 4);
+        set(bytes, line + WHEATRUDDER_LINE_PENALTY, is.penalty, 4);
+        set(bytes, line + WHEATRUDDER_LINE_RETURNED, is.returned, 4);
+    }
+    return Statement(bytes);
+}
+
+std::variant<Explanation, Disagreement> explained(std::uint16_t id, int baseline) {
+    std::vector<Row> rows;
+    for (const Given &is : quarter) {
+        rows.push_back(is.row);
+    }
+    return explain(statement(), rows, rules_at(baseline), {id});
+}
+
+// Whether a row's steps have this sentence, in both tongues.
+void has(std::uint16_t id, const std::string &english, const std::string &chinese) {
+    const auto answer = explained(id, 45);
+    if (const auto *disagreement = std::get_if<Disagreement>(&answer)) {
+        check::holds(false, disagreement->check.in(Tongue::english));
+    }
+    const Explanation &explanation = std::get<Explanation>(answer);
+    for (const Step &step : explanation.steps) {
+        if (step.words.in(Tongue::english) == english) {
+            return check::equal(step.words.in(Tongue::chinese), chinese);
+        }
+    }
+    check::holds(false, "no step says: " + english + "\n" + as_text(explanation, Tongue::english));
+}
+
+void check_words() {
+    has(1,
+        "This thermal unit ran at 36 percent load: 9,000 kWh. That is below the baseline of 45 percent (11,250 kWh), "
+        "under which regulation is paid, so it can be paid (Article 21).",
+        "该火电机组负荷率 36%，电量 9,000 kWh，低于有偿调峰基准（45%，11,250 kWh），可获补偿（第二十一条）。");
+    has(1,
+        "It was called for 1,250 kWh in tier 1 (45 to 40 percent load) and 500 kWh in tier 2 (below 40). Where it was "
+        "called, it is paid for what it held back by the meter (Articles 26 and 27).",
+        "调用：第一档（负荷率 45%–40%）1,250 kWh，第二档（40% 以下）500 kWh。在被调用的档内，按计量得出的有偿调峰电量"
+        "予以补偿（第二十六、二十七条）。");
+    has(1, "Tier 1: held back 1,250 kWh × 0.200 yuan (clearing price) = 250.00 yuan (Articles 27 and 28).",
+        "第一档：有偿调峰电量 1,250 kWh × 出清价格 0.200 元 = 250.00 元（第二十七、二十八条）。");
+    has(2,
+        "This thermal unit ran at 48 percent load: 12,000 kWh. That is not below the baseline of 45 percent (11,250 "
+        "kWh), under which regulation is paid, so it shares in the cost (Articles 20 and 21).",
+        "该火电机组负荷率 48%，电量 12,000 kWh，不低于有偿调峰基准（45%，11,250 kWh），参与分摊（第二十、二十一条）。");
+    has(2,
+        "It was called for 100 kWh in tier 1 and 0 kWh in tier 2. But it did not go below the baseline of 45 percent, "
+        "so it is not paid for that (Article 27).",
+        "调用：第一档 100 kWh，第二档 0 kWh；但负荷率未低于有偿调峰基准（45%），不获补偿（第二十七条）。");
+    has(2,
+        "Thermal units that ran below the baseline of 45 percent earned 650.00 yuan in this quarter. The payers cover "
+        "this together (Article 29).",
+        "本时段低于有偿调峰基准（45%）的火电机组应获补偿合计 650.00 元，由各分摊方共同承担（第二十九条）。");
+    has(3,
+        "Weight: energy counts 1 × from 45 to 60 percent load, 2 × from 60 to 70, 3 × above 70, and not at all below "
+        "45. 1 × 3,750 + 2 × 2,500 + 3 × 2,500 = 16,250 kWh (Article 29).",
+        "修正后发电量：负荷率 45%–60% 部分计 1 倍，60%–70% 部分计 2 倍，70% 以上部分计 3 倍，45% 以下不计。"
+        "1 × 3,750 + 2 × 2,500 + 3 × 2,500 = 16,250 kWh（第二十九条）。");
+    has(5,
+        "It ran exactly at the baseline of 45 percent (11,362 kWh, rounded down), so its weight is 0 and it pays no "
+        "share (Article 29).",
+        "电量恰为有偿调峰基准（45%，11,362 kWh，舍去不足 1 kWh 的部分），修正后发电量为 0，不需分摊（第二十九条）。");
+    has(6,
+        "Tier 1: called 1,250 kWh, held back by the meter 250, missing 1,000. 1,000 kWh × 2 × 0.200 yuan (clearing "
+        "price) = 400.00 yuan (Article 52).",
+        "第一档：调用 1,250 kWh，按计量提供 250 kWh，减少 1,000 kWh。1,000 kWh × 2 × 出清价格 0.200 元 = 400.00 元"
+        "（第五十二条）。");
+}
+
+// The same statement does not fit the rules as they were issued, under which row 2 would be a receiver.
+void check_rules_count() {
+    for (const Given &is : quarter) {
+        const auto answer = explained(is.row.id.number, 50);
+        const auto *disagreement = std::get_if<Disagreement>(&answer);
+        check::equal(disagreement == nullptr ? "none" : disagreement->check.in(Tongue::english), "weight of row 2");
+    }
+}
+
+// Numbers of the rules stand in no sentence, but for terms of the help, which are about no quarter.
+void check_sentences() {
+    for (std::size_t word = 0; word < words_in_all; ++word) {
+        const std::string name(key(static_cast<Word>(word)));
+        if (name.starts_with("term.")) {
+            continue;
+        }
+        for (const Tongue tongue : {Tongue::english, Tongue::chinese}) {
+            const std::string line(raw(static_cast<Word>(word), tongue));
+            for (const char *number : {"half load", "一半", "40", "45", "50", "60", "70", "0.5", "0.25"}) {
+                check::holds(line.find(number) == line.npos, name + " has a number of the rules: " + line);
+            }
+        }
+    }
+}
+
+} // namespace
+
+int main() {
+    check_forms();
+    check_rules_as_issued();
+    check_roles();
+    check_energies();
+    check_other_numbers();
+    check_loads();
+    check_words();
+    check_rules_count();
+    check_sentences();
+    return check::passed("rules");
+}
