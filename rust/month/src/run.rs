@@ -3,15 +3,15 @@
 use std::io::{self, Write};
 
 use crate::calendar::Quarter;
-use crate::folder::{self, Found, Listing, MOST};
-use crate::pairing::{Belongs, Month, Source, belongs};
+use crate::folder::{self, Found, Listing, MOST, Unread};
+use crate::known::{What, what};
+use crate::names::otherwise;
+use crate::pairing::{Month, Source};
 use crate::progress::Bar;
 use crate::settling::{Outcome, alone, settle};
 use crate::statements::Statements;
 use crate::tally::{Kept, Tally};
-
-/// A list of plant names may lie in the folder; it labels rows for people and is no file to settle.
-const PLANTS: &str = "plants.csv";
+use crate::words::unaccounted;
 
 pub struct Run<W> {
     out: W,
@@ -23,9 +23,9 @@ pub struct Run<W> {
 }
 
 impl<W: Write> Run<W> {
-    pub fn new(out: W, statements: Option<Statements>) -> Run<W> {
+    pub fn new(out: W, bar: Bar, statements: Option<Statements>) -> Run<W> {
         let tally = Tally { statements: statements.as_ref().map(|_| Kept::default()), ..Tally::default() };
-        Run { out, bar: Bar::new(), tally, statements, buffer: [0; MOST] }
+        Run { out, bar, tally, statements, buffer: [0; MOST] }
     }
 
     /// Reads and settles what was listed, and prints what is to be said. It fails only where printing does.
@@ -46,8 +46,8 @@ impl<W: Write> Run<W> {
     }
 
     fn read_all(&mut self, listing: Listing) -> io::Result<Month> {
-        for (name, reason) in listing.unread {
-            self.not_read(&name, &reason)?;
+        for Unread { name, reason, is_folder } in listing.unread {
+            self.not_read(&name, &reason, is_folder)?;
         }
         let (mut month, all) = (Month::default(), listing.files.len());
         for (done, file) in listing.files.into_iter().enumerate() {
@@ -57,23 +57,38 @@ impl<W: Write> Run<W> {
         Ok(month)
     }
 
-    fn not_read(&mut self, name: &str, reason: &str) -> io::Result<()> {
+    fn not_read(&mut self, name: &str, reason: &str, is_folder: bool) -> io::Result<()> {
         self.tally.unread += 1;
-        self.say(&format!("{name}: not read: {reason}"))
+        let may = if is_folder { "hold" } else { "be" };
+        self.say(&format!(
+            "{name}: not read: {reason}; it may {may} a correction of any quarter, so no figure is final"
+        ))
     }
 
     /// Reads a file and puts it where it belongs.
     fn read(&mut self, month: &mut Month, Found { name, path }: Found) -> io::Result<()> {
         let content = match folder::read(&path) {
             Ok(content) => content,
-            Err(reason) => return self.not_read(&name, &reason.to_string()),
+            Err(reason) => return self.not_read(&name, &reason.to_string(), false),
         };
-        let copy = match belongs(&content.bytes) {
-            Belongs::Interval(quarter) => month.add_interval(quarter, Source { name: name.clone(), content }),
-            Belongs::Correction(quarter) => month.add_correction(quarter, Source { name: name.clone(), content }),
-            Belongs::Statement => return self.pass_over(),
-            Belongs::Nowhere if name == PLANTS => return self.pass_over(),
-            Belongs::Nowhere => return self.name_alone(&name, &content.bytes),
+        let what = what(&content);
+        if let Some(said) = path.file_name().and_then(|leaf| otherwise(leaf.as_encoded_bytes(), what)) {
+            self.tally.misnamed += 1;
+            self.say(&format!("{name}: {said}"))?;
+        }
+        let copy = match what {
+            What::Interval(Some(quarter)) => month.add_interval(quarter, Source { name: name.clone(), content }),
+            What::Correction(Some(quarter)) => month.add_correction(quarter, Source { name: name.clone(), content }),
+            _ if !content.steady => return self.leave(&name, "it changed while it was read"),
+            What::Statement { whole: true, .. } | What::Else(_) => {
+                self.tally.passed += 1;
+                return Ok(());
+            }
+            What::Statement { whole: false, .. } => return self.leave(&name, "a statement that is not whole"),
+            What::Interval(None) | What::Correction(None) | What::Coming | What::Unknown => {
+                let said = alone(&content.bytes, &mut self.buffer);
+                return self.leave(&name, &said);
+            }
         };
         match copy {
             Some(first) => {
@@ -84,15 +99,10 @@ impl<W: Write> Run<W> {
         }
     }
 
-    fn pass_over(&mut self) -> io::Result<()> {
-        self.tally.passed += 1;
-        Ok(())
-    }
-
-    fn name_alone(&mut self, name: &str, bytes: &[u8]) -> io::Result<()> {
+    /// Says of a file that it is of no quarter and not accounted for.
+    fn leave(&mut self, name: &str, what: &str) -> io::Result<()> {
         self.tally.nowhere += 1;
-        let said = alone(bytes, &mut self.buffer);
-        self.say(&format!("{name}: {said}"))
+        self.say(&format!("{name}: {}", unaccounted(what)))
     }
 
     fn settle_all(&mut self, month: &Month) -> io::Result<()> {
