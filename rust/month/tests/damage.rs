@@ -212,7 +212,7 @@ impl Folders {
             fs::write(&path, bytes).expect("written");
         }
         if let Damage::Closed = trial.damage {
-            fs::set_permissions(&path, Permissions::from_mode(0)).expect("closed");
+            fs::set_permissions(&path, Permissions::from_mode(0o000)).expect("closed");
             // The system's owner may read everything.
             done = File::open(&path).is_err();
         }
