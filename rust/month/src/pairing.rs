@@ -5,6 +5,7 @@ use std::collections::BTreeMap;
 
 use crate::calendar::Quarter;
 use crate::folder::Content;
+use crate::words::ANY;
 
 /// A file that belongs to a quarter.
 #[derive(Debug)]
@@ -66,10 +67,8 @@ impl Held {
         }
         if self.intervals.is_empty() {
             let stray = |file: &Source| {
-                format!(
-                    "{}: a correction for {quarter}, which has no interval file; if its head is damaged, it may be one of any quarter, so no figure is final",
-                    file.name
-                )
+                let missing = format!("{}: a correction for {quarter}, which has no interval file", file.name);
+                format!("{missing}; if its head is damaged, it may be {ANY}")
             };
             reasons.extend(self.corrections.iter().map(stray));
         }
@@ -142,7 +141,9 @@ mod tests {
         ];
         let said = held.hindrances(quarter(9_800, 9));
         assert!(said.len() == 3 && said.iter().zip(due).all(|(said, due)| said.starts_with(due)), "{said:?}");
-        assert!(said[1].ends_with("; if its head is damaged, it may be one of any quarter, so no figure is final"));
+        assert!(
+            said[1].ends_with("; if its head is damaged, it may be a correction of any quarter, so no figure is final")
+        );
     }
 
     #[test]

@@ -3,7 +3,7 @@
 use std::io::{self, Write};
 
 use crate::calendar::Quarter;
-use crate::folder::{self, Found, Listing, MOST, Unread};
+use crate::folder::{self, Content, Found, Listing, MOST, Unread};
 use crate::known::{What, what};
 use crate::names::otherwise;
 use crate::pairing::{Month, Source};
@@ -11,7 +11,7 @@ use crate::progress::Bar;
 use crate::settling::{Outcome, alone, settle};
 use crate::statements::Statements;
 use crate::tally::{Kept, Tally};
-use crate::words::unaccounted;
+use crate::words::{ANY, unaccounted};
 
 pub struct Run<W> {
     out: W,
@@ -60,19 +60,21 @@ impl<W: Write> Run<W> {
     fn not_read(&mut self, name: &str, reason: &str, is_folder: bool) -> io::Result<()> {
         self.tally.unread += 1;
         let may = if is_folder { "hold" } else { "be" };
-        self.say(&format!(
-            "{name}: not read: {reason}; it may {may} a correction of any quarter, so no figure is final"
-        ))
+        self.say(&format!("{name}: not read: {reason}; it may {may} {ANY}"))
     }
 
-    /// Reads a file and puts it where it belongs.
     fn read(&mut self, month: &mut Month, Found { name, path }: Found) -> io::Result<()> {
-        let content = match folder::read(&path) {
-            Ok(content) => content,
-            Err(reason) => return self.not_read(&name, &reason.to_string(), false),
-        };
+        let leaf = path.file_name().unwrap_or_default().as_encoded_bytes();
+        match folder::read(&path) {
+            Ok(content) => self.place(month, name, leaf, content),
+            Err(reason) => self.not_read(&name, &reason.to_string(), false),
+        }
+    }
+
+    /// Puts a file where it belongs, by its bytes, or says why it belongs nowhere. The leaf is its name as the system has it.
+    fn place(&mut self, month: &mut Month, name: String, leaf: &[u8], content: Content) -> io::Result<()> {
         let what = what(&content);
-        if let Some(said) = path.file_name().and_then(|leaf| otherwise(leaf.as_encoded_bytes(), what)) {
+        if let Some(said) = otherwise(leaf, what) {
             self.tally.misnamed += 1;
             self.say(&format!("{name}: {said}"))?;
         }
@@ -196,5 +198,61 @@ impl<W: Write> Run<W> {
                 self.say(&format!("the folder of statements could not be read: {reason}"))
             }
         }
+    }
+}
+
+#[cfg(test)]
+mod tests {
+    use super::Run;
+    use crate::folder::Content;
+    use crate::pairing::Month;
+    use crate::progress::Bar;
+    use crate::tally::Tally;
+
+    /// What is counted and printed of one file.
+    fn placed(name: &str, content: Content) -> (Tally, String) {
+        let mut run = Run::new(Vec::new(), Bar::none(), None);
+        run.place(&mut Month::default(), name.into(), name.as_bytes(), content).expect("printed");
+        (run.tally, String::from_utf8(run.out).expect("text"))
+    }
+
+    #[test]
+    fn what_changes_is_not_accounted_for_whatever_it_is() {
+        let no_rows = [b"PS".as_slice(), &[0; 37]].concat();
+        for bytes in [b"a text that is long enough".as_slice(), b"%PDF-1.4 and so on", &no_rows, b"PK", b"?", b""] {
+            let (tally, said) = placed("x", Content { steady: false, ..Content::whole(bytes) });
+            assert_eq!((tally.nowhere, tally.passed), (1, 0), "{bytes:?}");
+            assert!(said.starts_with("x: not accounted for: it changed while it was read; it may be "), "{said}");
+        }
+        for bytes in [b"a text that is long enough".as_slice(), b"%PDF-1.4 and so on", &no_rows] {
+            let (tally, said) = placed("x", Content::whole(bytes));
+            assert_eq!((tally.nowhere, tally.passed, said.as_str()), (0, 1, ""), "{bytes:?}");
+        }
+    }
+
+    #[test]
+    fn a_list_of_plants_is_text_or_not_accounted_for() {
+        let (tally, _) = placed("plants.csv", Content::whole("1,一号机,Unit 1\n".as_bytes()));
+        assert_eq!((tally.nowhere, tally.passed), (0, 1));
+        for bytes in [b"".as_slice(), b"1,a\n", b"1,a list with a byte\0 in it\n", b"PT,\n2,a list of a form to come\n"]
+        {
+            let (tally, said) = placed("plants.csv", Content::whole(bytes));
+            assert_eq!((tally.nowhere, tally.passed), (1, 0), "{bytes:?}");
+            assert!(said.starts_with("plants.csv: not accounted for: "), "{said}");
+        }
+        let (tally, said) = placed("plants.csv", Content::whole(b"PK\x48\x26\0\0\x09\0\0"));
+        assert_eq!((tally.nowhere, tally.passed, said.as_str()), (0, 0, ""), "a correction, whatever it is called");
+    }
+
+    #[test]
+    fn a_wrong_name_is_said_of_a_file_that_counts_or_is_known() {
+        let correction = Content::whole(b"PK\x48\x26\0\0\x09\0\0");
+        let (tally, said) = placed("2026-10-31-q12.correction", correction);
+        assert_eq!((tally.misnamed, tally.nowhere), (1, 0));
+        let due = "named for 2026-10-31-q12, but it is a correction for 2026-10-31-q09\n";
+        assert_eq!(said, format!("2026-10-31-q12.correction: {due}"));
+        let (tally, said) = placed("x.Interval", Content::whole(b"a text that is long enough"));
+        assert_eq!((tally.misnamed, tally.passed), (1, 1));
+        assert_eq!(said, "x.Interval: named as an interval file, but it is text\n");
     }
 }

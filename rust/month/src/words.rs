@@ -48,12 +48,12 @@ pub fn coming(bytes: &[u8]) -> &'static str {
     if is_coming(bytes) { " This version does not know this form." } else { "" }
 }
 
-/// What is said of anything that is not accounted for: what it is, and why that is trouble for every quarter.
+/// Why one file is trouble for every quarter: it may be, or hold, this.
+pub const ANY: &str = "a correction of any quarter, so no figure is final";
+
+/// What is said of a file that is not accounted for, whatever it is.
 pub fn unaccounted(what: &str) -> String {
-    format!(
-        "not accounted for: {}; it may be a correction of any quarter, so no figure is final",
-        what.trim_end_matches('.')
-    )
+    format!("not accounted for: {}; it may be {ANY}", what.trim_end_matches('.'))
 }
 
 /// A file name that can be printed on one line: what is no UTF-8, no letter that shows, or a backslash is escaped, so that two

@@ -379,9 +379,8 @@ fn a_damaged_file_never_leaves_other_figures_ready_to_book() {
         days += 1;
     }
     let Count { tried, left, ready } = count;
-    println!(
-        "{tried} damages of {days} days (seed {seed}): {ready} times ready to book, always rightly; {left} not tried here (files that may not be read)"
-    );
+    println!("{tried} damages of {days} days (seed {seed}): {ready} times ready to book, always rightly");
+    println!("{left} more not tried, since this user may read every file");
     assert!(ready > 0, "a damage that the engine accepts is among them");
 }
 
