@@ -46,6 +46,11 @@ fn days_of_month(year: u32, month: u32) -> u32 {
     }
 }
 
+/// Whether there is such a day in the calendar.
+pub fn is_date(year: u32, month: u32, day: u32) -> bool {
+    (1..=12).contains(&month) && (1..=days_of_month(year, month)).contains(&day)
+}
+
 /// Year, month and day of the month, these two counted from 1.
 fn date(mut left: u32) -> (u32, u32, u32) {
     let (mut year, mut month) = (2000, 1);
@@ -75,7 +80,7 @@ impl fmt::Display for Quarter {
 
 #[cfg(test)]
 mod tests {
-    use super::{Date, LAST_DAY, QUARTERS, Quarter, date};
+    use super::{Date, LAST_DAY, QUARTERS, Quarter, date, is_date};
 
     #[test]
     fn days_have_their_dates() {
@@ -109,8 +114,18 @@ mod tests {
             let ((year, month, before), after) = (date(day - 1), date(day));
             let next = [(year, month, before + 1), (year, month + 1, 1), (year + 1, 1, 1)];
             assert!(next.contains(&after), "{before:?} before {after:?}");
-            assert!(after.1 <= 12 && after.2 <= 31, "{after:?}");
+            assert!(is_date(after.0, after.1, after.2), "{after:?}");
         }
+    }
+
+    #[test]
+    fn days_that_are_not_in_the_calendar() {
+        for (year, month, day) in
+            [(2026, 0, 1), (2026, 13, 1), (2026, 1, 0), (2026, 4, 31), (2026, 2, 29), (2100, 2, 29)]
+        {
+            assert!(!is_date(year, month, day), "{year} {month} {day}");
+        }
+        assert!(is_date(2028, 2, 29) && is_date(0, 2, 29) && is_date(9_999, 12, 31));
     }
 
     #[test]

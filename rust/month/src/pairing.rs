@@ -4,33 +4,8 @@
 use std::collections::BTreeMap;
 
 use crate::calendar::Quarter;
-use crate::folder::{Content, MOST};
-
-/// Where a file belongs.
-#[derive(Clone, Copy, Debug, PartialEq, Eq)]
-pub enum Belongs {
-    Interval(Quarter),
-    Correction(Quarter),
-    /// A statement from elsewhere.
-    Statement,
-    /// It names no quarter: too short for that, out of range, or something else.
-    Nowhere,
-}
-
-/// Kind by the first two bytes, day by the next four, quarter by the seventh. Whether the rest is whole is for the engine to say:
-/// a file that is cut behind its seventh byte is still a file of that quarter.
-pub fn belongs(bytes: &[u8]) -> Belongs {
-    let quarter = match bytes {
-        [_, _, a, b, c, d, quarter, ..] => Quarter::new(u32::from_le_bytes([*a, *b, *c, *d]), *quarter),
-        _ => None,
-    };
-    match (bytes, quarter) {
-        ([b'P', b'S', ..], _) => Belongs::Statement,
-        ([b'P', b'H', ..], Some(quarter)) => Belongs::Interval(quarter),
-        ([b'P', b'K', ..], Some(quarter)) => Belongs::Correction(quarter),
-        _ => Belongs::Nowhere,
-    }
-}
+use crate::folder::Content;
+use crate::words::ANY;
 
 /// A file that belongs to a quarter.
 #[derive(Debug)]
@@ -75,7 +50,7 @@ fn add(held: &mut Vec<Source>, source: Source) -> Option<&str> {
 
 /// Whether two files are known to be equal: both were read to their ends, and stayed as they were meanwhile.
 fn equal(one: &Content, other: &Content) -> bool {
-    let whole = |content: &Content| content.steady && content.bytes.len() < MOST;
+    let whole = |content: &Content| content.steady && content.end.is_none();
     whole(one) && whole(other) && one.bytes == other.bytes
 }
 
@@ -91,8 +66,10 @@ impl Held {
             }
         }
         if self.intervals.is_empty() {
-            let stray =
-                |file: &Source| format!("{}: a correction for {quarter}, which has no interval file", file.name);
+            let stray = |file: &Source| {
+                let missing = format!("{}: a correction for {quarter}, which has no interval file", file.name);
+                format!("{missing}; if its head is damaged, it may be {ANY}")
+            };
             reasons.extend(self.corrections.iter().map(stray));
         }
         let moving = self.intervals.iter().chain(&self.corrections).filter(|file| !file.content.steady);
@@ -104,50 +81,16 @@ impl Held {
 
 #[cfg(test)]
 mod tests {
-    use super::{Belongs, Held, Month, Source, belongs};
+    use super::{Held, Month, Source};
     use crate::calendar::Quarter;
-    use crate::folder::{Content, MOST};
+    use crate::folder::{Content, END, MOST};
 
     fn quarter(day: u32, quarter: u8) -> Quarter {
         Quarter::new(day, quarter).expect("in range")
     }
 
-    fn head(mark: &[u8; 2], day: u32, quarter: u8) -> Vec<u8> {
-        [mark.as_slice(), &day.to_le_bytes(), &[quarter]].concat()
-    }
-
     fn source(name: &str, bytes: &[u8]) -> Source {
-        Source { name: name.into(), content: Content { bytes: bytes.to_vec(), steady: true } }
-    }
-
-    #[test]
-    fn kinds_and_quarters_are_read_from_seven_bytes() {
-        let (long, last) = (vec![0; 400], head(b"PH", 36_524, 95));
-        assert_eq!(belongs(&last), Belongs::Interval(quarter(36_524, 95)));
-        assert_eq!(belongs(&[last, long].concat()), Belongs::Interval(quarter(36_524, 95)));
-        assert_eq!(belongs(&head(b"PK", 0x0102, 7)), Belongs::Correction(quarter(258, 7)));
-        assert_eq!(belongs(b"PS"), Belongs::Statement);
-        assert_eq!(belongs(&head(b"PS", u32::MAX, 255)), Belongs::Statement);
-    }
-
-    #[test]
-    fn what_names_no_quarter_belongs_nowhere() {
-        let nowhere = [
-            head(b"PH", 36_525, 0),
-            head(b"PH", 0, 96),
-            head(b"PK", u32::MAX, 0),
-            head(b"PK", 0, 255),
-            head(b"PG", 0, 0),
-            head(b"pH", 0, 0),
-            head(b"HP", 0, 0),
-            head(b"PH", 0, 0)[..6].to_vec(),
-            head(b"PK", 0, 0)[..2].to_vec(),
-            b"P".to_vec(),
-            Vec::new(),
-        ];
-        for bytes in nowhere {
-            assert_eq!(belongs(&bytes), Belongs::Nowhere, "{bytes:?}");
-        }
+        Source { name: name.into(), content: Content::whole(bytes) }
     }
 
     #[test]
@@ -196,14 +139,18 @@ mod tests {
             "k: a correction for 2026-10-31-q09, which has no interval file",
             "l: a correction for 2026-10-31-q09, which has no interval file",
         ];
-        assert_eq!(held.hindrances(quarter(9_800, 9)), due);
+        let said = held.hindrances(quarter(9_800, 9));
+        assert!(said.len() == 3 && said.iter().zip(due).all(|(said, due)| said.starts_with(due)), "{said:?}");
+        assert!(
+            said[1].ends_with("; if its head is damaged, it may be a correction of any quarter, so no figure is final")
+        );
     }
 
     #[test]
     fn a_file_that_changes_is_equal_to_none_and_hinders() {
         let at = quarter(9_800, 9);
         let mut month = Month::default();
-        let moving = || Source { name: "m".into(), content: Content { bytes: b"PH".to_vec(), steady: false } };
+        let moving = || Source { name: "m".into(), content: Content { steady: false, ..Content::whole(b"PH") } };
         assert_eq!(month.add_interval(at, moving()), None);
         assert_eq!(month.quarters[&at].hindrances(at), ["m: changed while it was read; 2026-10-31-q09 is not settled"]);
         assert_eq!(month.add_interval(at, source("h", b"PH")), None);
@@ -214,9 +161,13 @@ mod tests {
     fn files_that_were_cut_are_not_known_to_be_equal() {
         let mut month = Month::default();
         let at = quarter(5, 1);
-        assert_eq!(month.add_interval(at, source("a", &[7; MOST])), None);
-        assert_eq!(month.add_interval(at, source("b", &[7; MOST])), None);
-        assert_eq!(month.add_interval(at, source("c", &[7; MOST - 1])), None);
-        assert_eq!(month.add_interval(at, source("d", &[7; MOST - 1])), Some("c"));
+        let cut = |name: &str| {
+            let content = Content { end: Some(vec![7; END]), ..Content::whole(&[7; MOST]) };
+            Source { name: name.into(), content }
+        };
+        assert_eq!(month.add_interval(at, cut("a")), None);
+        assert_eq!(month.add_interval(at, cut("b")), None);
+        assert_eq!(month.add_interval(at, source("c", &[7; MOST])), None);
+        assert_eq!(month.add_interval(at, source("d", &[7; MOST])), Some("c"));
     }
 }

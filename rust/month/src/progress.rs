@@ -14,8 +14,14 @@ pub struct Bar {
 }
 
 impl Bar {
-    pub fn new() -> Bar {
+    /// A bar where standard error is a terminal.
+    pub fn on_terminal() -> Bar {
         Bar { on: stderr().is_terminal(), columns: 0, drawn: None }
+    }
+
+    /// A bar that is never drawn.
+    pub fn none() -> Bar {
+        Bar { on: false, columns: 0, drawn: None }
     }
 
     /// Says how far a stage has come. It is drawn at most ten times a second.

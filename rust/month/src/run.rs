@@ -3,15 +3,15 @@
 use std::io::{self, Write};
 
 use crate::calendar::Quarter;
-use crate::folder::{self, Found, Listing, MOST};
-use crate::pairing::{Belongs, Month, Source, belongs};
+use crate::folder::{self, Content, Found, Listing, MOST, Unread};
+use crate::known::{What, what};
+use crate::names::otherwise;
+use crate::pairing::{Month, Source};
 use crate::progress::Bar;
 use crate::settling::{Outcome, alone, settle};
 use crate::statements::Statements;
 use crate::tally::{Kept, Tally};
-
-/// A list of plant names may lie in the folder; it labels rows for people and is no file to settle.
-const PLANTS: &str = "plants.csv";
+use crate::words::{ANY, unaccounted};
 
 pub struct Run<W> {
     out: W,
@@ -23,9 +23,9 @@ pub struct Run<W> {
 }
 
 impl<W: Write> Run<W> {
-    pub fn new(out: W, statements: Option<Statements>) -> Run<W> {
+    pub fn new(out: W, bar: Bar, statements: Option<Statements>) -> Run<W> {
         let tally = Tally { statements: statements.as_ref().map(|_| Kept::default()), ..Tally::default() };
-        Run { out, bar: Bar::new(), tally, statements, buffer: [0; MOST] }
+        Run { out, bar, tally, statements, buffer: [0; MOST] }
     }
 
     /// Reads and settles what was listed, and prints what is to be said. It fails only where printing does.
@@ -46,8 +46,8 @@ impl<W: Write> Run<W> {
     }
 
     fn read_all(&mut self, listing: Listing) -> io::Result<Month> {
-        for (name, reason) in listing.unread {
-            self.not_read(&name, &reason)?;
+        for Unread { name, reason, is_folder } in listing.unread {
+            self.not_read(&name, &reason, is_folder)?;
         }
         let (mut month, all) = (Month::default(), listing.files.len());
         for (done, file) in listing.files.into_iter().enumerate() {
@@ -57,23 +57,40 @@ impl<W: Write> Run<W> {
         Ok(month)
     }
 
-    fn not_read(&mut self, name: &str, reason: &str) -> io::Result<()> {
+    fn not_read(&mut self, name: &str, reason: &str, is_folder: bool) -> io::Result<()> {
         self.tally.unread += 1;
-        self.say(&format!("{name}: not read: {reason}"))
+        let may = if is_folder { "hold" } else { "be" };
+        self.say(&format!("{name}: not read: {reason}; it may {may} {ANY}"))
     }
 
-    /// Reads a file and puts it where it belongs.
     fn read(&mut self, month: &mut Month, Found { name, path }: Found) -> io::Result<()> {
-        let content = match folder::read(&path) {
-            Ok(content) => content,
-            Err(reason) => return self.not_read(&name, &reason.to_string()),
-        };
-        let copy = match belongs(&content.bytes) {
-            Belongs::Interval(quarter) => month.add_interval(quarter, Source { name: name.clone(), content }),
-            Belongs::Correction(quarter) => month.add_correction(quarter, Source { name: name.clone(), content }),
-            Belongs::Statement => return self.pass_over(),
-            Belongs::Nowhere if name == PLANTS => return self.pass_over(),
-            Belongs::Nowhere => return self.name_alone(&name, &content.bytes),
+        let leaf = path.file_name().unwrap_or_default().as_encoded_bytes();
+        match folder::read(&path) {
+            Ok(content) => self.place(month, name, leaf, content),
+            Err(reason) => self.not_read(&name, &reason.to_string(), false),
+        }
+    }
+
+    /// Puts a file where it belongs, by its bytes, or says why it belongs nowhere. The leaf is its name as the system has it.
+    fn place(&mut self, month: &mut Month, name: String, leaf: &[u8], content: Content) -> io::Result<()> {
+        let what = what(&content);
+        if let Some(said) = otherwise(leaf, what) {
+            self.tally.misnamed += 1;
+            self.say(&format!("{name}: {said}"))?;
+        }
+        let copy = match what {
+            What::Interval(Some(quarter)) => month.add_interval(quarter, Source { name: name.clone(), content }),
+            What::Correction(Some(quarter)) => month.add_correction(quarter, Source { name: name.clone(), content }),
+            _ if !content.steady => return self.leave(&name, "it changed while it was read"),
+            What::Statement { whole: true, .. } | What::Else(_) => {
+                self.tally.passed += 1;
+                return Ok(());
+            }
+            What::Statement { whole: false, .. } => return self.leave(&name, "a statement that is not whole"),
+            What::Interval(None) | What::Correction(None) | What::Coming | What::Unknown => {
+                let said = alone(&content.bytes, &mut self.buffer);
+                return self.leave(&name, &said);
+            }
         };
         match copy {
             Some(first) => {
@@ -84,15 +101,10 @@ impl<W: Write> Run<W> {
         }
     }
 
-    fn pass_over(&mut self) -> io::Result<()> {
-        self.tally.passed += 1;
-        Ok(())
-    }
-
-    fn name_alone(&mut self, name: &str, bytes: &[u8]) -> io::Result<()> {
+    /// Says of a file that it is of no quarter and not accounted for.
+    fn leave(&mut self, name: &str, what: &str) -> io::Result<()> {
         self.tally.nowhere += 1;
-        let said = alone(bytes, &mut self.buffer);
-        self.say(&format!("{name}: {said}"))
+        self.say(&format!("{name}: {}", unaccounted(what)))
     }
 
     fn settle_all(&mut self, month: &Month) -> io::Result<()> {
@@ -186,5 +198,61 @@ impl<W: Write> Run<W> {
                 self.say(&format!("the folder of statements could not be read: {reason}"))
             }
         }
+    }
+}
+
+#[cfg(test)]
+mod tests {
+    use super::Run;
+    use crate::folder::Content;
+    use crate::pairing::Month;
+    use crate::progress::Bar;
+    use crate::tally::Tally;
+
+    /// What is counted and printed of one file.
+    fn placed(name: &str, content: Content) -> (Tally, String) {
+        let mut run = Run::new(Vec::new(), Bar::none(), None);
+        run.place(&mut Month::default(), name.into(), name.as_bytes(), content).expect("printed");
+        (run.tally, String::from_utf8(run.out).expect("text"))
+    }
+
+    #[test]
+    fn what_changes_is_not_accounted_for_whatever_it_is() {
+        let no_rows = [b"PS".as_slice(), &[0; 37]].concat();
+        for bytes in [b"a text that is long enough".as_slice(), b"%PDF-1.4 and so on", &no_rows, b"PK", b"?", b""] {
+            let (tally, said) = placed("x", Content { steady: false, ..Content::whole(bytes) });
+            assert_eq!((tally.nowhere, tally.passed), (1, 0), "{bytes:?}");
+            assert!(said.starts_with("x: not accounted for: it changed while it was read; it may be "), "{said}");
+        }
+        for bytes in [b"a text that is long enough".as_slice(), b"%PDF-1.4 and so on", &no_rows] {
+            let (tally, said) = placed("x", Content::whole(bytes));
+            assert_eq!((tally.nowhere, tally.passed, said.as_str()), (0, 1, ""), "{bytes:?}");
+        }
+    }
+
+    #[test]
+    fn a_list_of_plants_is_text_or_not_accounted_for() {
+        let (tally, _) = placed("plants.csv", Content::whole("1,一号机,Unit 1\n".as_bytes()));
+        assert_eq!((tally.nowhere, tally.passed), (0, 1));
+        for bytes in [b"".as_slice(), b"1,a\n", b"1,a list with a byte\0 in it\n", b"PT,\n2,a list of a form to come\n"]
+        {
+            let (tally, said) = placed("plants.csv", Content::whole(bytes));
+            assert_eq!((tally.nowhere, tally.passed), (1, 0), "{bytes:?}");
+            assert!(said.starts_with("plants.csv: not accounted for: "), "{said}");
+        }
+        let (tally, said) = placed("plants.csv", Content::whole(b"PK\x48\x26\0\0\x09\0\0"));
+        assert_eq!((tally.nowhere, tally.passed, said.as_str()), (0, 0, ""), "a correction, whatever it is called");
+    }
+
+    #[test]
+    fn a_wrong_name_is_said_of_a_file_that_counts_or_is_known() {
+        let correction = Content::whole(b"PK\x48\x26\0\0\x09\0\0");
+        let (tally, said) = placed("2026-10-31-q12.correction", correction);
+        assert_eq!((tally.misnamed, tally.nowhere), (1, 0));
+        let due = "named for 2026-10-31-q12, but it is a correction for 2026-10-31-q09\n";
+        assert_eq!(said, format!("2026-10-31-q12.correction: {due}"));
+        let (tally, said) = placed("x.Interval", Content::whole(b"a text that is long enough"));
+        assert_eq!((tally.misnamed, tally.passed), (1, 1));
+        assert_eq!(said, "x.Interval: named as an interval file, but it is text\n");
     }
 }

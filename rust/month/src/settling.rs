@@ -78,7 +78,7 @@ mod tests {
     use cases::file::{Correction, Interval};
 
     fn source(name: &str, bytes: Vec<u8>) -> Source {
-        Source { name: name.into(), content: Content { bytes, steady: true } }
+        Source { name: name.into(), content: Content::whole(&bytes) }
     }
 
     fn held(interval: &Interval, correction: Option<Correction>) -> Held {

@@ -15,11 +15,13 @@ pub struct Tally {
     pub refused: usize,
     /// Quarters that were not handed to the engine.
     pub hindered: usize,
-    /// Files that name no quarter.
+    /// Files that are of no quarter, and not known to be something else.
     pub nowhere: usize,
     /// What could not be read, or is no plain file.
     pub unread: usize,
-    /// Statements from elsewhere, equal copies, the list of plants.
+    /// Files that are not what their names say, whether or not they are used.
+    pub misnamed: usize,
+    /// Whole statements from elsewhere, equal copies, and what is known to be something else.
     pub passed: usize,
     /// What was done in the folder of statements, if there is one.
     pub statements: Option<Kept>,
@@ -44,11 +46,18 @@ pub struct Day {
     pub arrived: usize,
 }
 
+impl Day {
+    fn is_complete(&self) -> bool {
+        self.settled == usize::from(QUARTERS)
+    }
+}
+
 impl Tally {
-    /// Whether something was settled and nothing was left over.
-    pub fn is_whole(&self) -> bool {
+    /// Whether it is ready to book: something was settled, every day that a file names is complete, and nothing was left over.
+    pub fn is_ready(&self) -> bool {
         let failed = self.statements.as_ref().map_or(0, |kept| kept.failed);
-        self.settled > 0 && self.refused + self.hindered + self.nowhere + self.unread + failed == 0
+        let left = self.refused + self.hindered + self.nowhere + self.unread + self.misnamed + failed;
+        self.settled > 0 && self.days.values().all(Day::is_complete) && left == 0
     }
 
     /// The days that are named, and those of which not every quarter is settled.
@@ -60,7 +69,7 @@ impl Tally {
         let short: Vec<String> = self
             .days
             .iter()
-            .filter(|(_, day)| day.settled < all)
+            .filter(|(_, day)| !day.is_complete())
             .map(|(&date, day)| {
                 let (left, missing) = (day.arrived - day.settled, all - day.arrived);
                 format!("{} ({} settled, {left} not, {missing} missing)", Date(date), day.settled)
@@ -97,13 +106,15 @@ impl fmt::Display for Tally {
             "quarters: {} settled ({} corrected), {} refused, {} not settled; ",
             self.settled, self.corrected, self.refused, self.hindered
         )?;
-        write!(out, "files: {} of no quarter, {} not read, {} passed over", self.nowhere, self.unread, self.passed)?;
-        match &self.statements {
-            Some(kept) => {
-                write!(out, "; statements: {} written, {} removed, {} failed", kept.written, kept.removed, kept.failed)
-            }
-            None => Ok(()),
+        write!(
+            out,
+            "files: {} of no quarter, {} not read, {} named otherwise, {} passed over",
+            self.nowhere, self.unread, self.misnamed, self.passed
+        )?;
+        if let Some(kept) = &self.statements {
+            write!(out, "; statements: {} written, {} removed, {} failed", kept.written, kept.removed, kept.failed)?;
         }
+        out.write_str(if self.is_ready() { "; ready to book" } else { "; not ready to book" })
     }
 }
 
@@ -126,21 +137,28 @@ mod tests {
     }
 
     #[test]
-    fn whole_is_something_settled_and_nothing_left() {
-        let whole = || Tally { settled: 96, corrected: 3, passed: 2, ..Tally::default() };
-        assert!(whole().is_whole());
-        assert!(!Tally::default().is_whole());
-        assert!(!Tally { refused: 1, ..whole() }.is_whole());
-        assert!(!Tally { hindered: 1, ..whole() }.is_whole());
-        assert!(!Tally { nowhere: 1, ..whole() }.is_whole());
-        assert!(!Tally { unread: 1, ..whole() }.is_whole());
+    fn ready_is_every_day_complete_and_nothing_left() {
+        let full = Day { settled: 96, arrived: 96 };
+        let ready =
+            || Tally { settled: 192, corrected: 3, passed: 2, days: [(3, full), (9, full)].into(), ..Tally::default() };
+        assert!(ready().is_ready());
+        assert!(!Tally::default().is_ready());
+        assert!(!Tally { refused: 1, ..ready() }.is_ready());
+        assert!(!Tally { hindered: 1, ..ready() }.is_ready());
+        assert!(!Tally { nowhere: 1, ..ready() }.is_ready());
+        assert!(!Tally { unread: 1, ..ready() }.is_ready());
+        assert!(!Tally { misnamed: 1, ..ready() }.is_ready());
+        for short in [Day { settled: 95, arrived: 95 }, Day { settled: 1, arrived: 1 }, Day { settled: 0, arrived: 0 }]
+        {
+            assert!(!Tally { days: [(3, full), (9, short)].into(), ..ready() }.is_ready());
+        }
         let kept = |failed| Some(Kept { written: 1, removed: 1, failed });
-        assert!(Tally { statements: kept(0), ..whole() }.is_whole());
-        assert!(!Tally { statements: kept(1), ..whole() }.is_whole());
+        assert!(Tally { statements: kept(0), ..ready() }.is_ready());
+        assert!(!Tally { statements: kept(1), ..ready() }.is_ready());
     }
 
     #[test]
-    fn the_last_line_has_every_count() {
+    fn the_last_line_has_every_count_and_the_verdict() {
         let mut tally = Tally {
             settled: 1,
             corrected: 2,
@@ -148,12 +166,18 @@ mod tests {
             hindered: 4,
             nowhere: 5,
             unread: 6,
-            passed: 7,
+            misnamed: 7,
+            passed: 8,
             ..Tally::default()
         };
-        let due = "quarters: 1 settled (2 corrected), 3 refused, 4 not settled; files: 5 of no quarter, 6 not read, 7 passed over";
-        assert_eq!(tally.to_string(), due);
-        tally.statements = Some(Kept { written: 8, removed: 9, failed: 10 });
-        assert_eq!(tally.to_string(), format!("{due}; statements: 8 written, 9 removed, 10 failed"));
+        let due = "quarters: 1 settled (2 corrected), 3 refused, 4 not settled; \
+                   files: 5 of no quarter, 6 not read, 7 named otherwise, 8 passed over";
+        assert_eq!(tally.to_string(), format!("{due}; not ready to book"));
+        tally.statements = Some(Kept { written: 9, removed: 10, failed: 11 });
+        let kept = "statements: 9 written, 10 removed, 11 failed";
+        assert_eq!(tally.to_string(), format!("{due}; {kept}; not ready to book"));
+        let day = Day { settled: 96, arrived: 96 };
+        let ready = Tally { settled: 96, days: [(0, day)].into(), ..Tally::default() };
+        assert!(ready.to_string().ends_with(", 0 passed over; ready to book"));
     }
 }

@@ -38,10 +38,22 @@ fn words(refusal: Refusal, id: Option<u16>) -> String {
     }
 }
 
+/// Whether a file is of a form that is announced.
+pub fn is_coming(bytes: &[u8]) -> bool {
+    bytes.get(..2).is_some_and(|mark| COMING.contains(&mark))
+}
+
 /// What to add where a file is of a form that is announced.
 pub fn coming(bytes: &[u8]) -> &'static str {
-    let mark = bytes.get(..2).unwrap_or_default();
-    if COMING.contains(&mark) { " This version does not know this form." } else { "" }
+    if is_coming(bytes) { " This version does not know this form." } else { "" }
+}
+
+/// Why one file is trouble for every quarter: it may be, or hold, this.
+pub const ANY: &str = "a correction of any quarter, so no figure is final";
+
+/// What is said of a file that is not accounted for, whatever it is.
+pub fn unaccounted(what: &str) -> String {
+    format!("not accounted for: {}; it may be {ANY}", what.trim_end_matches('.'))
 }
 
 /// A file name that can be printed on one line: what is no UTF-8, no letter that shows, or a backslash is escaped, so that two
@@ -76,7 +88,7 @@ mod tests {
 
     use wheatrudder::Refusal;
 
-    use super::{coming, refused, shown};
+    use super::{coming, is_coming, refused, shown, unaccounted};
 
     #[test]
     fn every_number_has_words_of_its_own() {
@@ -121,7 +133,15 @@ mod tests {
         assert!(coming(b"PU").contains("does not know"));
         for other in [b"PH".as_slice(), b"P", b"", b"xPG"] {
             assert_eq!(coming(other), "");
+            assert!(!is_coming(other));
         }
+    }
+
+    #[test]
+    fn what_is_not_accounted_for_is_one_sentence() {
+        let due = "not accounted for: It is odd; it may be a correction of any quarter, so no figure is final";
+        assert_eq!(unaccounted("It is odd."), due);
+        assert_eq!(unaccounted("It is odd"), due);
     }
 
     #[test]
