@@ -337,7 +337,8 @@ void Judge::take_names(File &file) {
 bool is_as_named(const File &file, const Naming &naming) {
     constexpr std::array forms{Form::interval, Form::correction, Form::statement};
     const bool is_other_form = naming.as && file.form != forms.at(static_cast<std::size_t>(*naming.as));
-    const bool is_other_slot = naming.slot && file.slot && *naming.slot != *file.slot;
+    const bool is_other_slot = file.slot && std::any_of(naming.slots.begin(), naming.slots.end(),
+                                                        [&](const Slot &slot) { return slot != *file.slot; });
     return file.form == Form::unread || (!is_other_form && !is_other_slot);
 }
 
@@ -345,10 +346,10 @@ bool is_as_named(const File &file, const Naming &naming) {
 Said name_says(const Naming &naming) {
     constexpr std::array forms{Word::named_as_interval, Word::named_as_correction, Word::named_as_statement};
     if (!naming.as) {
-        return {Word::named_as_slot, {text(*naming.slot)}};
+        return {Word::named_as_slot, {text(naming.slots.front())}};
     }
     const Said form = forms.at(static_cast<std::size_t>(*naming.as));
-    return naming.slot ? Said(Word::named_as_both, {form, text(*naming.slot)}) : form;
+    return naming.slots.empty() ? form : Said(Word::named_as_both, {form, text(naming.slots.front())});
 }
 
 // Names decide nothing, but a file that is not what its name says is at fault, and the quarter that it is named for
@@ -360,9 +361,14 @@ void Judge::hold_against_name(std::size_t place) {
         blame(file, {Word::file_misnamed, {name_says(naming), file.says}},
               file.is_faulty() ? *file.advice : Said(Word::advice_misnamed));
     }
-    const bool is_known_there = is_of_quarter(file) && file.slot == naming.slot;
-    if (naming.slot && file.fault == Fault::unaccounted && !is_known_there) {
-        reading_.days[naming.slot->day][naming.slot->quarter.number].named.push_back(place);
+    if (file.fault != Fault::unaccounted) {
+        return;
+    }
+    for (const Slot &slot : naming.slots) {
+        const bool is_known_there = is_of_quarter(file) && file.slot == slot;
+        if (!is_known_there) {
+            reading_.days[slot.day][slot.quarter.number].named.push_back(place);
+        }
     }
 }
 

@@ -46,8 +46,10 @@ Naming naming_of(std::string_view path) {
             naming.as = as;
         }
     }
-    for (std::size_t at = 0; at < name.size() && !naming.slot; ++at) {
-        naming.slot = slot_at(name, at);
+    for (std::size_t at = 0; at < name.size(); ++at) {
+        if (const auto slot = slot_at(name, at)) {
+            naming.slots.push_back(*slot);
+        }
     }
     return naming;
 }

@@ -5,6 +5,7 @@
 
 #include <optional>
 #include <string_view>
+#include <vector>
 
 namespace client {
 
@@ -13,7 +14,7 @@ enum class NamedAs { interval, correction, statement };
 
 struct Naming {
     std::optional<NamedAs> as;
-    std::optional<Slot> slot; // a day and a quarter anywhere in it
+    std::vector<Slot> slots; // every day and quarter that stands in it
 };
 
 // Of a path, whose last part is the name.

@@ -240,13 +240,17 @@ void many_files() {
 
 void what_names_say() {
     const auto slot = [](const char *name) {
-        const auto found = naming_of(name).slot;
-        return found ? date(found->day).append(" ").append(std::to_string(found->quarter.number)) : "none";
+        std::string all;
+        for (const Slot &found : naming_of(name).slots) {
+            all += date(found.day).append(" ").append(std::to_string(found.quarter.number)).append(";");
+        }
+        return all.empty() ? "none" : all;
     };
-    equal(slot("2026-10-31-q09.interval"), "2026-10-31 9");
-    equal(slot("sub/2026-10-31-Q95.CORRECTION"), "2026-10-31 95");
+    equal(slot("2026-10-31-q09.interval"), "2026-10-31 9;");
+    equal(slot("sub/2026-10-31-Q95.CORRECTION"), "2026-10-31 95;");
     equal(slot("2026-10-31-q09/x"), "none"); // only the file's own name
-    equal(slot("copy of 2000-01-01-q00 (2).interval"), "2000-01-01 0");
+    equal(slot("copy of 2000-01-01-q00 (2).interval"), "2000-01-01 0;");
+    equal(slot("2000-01-01-q00 2026-10-31-q09"), "2000-01-01 0;2026-10-31 9;");
     for (const char *name : {"2026-10-31-q96", "2026-02-30-q01", "1999-12-31-q01", "2100-01-01-q01", "12026-10-31-q09",
                              "2026-10-31-q099", "2026-10-31", "q09", "", "2026-13-01-q01", "2026-00-01-q01"}) {
         check::equal(slot(name), "none", name);

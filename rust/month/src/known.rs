@@ -29,18 +29,19 @@ pub enum What {
     Unknown,
 }
 
-/// What a file is: a zip before `PK` is taken for a correction, then what begins as a file of ours, then anything else that is known.
+/// What a file is: what is known to be none of ours first, since a zip begins with `PK` and a text may begin with anything, then what
+/// begins as a file of ours.
 pub fn what(content: &Content) -> What {
     let (bytes, at) = (&content.bytes[..], quarter(&content.bytes));
     match bytes {
         _ if is_zip(content) => What::Else("an archive or office file (zip)"),
+        _ if is_text(bytes, content.end.is_some()) => What::Else("text"),
         [b'P', b'H', ..] => What::Interval(at),
         [b'P', b'K', ..] => What::Correction(at),
         [b'P', b'S', ..] => What::Statement { at, whole: is_whole_statement(content) },
         _ if is_coming(bytes) => What::Coming,
         _ => match signed(bytes) {
             Some(known) => What::Else(known),
-            None if is_text(bytes, content.end.is_some()) => What::Else("text"),
             None => What::Unknown,
         },
     }
@@ -174,8 +175,8 @@ mod tests {
             (head(b"PK", 0, 255), What::Correction(None)),
             (head(b"PK", 0, 0)[..2].to_vec(), What::Correction(None)),
             (head(b"PS", 36_525, 0), What::Statement { at: None, whole: false }),
-            (b"PHONE LIST of everybody in the office".to_vec(), What::Interval(None)),
-            (b"PS: please see the other file too".to_vec(), What::Statement { at: None, whole: false }),
+            (b"PHONE LIST of everybody in the office".to_vec(), What::Else("text")),
+            (b"PS: please see the other file too".to_vec(), What::Else("text")),
         ];
         for (bytes, due) in nowhere {
             assert_eq!(of(&bytes), due, "{bytes:?}");
@@ -189,7 +190,8 @@ mod tests {
         }
         for mark in [b"PG", b"PT", b"PU", b"PW"] {
             assert_eq!(of(mark), What::Coming);
-            assert_eq!(of(&[mark.as_slice(), b" and a text that is long enough"].concat()), What::Coming);
+            assert_eq!(of(&head(mark, 0x0102, 7)), What::Coming);
+            assert_eq!(of(&[mark.as_slice(), b" and a text that is long enough"].concat()), What::Else("text"));
         }
     }
 

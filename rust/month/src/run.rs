@@ -234,8 +234,7 @@ mod tests {
     fn a_list_of_plants_is_text_or_not_accounted_for() {
         let (tally, _) = placed("plants.csv", Content::whole("1,一号机,Unit 1\n".as_bytes()));
         assert_eq!((tally.nowhere, tally.passed), (0, 1));
-        for bytes in [b"".as_slice(), b"1,a\n", b"1,a list with a byte\0 in it\n", b"PT,\n2,a list of a form to come\n"]
-        {
+        for bytes in [b"".as_slice(), b"1,a\n", b"1,a list with a byte\0 in it\n", b"PT\0\0\0\0, a form to come\n"] {
             let (tally, said) = placed("plants.csv", Content::whole(bytes));
             assert_eq!((tally.nowhere, tally.passed), (1, 0), "{bytes:?}");
             assert!(said.starts_with("plants.csv: not accounted for: "), "{said}");
