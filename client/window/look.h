@@ -34,9 +34,13 @@ QColor hairline(const QPalette &palette);
 void mute(QLabel &label);
 // How thick a fine line is in this font.
 int thin(const QFontMetrics &metrics);
+// The ground of a quarter that can have no figure, in the chart and in tables.
+void paint_hatching(QPainter &painter, const QRect &place, const QColor &colour);
 // The frame around what has the keys.
 void paint_focus(QPainter &painter, const QRect &around, const QPalette &palette);
 
+// The margins of a screen.
+void set_page_margins(QWidget &page);
 // A label that never takes a file's name for rich text.
 QLabel *plain_label(QWidget *parent);
 // A tool tip that says just this: Qt would take a text that looks like HTML for rich text.
