@@ -21,6 +21,23 @@ bool is_chosen(const QStyleOptionViewItem &option) {
     return option.state.testFlag(QStyle::State_Selected);
 }
 
+bool is_of_figure(QChar letter) {
+    return letter.isDigit() || QStringView(u",.+\u2212").contains(letter);
+}
+
+// A text cut short, but not within a figure: a part of a figure is another figure.
+QString cut_short(const QString &whole, const QFont &font, int width) {
+    const QString cut = QFontMetrics(font).elidedText(whole, Qt::ElideRight, width);
+    qsizetype end = cut.size() - 1;
+    if (cut == whole || end <= 0 || !is_of_figure(whole[end])) {
+        return cut;
+    }
+    while (end > 0 && is_of_figure(whole[end - 1])) {
+        --end;
+    }
+    return whole.left(end) + QChar(0x2026);
+}
+
 QColor ink(const QStyleOptionViewItem &option, const QModelIndex &index) {
     return is_chosen(option)                               ? option.palette.color(QPalette::HighlightedText)
            : index.data(CellDelegate::muted_role).toBool() ? muted(option.palette)
@@ -85,17 +102,20 @@ void CellDelegate::paint_ground(QPainter &painter, const QStyleOptionViewItem &o
     }
 }
 
-// A part of a figure is another figure: where there is no room for it, a sign says that there is more.
+// Where there is no room for a figure, a sign says that there is more.
 QString CellDelegate::shown_text(const QStyleOptionViewItem &option, const QModelIndex &index, int width) const {
     const QString whole = index.data().toString();
     if (!is_figure(index)) {
-        return QFontMetrics(font_of(option, index)).elidedText(whole, Qt::ElideRight, width);
+        return cut_short(whole, font_of(option, index), width);
     }
     return is_cut_by_edge(option.rect) && !whole.isEmpty() ? QString(QChar(0x2026)) : whole;
 }
 
 void CellDelegate::paint_text(QPainter &painter, const QStyleOptionViewItem &option, const QModelIndex &index) const {
-    const QRect inside = option.rect.adjusted(side(), 0, -side(), 0);
+    QRect inside = option.rect.adjusted(side(), 0, -side(), 0);
+    if (!is_figure(index) && is_cut_by_edge(option.rect)) {
+        inside.setRight(std::min(inside.right(), view_->viewport()->width() - side()));
+    }
     const bool wraps = view_->wordWrap() && !is_figure(index) && option.rect.height() > lines(*view_, 2);
     const QString text = wraps ? index.data().toString() : shown_text(option, index, inside.width());
     if (text.isEmpty()) {

@@ -24,6 +24,8 @@ namespace {
 
 // Rows that are measured: the rest of a long table is like them.
 constexpr int rows_measured = 200;
+// Of the head of a row so much is always read: its id.
+constexpr double least_head_letters = 8;
 
 // The sections that are seen, in the order in which they stand: what is pinned comes first.
 std::vector<int> in_order(const QHeaderView &heads, std::optional<int> pinned) {
@@ -94,6 +96,7 @@ void FillingTable::show_row_heads(double most_part) {
 
 void FillingTable::pin(std::optional<int> row, std::optional<int> column) {
     pinned_row_ = row;
+    wanted_column_ = column;
     pinned_column_ = column;
 }
 
@@ -121,10 +124,9 @@ void FillingTable::measure() {
     TextWidths widths(font());
     natural_.clear();
     for (int column = 0; column < model()->columnCount(); ++column) {
-        const bool is_seen = !isColumnHidden(column) || column == pinned_column_;
+        const bool is_seen = !isColumnHidden(column) || column == wanted_column_;
         natural_.push_back(is_seen ? natural_width(column, widths) : 0);
     }
-    pinned_width_ = pinned_column_ ? natural_[static_cast<std::size_t>(*pinned_column_)] : 0;
     natural_heads_ = 0;
     for (int row = 0; row < model()->rowCount() && !row_heads_->isHidden(); ++row) {
         const bool is_bold = model()->headerData(row, Qt::Vertical, Qt::FontRole).isValid();
@@ -133,10 +135,37 @@ void FillingTable::measure() {
     }
 }
 
+int FillingTable::natural(std::optional<int> column) const {
+    const bool is_measured = column && *column < static_cast<int>(natural_.size());
+    return is_measured ? natural_[static_cast<std::size_t>(*column)] : 0;
+}
+
+// Of columns that are never cut short, the widest.
+int FillingTable::widest_column() const {
+    int widest = 0;
+    for (int column = 0; column < static_cast<int>(natural_.size()); ++column) {
+        if (column != wanted_column_ && !takes_room(column)) {
+            widest = std::max(widest, natural(column));
+        }
+    }
+    return widest;
+}
+
+// Heads of rows that may be cut short leave room for one column at least; what is pinned does so, or is not.
 void FillingTable::spread_heads() {
+    const int all = width() - 2 * frameWidth() - verticalScrollBar()->sizeHint().width();
+    const int pinned = natural(wanted_column_);
+    int heads = row_heads_->isHidden() ? 0 : natural_heads_;
+    if (most_head_part_ < 1) {
+        const int most = std::min(static_cast<int>(all * most_head_part_), all - pinned - widest_column());
+        heads = std::min(heads, std::max(most, letters(*this, least_head_letters)));
+    }
+    pinned_column_ = all - heads - pinned >= widest_column() ? wanted_column_ : std::nullopt;
+    if (wanted_column_) {
+        setColumnHidden(*wanted_column_, pinned_column_.has_value());
+    }
     if (!row_heads_->isHidden()) {
-        const int most = std::max(letters(*this, 8), static_cast<int>(width() * most_head_part_));
-        row_heads_->setFixedWidth(std::min(natural_heads_, most) + pinned_width());
+        row_heads_->setFixedWidth(heads + pinned_width());
     }
     row_heads_->lend(pinned_width(), [this](QPainter &painter) { paint_pinned_column(painter); });
     heads_->lend(pinned_height(), [this](QPainter &painter) { paint_pinned_row(painter); });
@@ -146,7 +175,7 @@ void FillingTable::spread_columns() {
     int room = viewport()->width();
     std::vector<std::pair<int, int>> roomy;
     for (int column = 0; column < static_cast<int>(natural_.size()); ++column) {
-        const int wide = natural_[static_cast<std::size_t>(column)];
+        const int wide = natural(column);
         if (isColumnHidden(column)) {
             continue;
         }
@@ -172,12 +201,7 @@ void FillingTable::spread_columns() {
 
 // As many as fit, and what is left over between them.
 void FillingTable::spread_evenly() {
-    int widest = 1;
-    for (int column = 0; column < static_cast<int>(natural_.size()); ++column) {
-        if (column != pinned_column_) {
-            widest = std::max(widest, natural_[static_cast<std::size_t>(column)]);
-        }
-    }
+    const int widest = std::max({1, widest_column(), pinned_column_ ? 0 : natural(wanted_column_)});
     const int room = viewport()->width();
     heads_->setDefaultSectionSize(std::max(widest, room / std::max(1, room / widest)));
 }
@@ -219,9 +243,6 @@ void FillingTable::fit() {
     if (pinned_row_) {
         setRowHidden(*pinned_row_, true);
     }
-    if (pinned_column_) {
-        setColumnHidden(*pinned_column_, true);
-    }
     measure();
     spread();
 }
@@ -247,6 +268,10 @@ void FillingTable::changeEvent(QEvent *event) {
 
 int FillingTable::pinned_height() const {
     return pinned_row_ ? lines(*this, 1.5) : 0;
+}
+
+int FillingTable::pinned_width() const {
+    return natural(pinned_column_);
 }
 
 QRect FillingTable::visualRect(const QModelIndex &index) const {

@@ -31,7 +31,8 @@ class FillingTable : public QuietTable {
     // No column of texts asks for more than so many letters; what is longer is cut short and stands in the tool tip.
     void set_most_letters(double letters) { most_letters_ = letters; }
     // A row right below the heads and a column right beside the heads of rows, which are always in sight. They are no
-    // others than the model's: keys, pointer and screen readers find them as any cell. Counts from the next fit().
+    // others than the model's: keys, pointer and screen readers find them as any cell. Where letters are so large that
+    // no other column would be seen beside it, the column stands among the others. Counts from the next fit().
     void pin(std::optional<int> row, std::optional<int> column);
     // To be called once the model holds something else.
     void fit();
@@ -67,7 +68,9 @@ class FillingTable : public QuietTable {
     void copy_chosen() const;
 
     int pinned_height() const;
-    int pinned_width() const { return pinned_column_ ? pinned_width_ : 0; }
+    int pinned_width() const;
+    int natural(std::optional<int> column) const;
+    int widest_column() const;
     QModelIndex pinned_at(const QPoint &at) const;
     bool pass_on(QWidget &from, QEvent &event);
     void paint_pinned(QPainter &painter, const QModelIndex &index) const;
@@ -86,8 +89,8 @@ class FillingTable : public QuietTable {
     bool is_even_ = false;
     std::vector<int> natural_; // widths of what the columns hold
     int natural_heads_ = 0;    // and of the heads of rows
-    int pinned_width_ = 0;
-    std::optional<int> pinned_row_, pinned_column_;
+    std::optional<int> pinned_row_;
+    std::optional<int> wanted_column_, pinned_column_; // the column to be pinned, and whether there is room for it
     bool is_spreading_ = false;
 };
 

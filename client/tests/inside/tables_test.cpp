@@ -117,10 +117,14 @@ QStringList cut_short(QTableView &table, int &seen) {
             }
         }
     }
-    // Nor is a part of a figure seen at the edge.
+    // Nor is a part of a figure seen at the edge, in a sentence neither. A head is no figure.
     static const QRegularExpression digit("\\d");
+    QString heads;
+    for (int column = 0; column < table.model()->columnCount(); ++column) {
+        heads += table.model()->headerData(column, Qt::Horizontal).toString();
+    }
     for (const Painted &one : painted) {
-        if (!one.is_whole && digit.match(one.text).hasMatch()) {
+        if (!one.is_whole && digit.match(one.text).hasMatch() && !heads.contains(one.text)) {
             cut << QString("“%1” goes over the edge").arg(one.text);
         }
     }
@@ -145,28 +149,14 @@ void verify_whole(Desk &desk, const QString &where) {
 
 // At every size of letters.
 void verify_at_all_sizes(Desk &desk, const QString &what) {
-    int percent = 100;
-    const auto plus = [&](int times) {
-        for (int i = 0; i < times; ++i) {
-            press(desk.window(), Qt::Key_Plus, Qt::ControlModifier);
-        }
-    };
-    const int base = desk.window().font().pointSize();
-    for (const int wanted : {100, 125, 150, 200}) {
-        for (int tries = 0; tries < 12 && desk.window().font().pointSizeF() * 100 < base * wanted - 1; ++tries) {
-            plus(1);
-        }
-        percent = wanted;
+    for (int percent = 100; percent <= 200 && !QTest::currentTestFailed(); percent += 25) {
         QTest::qWait(30);
         verify_whole(desk, QString("%1 at %2 percent").arg(what).arg(percent));
-        if (QTest::currentTestFailed()) {
-            break;
-        }
+        press(desk.window(), Qt::Key_Plus, Qt::ControlModifier);
     }
     press(desk.window(), Qt::Key_0, Qt::ControlModifier);
 }
 
-// What is read of a column's figures, row by row, within the table that shows.
 bool is_in_sight(const QTableView &table, const QModelIndex &index) {
     const QRect place = place_of(table, index);
     return !place.isEmpty() && table.rect().contains(place);
@@ -493,7 +483,7 @@ void TablesTest::a_quarter_without_a_statement_is_marked() {
 void TablesTest::the_plant_shows_its_front() {
     Desk desk({.by_events = false, .glance_ms = 0});
     // As long as a name may be.
-    const std::string names = "2,二号,The Southern Power Plant With A Name Of Sixty-Four Letters Unit 2\n"
+    const std::string names = "2,二号,The Southern Power Plant With A Name Of Sixty-Four Letters No. 2\n"
                               "3,三号,The Northern Wind Farm With A Name That Has Sixty-Four Letters N\n";
     made::write(desk.folder / "plants.csv", Bytes(names.begin(), names.end()));
     desk.open();
