@@ -59,7 +59,7 @@ bool is_figure(const QModelIndex &index) {
 CellDelegate::CellDelegate(QTableView *view) : QStyledItemDelegate(view), view_(view) {}
 
 int CellDelegate::side() const {
-    return letters(*view_, 1);
+    return side_of(*view_);
 }
 
 int CellDelegate::above() const {

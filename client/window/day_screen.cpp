@@ -167,7 +167,7 @@ void DayScreen::set_fonts() {
     outdated_->setFont(scaled(font(), 1, QFont::DemiBold));
     mute(*parts_);
     mute(*standing_);
-    table_->setMinimumHeight(lines(*this, 7));
+    table_->setMinimumHeight(lines(*this, 9));
     auto *column = page_->layout();
     column->setSpacing(lines(*this, 0.5));
     below_answer_->setSpacing(lines(*this, 0.35));

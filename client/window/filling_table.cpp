@@ -117,7 +117,7 @@ int FillingTable::content_width(int column, TextWidths &widths) const {
 }
 
 int FillingTable::natural_width(int column, TextWidths &widths) const {
-    return std::max(heads_->least_width(column), content_width(column, widths)) + letters(*this, 2);
+    return std::max(heads_->least_width(column), content_width(column, widths)) + 2 * side_of(*this);
 }
 
 void FillingTable::measure() {
@@ -131,7 +131,7 @@ void FillingTable::measure() {
     for (int row = 0; row < model()->rowCount() && !row_heads_->isHidden(); ++row) {
         const bool is_bold = model()->headerData(row, Qt::Vertical, Qt::FontRole).isValid();
         const QString head = model()->headerData(row, Qt::Vertical).toString();
-        natural_heads_ = std::max(natural_heads_, widths.of(head, is_bold) + letters(*this, 2));
+        natural_heads_ = std::max(natural_heads_, widths.of(head, is_bold) + 2 * side_of(*this));
     }
 }
 

@@ -59,6 +59,10 @@ int lines(const QWidget &widget, double count) {
     return static_cast<int>(std::lround(QFontMetricsF(widget.font()).height() * count));
 }
 
+int side_of(const QWidget &table) {
+    return letters(table, 1);
+}
+
 double contrast(const QColor &one, const QColor &other) {
     const double first = luminance(one) + 0.05;
     const double second = luminance(other) + 0.05;

@@ -23,6 +23,9 @@ QFont scaled(const QFont &font, double times, QFont::Weight weight = QFont::Norm
 // The width of so many digits, and the height of so many lines, in the widget's font.
 int letters(const QWidget &widget, double count);
 int lines(const QWidget &widget, double count);
+// What stands at either side of a cell's or a head's text. Twice this, and not the width of two letters: that may be a
+// hair less, and then the text is cut.
+int side_of(const QWidget &table);
 
 // How well one colour is read on the other, 1 to 21 (WCAG 2).
 double contrast(const QColor &one, const QColor &other);

@@ -42,8 +42,7 @@ int PlainHeader::needed_height() const {
     int tallest = fontMetrics().height();
     for (int section = 0; section < count(); ++section) {
         if (!isSectionHidden(section)) {
-            // A hair more than the longest word, or the word itself would be cut.
-            const int width = std::max(sectionSize(section) - letters(*this, 2), least_width(section)) + 1;
+            const int width = std::max(sectionSize(section) - 2 * side_of(*this), least_width(section));
             const QRect room(0, 0, width, lines(*this, 20));
             tallest = std::max(tallest, fontMetrics().boundingRect(room, Qt::TextWordWrap, head(section)).height());
         }
@@ -97,7 +96,7 @@ void PlainHeader::paint_head(QPainter &painter, const QRect &place, int section)
 
 void PlainHeader::paint_top(QPainter &painter, const QRect &place, int section) const {
     const int above = lines(*this, 0.2);
-    QRect inside = place.adjusted(letters(*this, 1), above, -letters(*this, 1), -above);
+    QRect inside = place.adjusted(side_of(*this), above, -side_of(*this), -above);
     if (model()->headerData(section, orientation(), CellDelegate::void_role).toBool()) {
         paint_hatching(painter, place, muted(palette()));
         // The head is read all the same.
@@ -128,7 +127,7 @@ void PlainHeader::paint_side(QPainter &painter, const QRect &place, int section)
                                                    : QPalette::Base;
     // What is lent has the same ground.
     painter.fillRect(place.adjusted(0, 0, lent_, 0), palette().color(ground));
-    const QRect inside = place.adjusted(letters(*this, 1), 0, -letters(*this, 1), 0);
+    const QRect inside = place.adjusted(side_of(*this), 0, -side_of(*this), 0);
     painter.setFont(model()->headerData(section, Qt::Vertical, Qt::FontRole).isValid() ? scaled(font(), 1, QFont::Bold)
                                                                                        : font());
     painter.setPen(palette().color(is_chosen ? QPalette::HighlightedText : QPalette::Text));

@@ -117,6 +117,35 @@ QStringList cut_short(QTableView &table, int &seen) {
             }
         }
     }
+    // The time of a quarter, and the heads of columns that are whole in sight.
+    const bool has_times = table.accessibleName() == "Quarters of the day";
+    for (int row = 0; row < table.model()->rowCount() && has_times; ++row) {
+        const QRect place(0, table.rowViewportPosition(row) + table.viewport()->y(), table.viewport()->x(),
+                          table.rowHeight(row));
+        const QString time = table.model()->headerData(row, Qt::Vertical).toString();
+        const bool is_seen = !table.isRowHidden(row) && table.viewport()->geometry().top() <= place.top() &&
+                             table.viewport()->geometry().bottom() >= place.bottom();
+        if (is_seen && !painted_within(painted, place).startsWith(time)) {
+            cut << QString("“%1” for the time “%2”").arg(painted_within(painted, place), time);
+        }
+    }
+    for (int column = 0; column < table.model()->columnCount(); ++column) {
+        const QRect place(table.columnViewportPosition(column) + table.viewport()->x(), 0, table.columnWidth(column),
+                          table.viewport()->y());
+        const QString head = table.model()->headerData(column, Qt::Horizontal).toString();
+        const bool is_seen = !table.isColumnHidden(column) && place.left() >= table.viewport()->x() &&
+                             place.right() <= table.viewport()->geometry().right();
+        const bool has_lines = head.contains('\n');
+        for (const QString &line : head.split('\n')) {
+            const bool is_read = std::any_of(painted.begin(), painted.end(), [&](const Painted &one) {
+                return one.text == line && place.contains(one.place.center().toPoint()) &&
+                       one.place.left() >= place.left() && one.place.right() <= place.right() + 1.0;
+            });
+            if (is_seen && has_lines && !is_read) {
+                cut << QString("the head “%1”").arg(line);
+            }
+        }
+    }
     // Nor is a part of a figure seen at the edge, in a sentence neither. A head is no figure.
     static const QRegularExpression digit("\\d");
     QString heads;
@@ -216,6 +245,7 @@ void TablesTest::figures_are_whole_in_the_example() {
         }
     }
     press(desk.window(), Qt::Key_L, Qt::ControlModifier);
+    verify_at_all_sizes(desk, "in Chinese");
     settle(desk, small);
     verify_whole(desk, "in Chinese, in a small window");
 }
