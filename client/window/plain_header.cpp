@@ -42,8 +42,7 @@ int PlainHeader::needed_height() const {
     int tallest = fontMetrics().height();
     for (int section = 0; section < count(); ++section) {
         if (!isSectionHidden(section)) {
-            const int width = std::max(sectionSize(section) - 2 * side_of(*this), least_width(section));
-            const QRect room(0, 0, width, lines(*this, 20));
+            const QRect room(0, 0, std::max(1, sectionSize(section) - 2 * side_of(*this)), lines(*this, 20));
             tallest = std::max(tallest, fontMetrics().boundingRect(room, Qt::TextWordWrap, head(section)).height());
         }
     }

@@ -192,17 +192,20 @@ QString RowsModel::row_text(int row) const {
                         : words({Word::rows_named, {number, name, kind}}, tongue_);
 }
 
+QString RowsModel::sums_head() const {
+    const bool is_ready = shown_ && arrived(*shown_->reading, *shown_->day).is_ready();
+    return words(is_ready ? Word::day_sum : Word::rows_sum_so_far, tongue_);
+}
+
 QVariant RowsModel::column_head(int column, int role) const {
     const auto quarter = quarter_of(column);
     const auto why = hindrance_of(column);
     switch (role) {
-    case Qt::DisplayRole: {
-        const bool is_ready = shown_ && arrived(*shown_->reading, *shown_->day).is_ready();
-        return quarter ? text(start(*quarter)) : words(is_ready ? Word::day_sum : Word::rows_sum_so_far, tongue_);
-    }
+    case Qt::DisplayRole:
+        return quarter ? text(start(*quarter)) : sums_head();
     case Qt::AccessibleTextRole:
     case Qt::ToolTipRole: {
-        const QString said = !quarter ? column_head(column, Qt::DisplayRole).toString()
+        const QString said = !quarter ? sums_head()
                              : why    ? words({Word::chart_hindered, {client::span(*quarter), *why}}, tongue_)
                                       : text(client::span(*quarter));
         return role == Qt::ToolTipRole ? tool_tip(said) : said;

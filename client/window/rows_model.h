@@ -59,6 +59,7 @@ class RowsModel : public QAbstractTableModel {
     QString told(const QModelIndex &index) const;
     std::string column_text(const QModelIndex &index) const;
     QString row_text(int row) const;
+    QString sums_head() const;
     QVariant column_head(int column, int role) const;
 
     std::optional<Shown> shown_;
