@@ -22,7 +22,7 @@ namespace client {
 
 namespace {
 
-// Rows that are measured: the rest of a long table is like them.
+// Rows whose texts are measured: the rest of a long table is like them.
 constexpr int rows_measured = 200;
 // Of the head of a row so much is always read: its id.
 constexpr double least_head_letters = 8;
@@ -103,17 +103,15 @@ void FillingTable::pin(std::optional<int> row, std::optional<int> column) {
 // Widths.
 
 int FillingTable::content_width(int column, TextWidths &widths) const {
+    // No figure is cut short, in whichever row: all are measured.
+    const bool has_figures = is_figure(model()->index(0, column));
+    const int rows = has_figures ? model()->rowCount() : std::min(model()->rowCount(), rows_measured);
     int widest = 0;
-    const auto measure_row = [&](int row) {
+    for (int row = 0; row < rows; ++row) {
         const QModelIndex index = model()->index(row, column);
-        const int width = widths.of(index.data().toString(), index.data(Qt::FontRole).isValid());
-        // A figure is never cut short.
-        widest = std::max(widest, is_figure(index) ? width : std::min(width, letters(*this, most_letters_)));
-    };
-    for (int row = 0; row < std::min(model()->rowCount(), rows_measured); ++row) {
-        measure_row(row);
+        widest = std::max(widest, widths.of(index.data().toString(), index.data(Qt::FontRole).isValid()));
     }
-    return widest;
+    return has_figures ? widest : std::min(widest, letters(*this, most_letters_));
 }
 
 int FillingTable::natural_width(int column, TextWidths &widths) const {

@@ -423,6 +423,7 @@ void TablesTest::rows_have_sums() {
     desk.open();
     settle(desk, small);
     desk.window().choose_plant({101});
+    desk.window().choose_quarter({12});
     press(desk.window(), Qt::Key_3, Qt::ControlModifier);
     QTest::qWait(30);
     QTableView &table = *rows_table(desk);
@@ -444,6 +445,17 @@ void TablesTest::rows_have_sums() {
     QCOMPARE(quarter.data().toString(), QString("0.00"));
     table.scrollTo(table.model()->index(plant, 12));
     QVERIFY(is_in_sight(table, quarter));
+    // The keys go there from the first quarter and from the first row.
+    table.setFocus();
+    table.setCurrentIndex(table.model()->index(0, 0));
+    press(desk.window(), Qt::Key_Left);
+    QCOMPARE(table.currentIndex(), table.model()->index(0, sums));
+    press(desk.window(), Qt::Key_Up);
+    QCOMPARE(table.currentIndex(), table.model()->index(all, sums));
+    press(desk.window(), Qt::Key_Return); // opens nothing
+    press(desk.window(), Qt::Key_Right);
+    QCOMPARE(table.currentIndex(), table.model()->index(all, 0));
+    QCOMPARE(desk.window().shown().quarter->number, 12);
     // Every quarter's line is the sum of its rows, and the corner that of all.
     auto *figures = table.parentWidget()->findChild<QComboBox *>();
     const auto fen = [](const QModelIndex &index) {
