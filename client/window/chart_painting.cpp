@@ -84,7 +84,7 @@ void ChartPainting::paint_swatch(QRect place, Mark mark) {
 }
 
 void ChartPainting::paint_hatching(QRect place) {
-    painter_.fillRect(place, QBrush(grey_, Qt::BDiagPattern));
+    client::paint_hatching(painter_, place, grey_);
 }
 
 // Marks are shapes, not letters of a font that may lack them.

@@ -3,9 +3,8 @@
 #include "cell_delegate.h"
 #include "duties.h"
 #include "look.h"
+#include "net_first.h"
 #include "shown.h"
-
-#include <QFont>
 
 #include <algorithm>
 #include <variant>
@@ -18,13 +17,12 @@ namespace {
 enum class Own { time, metered, load, note };
 using Column = std::variant<Own, Figure>;
 
-// Time, meter and load, then every field of a line, then the note.
+// The time and what people look for first, the net amount; meter and load, every other field of a line, the note.
 const std::vector<Column> &columns() {
     static const std::vector<Column> all = [] {
-        std::vector<Column> made{Own::time, Own::metered, Own::load};
-        for (const Field &each : fields()) {
-            made.emplace_back(each.figure);
-        }
+        const std::vector<Figure> &figures = net_first();
+        std::vector<Column> made{Own::time, figures.front(), Own::metered, Own::load};
+        made.insert(made.end(), figures.begin() + 1, figures.end());
         made.emplace_back(Own::note);
         return made;
     }();
@@ -98,6 +96,7 @@ void DayModel::show_day(const PlantDay &day, Tongue tongue) {
     beginResetModel();
     tongue_ = tongue;
     day_ = day;
+    is_folder_open_ = day.reading->unaccounted() > 0;
     endResetModel();
 }
 
@@ -138,17 +137,18 @@ QVariant DayModel::data(const QModelIndex &index, int role) const {
     case Qt::DisplayRole:
         return is_sums ? sums_text(index.column()) : quarter_text(index.row(), index.column());
     case Qt::ToolTipRole:
-        return tool_tip(hint(index));
+        return tool_tip(explained(index));
+    case Qt::AccessibleTextRole:
+        return index.column() == note_column() ? QVariant(told(index)) : QVariant();
+    case Qt::AccessibleDescriptionRole:
+        return index.column() == note_column() ? QVariant() : QVariant(explained(index));
     case Qt::TextAlignmentRole:
         return static_cast<int>(Qt::AlignVCenter |
                                 (is_text(column_at(index.column())) ? Qt::AlignLeft : Qt::AlignRight));
-    case Qt::FontRole: {
-        QFont bold;
-        bold.setBold(true);
-        return is_sums || is_net ? QVariant(bold) : QVariant();
-    }
-    case CellDelegate::result_role:
-        return is_sums;
+    case Qt::FontRole:
+        return bold_if(is_sums || is_net);
+    case CellDelegate::open_role:
+        return is_net && is_open(index.row());
     default:
         return {};
     }
@@ -179,18 +179,43 @@ QVariant DayModel::headerData(int section, Qt::Orientation orientation, int role
     }
 }
 
-// Why a quarter has no figures, anywhere in its row; else what may be cut short in the note.
-QString DayModel::hint(const QModelIndex &index) const {
-    if (index.row() != sums_row) {
-        const PlantQuarter &quarter = day_->quarters[static_cast<std::size_t>(index.row())];
-        if (const auto why = hindrance(*day_->reading, *quarter.read)) {
-            return words(*why, tongue_);
-        }
-        if (!quarter.line) {
-            return note(quarter);
-        }
+// Whether a quarter has figures that are not final; the sums, as long as one of them may change.
+bool DayModel::is_open(int row) const {
+    if (row == sums_row) {
+        return is_folder_open_;
     }
-    return index.column() == note_column() ? data(index, Qt::DisplayRole).toString() : QString();
+    const PlantQuarter &quarter = day_->quarters[static_cast<std::size_t>(row)];
+    return quarter.line && (is_folder_open_ || !quarter.read->named.empty());
+}
+
+// Why a quarter has no figures, or none that is final, anywhere in its row; of the note all of it, however narrow it
+// is.
+QString DayModel::explained(const QModelIndex &index) const {
+    if (index.column() == note_column()) {
+        return told(index);
+    }
+    const bool is_quarter = index.row() != sums_row;
+    const bool has_figures = !is_quarter || day_->quarters[static_cast<std::size_t>(index.row())].line;
+    return has_figures && !is_open(index.row()) ? QString() : told(index);
+}
+
+// The note and what else is to be said of a row.
+QString DayModel::told(const QModelIndex &index) const {
+    if (index.row() == sums_row) {
+        const auto open = reservation(*day_->reading);
+        const QString sums = sums_text(note_column());
+        return open ? words({Word::chart_reserved, {sums.toStdString(), *open}}, tongue_) : sums;
+    }
+    const PlantQuarter &quarter = day_->quarters[static_cast<std::size_t>(index.row())];
+    const auto why = hindrance(*day_->reading, *quarter.read);
+    const QString first = why ? words(*why, tongue_) : note(quarter);
+    const auto open = reservation(*day_->reading, *quarter.read);
+    if (!open) {
+        return first;
+    }
+    const bool is_sentence = why.has_value() || first.isEmpty();
+    return is_sentence ? words({Word::listing_sentences, {first.toStdString(), *open}}, tongue_).trimmed()
+                       : words({Word::chart_reserved, {first.toStdString(), *open}}, tongue_);
 }
 
 QString DayModel::quarter_text(int number, int column) const {
@@ -230,9 +255,9 @@ QString DayModel::sums_text(int column) const {
         break;
     }
     const std::size_t outside = quarters_outside(*day_);
-    return outside == 0   ? words(Word::day_sum_all, tongue_)
-           : outside == 1 ? words(Word::day_sum_without_one, tongue_)
-                          : words({Word::day_sum_without, {text(static_cast<std::int64_t>(outside))}}, tongue_);
+    return words(outside == 0 ? Said(Word::day_sum_all)
+                              : counted(outside, Word::day_sum_without_one, Word::day_sum_without),
+                 tongue_);
 }
 
 QString DayModel::note(const PlantQuarter &quarter) const {

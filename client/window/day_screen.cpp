@@ -138,6 +138,7 @@ void DayScreen::make_table(QBoxLayout &column) {
     table_->setAlternatingRowColors(true);
     table_->setFrameShape(QFrame::NoFrame);
     table_->give_room_to({DayModel::note_column()}, 28);
+    table_->pin(DayModel::sums_row, DayModel::net_column());
     split_->setChildrenCollapsible(false);
     split_->setStretchFactor(0, 1);
     split_->setStretchFactor(1, 1);
@@ -166,12 +167,12 @@ void DayScreen::set_fonts() {
     outdated_->setFont(scaled(font(), 1, QFont::DemiBold));
     mute(*parts_);
     mute(*standing_);
-    table_->setMinimumHeight(lines(*this, 7));
+    table_->setMinimumHeight(lines(*this, 9));
     auto *column = page_->layout();
     column->setSpacing(lines(*this, 0.5));
     below_answer_->setSpacing(lines(*this, 0.35));
     below_answer_->itemAt(0)->layout()->setSpacing(lines(*this, 0.3));
-    column->setContentsMargins(letters(*this, 1.5), lines(*this, 0.7), letters(*this, 1.5), lines(*this, 0.5));
+    set_page_margins(*page_);
 }
 
 // The button stands beside the sentences where there is room for both.

@@ -1,8 +1,7 @@
 #include "files_model.h"
 
+#include "cell_delegate.h"
 #include "look.h"
-
-#include <QFont>
 
 #include <algorithm>
 
@@ -66,11 +65,8 @@ QVariant FilesModel::data(const QModelIndex &index, int role) const {
         return tool_tip(cell_text(file, index.column()));
     case Qt::TextAlignmentRole:
         return static_cast<int>(Qt::AlignLeft | Qt::AlignVCenter);
-    case Qt::FontRole: {
-        QFont bold;
-        bold.setBold(true);
-        return file.is_faulty() && index.column() <= name ? QVariant(bold) : QVariant();
-    }
+    case Qt::FontRole:
+        return bold_if(file.is_faulty() && index.column() <= name);
     default:
         return {};
     }

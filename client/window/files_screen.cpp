@@ -89,7 +89,7 @@ FilesScreen::FilesScreen(QWidget *parent) : QWidget(parent) {
 }
 
 void FilesScreen::set_margins() {
-    layout()->setContentsMargins(letters(*this, 1.5), lines(*this, 0.7), letters(*this, 1.5), lines(*this, 0.5));
+    set_page_margins(*this);
     layout()->setSpacing(lines(*this, 0.5));
 }
 

@@ -29,10 +29,6 @@ class TextTable : public QAbstractTableModel {
     Q_OBJECT
 
   public:
-    static constexpr int void_role = Qt::UserRole;
-    static constexpr int result_role = Qt::UserRole + 1;
-    static constexpr int figure_role = Qt::UserRole + 2;
-
     using QAbstractTableModel::QAbstractTableModel;
 
     void fill(QStringList heads, std::vector<TextRow> rows);

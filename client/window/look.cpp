@@ -3,6 +3,7 @@
 #include <QApplication>
 #include <QFontMetricsF>
 #include <QLabel>
+#include <QLayout>
 #include <QPainter>
 #include <QStringList>
 #include <QToolTip>
@@ -58,6 +59,10 @@ int lines(const QWidget &widget, double count) {
     return static_cast<int>(std::lround(QFontMetricsF(widget.font()).height() * count));
 }
 
+int side_of(const QWidget &table) {
+    return letters(table, 1);
+}
+
 double contrast(const QColor &one, const QColor &other) {
     const double first = luminance(one) + 0.05;
     const double second = luminance(other) + 0.05;
@@ -89,12 +94,20 @@ int thin(const QFontMetrics &metrics) {
     return std::max(1, static_cast<int>(std::lround(metrics.height() / 16.0)));
 }
 
+void paint_hatching(QPainter &painter, const QRect &place, const QColor &colour) {
+    painter.fillRect(place, QBrush(colour, Qt::BDiagPattern));
+}
+
 void paint_focus(QPainter &painter, const QRect &around, const QPalette &palette) {
     const int thick = 2 * thin(painter.fontMetrics());
     const int half = thick / 2;
     painter.setPen(QPen(palette.color(QPalette::Highlight), thick, Qt::SolidLine, Qt::SquareCap, Qt::MiterJoin));
     painter.setBrush(Qt::NoBrush);
     painter.drawRect(around.adjusted(half, half, -half, -half));
+}
+
+void set_page_margins(QWidget &page) {
+    page.layout()->setContentsMargins(letters(page, 1.5), lines(page, 0.7), letters(page, 1.5), lines(page, 0.5));
 }
 
 QLabel *plain_label(QWidget *parent) {

@@ -23,6 +23,9 @@ QFont scaled(const QFont &font, double times, QFont::Weight weight = QFont::Norm
 // The width of so many digits, and the height of so many lines, in the widget's font.
 int letters(const QWidget &widget, double count);
 int lines(const QWidget &widget, double count);
+// What stands at either side of a cell's or a head's text. Twice this, and not the width of two letters: that may be a
+// hair less, and then the text is cut.
+int side_of(const QWidget &table);
 
 // How well one colour is read on the other, 1 to 21 (WCAG 2).
 double contrast(const QColor &one, const QColor &other);
@@ -34,9 +37,13 @@ QColor hairline(const QPalette &palette);
 void mute(QLabel &label);
 // How thick a fine line is in this font.
 int thin(const QFontMetrics &metrics);
+// The ground of a quarter that can have no figure, in the chart and in tables.
+void paint_hatching(QPainter &painter, const QRect &place, const QColor &colour);
 // The frame around what has the keys.
 void paint_focus(QPainter &painter, const QRect &around, const QPalette &palette);
 
+// The margins of a screen.
+void set_page_margins(QWidget &page);
 // A label that never takes a file's name for rich text.
 QLabel *plain_label(QWidget *parent);
 // A tool tip that says just this: Qt would take a text that looks like HTML for rich text.

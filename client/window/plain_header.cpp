@@ -1,10 +1,10 @@
 #include "plain_header.h"
 
+#include "cell_delegate.h"
+#include "laid_text.h"
 #include "look.h"
 
-#include <QAbstractButton>
 #include <QAbstractItemModel>
-#include <QEvent>
 #include <QFontMetrics>
 #include <QItemSelectionModel>
 #include <QPainter>
@@ -30,9 +30,10 @@ int PlainHeader::least_width(int section) const {
     const QString text = head(section);
     // A head that has lines of its own keeps them; any other is broken into three at most.
     const bool has_lines = text.contains(QLatin1Char('\n'));
-    int widest = has_lines ? 0 : fontMetrics().horizontalAdvance(text) * 2 / 5;
+    const auto width = [this](const QString &part) { return LaidText(part, font()).size().width(); };
+    int widest = has_lines ? 0 : width(text) * 2 / 5;
     for (const QString &part : text.split(QLatin1Char(has_lines ? '\n' : ' '))) {
-        widest = std::max(widest, fontMetrics().horizontalAdvance(part));
+        widest = std::max(widest, width(part));
     }
     return widest;
 }
@@ -41,19 +42,22 @@ int PlainHeader::needed_height() const {
     int tallest = fontMetrics().height();
     for (int section = 0; section < count(); ++section) {
         if (!isSectionHidden(section)) {
-            // A hair more than the longest word, or the word itself would be cut.
-            const int width = std::max(sectionSize(section) - letters(*this, 2), least_width(section)) + 1;
-            const QRect room(0, 0, width, lines(*this, 20));
+            const QRect room(0, 0, std::max(1, sectionSize(section) - 2 * side_of(*this)), lines(*this, 20));
             tallest = std::max(tallest, fontMetrics().boundingRect(room, Qt::TextWordWrap, head(section)).height());
         }
     }
     return tallest + lines(*this, 0.5);
 }
 
+void PlainHeader::lend(int room, std::function<void(QPainter &)> paint) {
+    lent_ = room;
+    paint_lent_ = std::move(paint);
+}
+
 QRect PlainHeader::place_of(int section) const {
     const int at = sectionViewportPosition(section);
-    return orientation() == Qt::Horizontal ? QRect(at, 0, sectionSize(section), viewport()->height())
-                                           : QRect(0, at, viewport()->width(), sectionSize(section));
+    return orientation() == Qt::Horizontal ? QRect(at, 0, sectionSize(section), viewport()->height() - lent_)
+                                           : QRect(0, at, viewport()->width() - lent_, sectionSize(section));
 }
 
 void PlainHeader::paintEvent(QPaintEvent *event) {
@@ -64,6 +68,9 @@ void PlainHeader::paintEvent(QPaintEvent *event) {
             paintSection(&painter, place_of(section), section);
         }
     }
+    if (paint_lent_) {
+        paint_lent_(painter);
+    }
 }
 
 int PlainHeader::alignment(int section) const {
@@ -72,18 +79,29 @@ int PlainHeader::alignment(int section) const {
 }
 
 void PlainHeader::paintSection(QPainter *painter, const QRect &place, int section) const {
-    painter->save();
+    paint_head(*painter, place, section);
+}
+
+void PlainHeader::paint_head(QPainter &painter, const QRect &place, int section) const {
+    painter.save();
+    painter.setFont(font());
     if (orientation() == Qt::Horizontal) {
-        paint_top(*painter, place, section);
+        paint_top(painter, place, section);
     } else {
-        paint_side(*painter, place, section);
+        paint_side(painter, place, section);
     }
-    painter->restore();
+    painter.restore();
 }
 
 void PlainHeader::paint_top(QPainter &painter, const QRect &place, int section) const {
     const int above = lines(*this, 0.2);
-    QRect inside = place.adjusted(letters(*this, 1), above, -letters(*this, 1), -above);
+    QRect inside = place.adjusted(side_of(*this), above, -side_of(*this), -above);
+    if (model()->headerData(section, orientation(), CellDelegate::void_role).toBool()) {
+        paint_hatching(painter, place, muted(palette()));
+        // The head is read all the same.
+        const QRect text = painter.boundingRect(inside, alignment(section), head(section));
+        painter.fillRect(text.adjusted(-2, 0, 2, 0), palette().color(QPalette::Base));
+    }
     painter.setPen(muted(palette()));
     QStringList parts = head(section).split(QLatin1Char('\n'));
     // Lines of their own are set one by one, from below: those of several scripts would differ in height.
@@ -102,51 +120,18 @@ void PlainHeader::paint_top(QPainter &painter, const QRect &place, int section) 
 void PlainHeader::paint_side(QPainter &painter, const QRect &place, int section) const {
     const auto *table = qobject_cast<const QTableView *>(parentWidget());
     const bool is_chosen = selectionModel() && selectionModel()->isRowSelected(section);
-    const bool is_darker = table && table->alternatingRowColors() && section % 2 == 1;
-    painter.fillRect(place, palette().color(is_chosen   ? QPalette::Highlight
-                                            : is_darker ? QPalette::AlternateBase
-                                                        : QPalette::Base));
-    const QRect inside = place.adjusted(letters(*this, 1), 0, -letters(*this, 1), 0);
+    const bool is_darker = table && table->alternatingRowColors() && section % 2 == 1 && !isSectionHidden(section);
+    const QPalette::ColorRole ground = is_chosen   ? QPalette::Highlight
+                                       : is_darker ? QPalette::AlternateBase
+                                                   : QPalette::Base;
+    // What is lent has the same ground.
+    painter.fillRect(place.adjusted(0, 0, lent_, 0), palette().color(ground));
+    const QRect inside = place.adjusted(side_of(*this), 0, -side_of(*this), 0);
     painter.setFont(model()->headerData(section, Qt::Vertical, Qt::FontRole).isValid() ? scaled(font(), 1, QFont::Bold)
                                                                                        : font());
     painter.setPen(palette().color(is_chosen ? QPalette::HighlightedText : QPalette::Text));
     painter.drawText(inside, alignment(section),
                      painter.fontMetrics().elidedText(head(section), Qt::ElideRight, inside.width()));
-}
-
-namespace {
-
-class PlainCorner : public QObject {
-  public:
-    explicit PlainCorner(QAbstractButton *corner) : QObject(corner), corner_(corner) {
-        corner->installEventFilter(this);
-    }
-
-    bool eventFilter(QObject *, QEvent *event) override {
-        if (event->type() != QEvent::Paint) {
-            return false;
-        }
-        QPainter painter(corner_);
-        const QRect all = corner_->rect();
-        const int thick = thin(corner_->fontMetrics());
-        // It cannot be pressed, and looks no different for it.
-        QPalette palette = corner_->palette();
-        palette.setCurrentColorGroup(QPalette::Active);
-        painter.fillRect(all, palette.color(QPalette::Base));
-        painter.fillRect(QRect(all.left(), all.bottom() + 1 - thick, all.width(), thick), muted(palette));
-        return true;
-    }
-
-  private:
-    QAbstractButton *corner_;
-};
-
-} // namespace
-
-void make_corner_plain(QTableView &table) {
-    if (auto *corner = table.findChild<QAbstractButton *>({}, Qt::FindDirectChildrenOnly)) {
-        new PlainCorner(corner);
-    }
 }
 
 } // namespace client

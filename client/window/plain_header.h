@@ -3,7 +3,7 @@
 
 #include <QHeaderView>
 
-class QTableView;
+#include <functional>
 
 namespace client {
 
@@ -17,6 +17,10 @@ class PlainHeader : public QHeaderView {
     int least_width(int section) const;
     // The height that all heads need in columns as wide as they are now.
     int needed_height() const;
+    // So much room, beside the cells, is not the heads': who has it paints it.
+    void lend(int room, std::function<void(QPainter &)> paint);
+    // A head at a place of its own.
+    void paint_head(QPainter &painter, const QRect &place, int section) const;
 
   protected:
     void paintEvent(QPaintEvent *event) override;
@@ -28,9 +32,9 @@ class PlainHeader : public QHeaderView {
     void paint_top(QPainter &painter, const QRect &place, int section) const;
     void paint_side(QPainter &painter, const QRect &place, int section) const;
     int alignment(int section) const;
-};
 
-// The corner between the heads of columns and rows is as plain as they are.
-void make_corner_plain(QTableView &table);
+    int lent_ = 0;
+    std::function<void(QPainter &)> paint_lent_;
+};
 
 } // namespace client

@@ -1,17 +1,16 @@
 #include "rows_screen.h"
 
-#include "cell_delegate.h"
+#include "filling_table.h"
+#include "laid_text.h"
 #include "look.h"
-#include "plain_header.h"
-#include "quiet_table.h"
+#include "net_first.h"
 #include "rows_model.h"
 
 #include <QComboBox>
 #include <QEvent>
-#include <QFontMetrics>
 #include <QHBoxLayout>
 #include <QLabel>
-#include <QTableView>
+#include <QScrollBar>
 #include <QTimer>
 #include <QVBoxLayout>
 
@@ -22,21 +21,33 @@ namespace client {
 
 namespace {
 
-// What people look for first comes first: the net amount, then every other field.
-const std::vector<Figure> &offered() {
-    static const std::vector<Figure> all = [] {
-        std::vector<Figure> made{Figure::net};
-        for (const Field &each : fields()) {
-            if (each.figure != Figure::net) {
-                made.push_back(each.figure);
-            }
-        }
-        return made;
-    }();
-    return all;
-}
+// Names leave most of the room to the figures.
+constexpr double most_name_part = 0.4;
 
-constexpr double most_name_letters = 40;
+// All columns are as wide as the longest figure of any of them: it is known without asking for every cell.
+class RowsTable : public FillingTable {
+  public:
+    RowsTable(RowsModel *model, QWidget *parent) : FillingTable(parent), rows_(model) {
+        setModel(model);
+        make_even();
+        show_row_heads(most_name_part);
+        setAlternatingRowColors(true);
+        setSelectionMode(QAbstractItemView::SingleSelection);
+    }
+
+  protected:
+    int content_width(int column, TextWidths &widths) const override {
+        int widest = 0;
+        for (const QString &longest : rows_->longest(column)) {
+            // The sums are bold, one of them in every column.
+            widest = std::max(widest, widths.of(longest, rows_->has_sums()));
+        }
+        return widest;
+    }
+
+  private:
+    RowsModel *rows_;
+};
 
 } // namespace
 
@@ -47,7 +58,11 @@ RowsScreen::RowsScreen(QWidget *parent) : QWidget(parent) {
         fit();
     });
     connect(table_, &QTableView::activated, this, [this](const QModelIndex &index) {
-        emit cell_chosen(model_->id_at(index.row()), Quarter{static_cast<std::uint8_t>(index.column())});
+        const auto id = model_->id_at(index.row());
+        const auto quarter = model_->quarter_of(index.column());
+        if (id && quarter) {
+            emit cell_chosen(*id, *quarter);
+        }
     });
 }
 
@@ -57,27 +72,12 @@ void RowsScreen::make_page() {
     figures_ = new QComboBox(this);
     figures_->setSizeAdjustPolicy(QComboBox::AdjustToContents);
     label_->setBuddy(figures_);
-    for (std::size_t i = 0; i < offered().size(); ++i) {
+    for (std::size_t i = 0; i < net_first().size(); ++i) {
         figures_->addItem({});
     }
     empty_ = plain_label(this);
     model_ = new RowsModel(this);
-    table_ = new QuietTable(this);
-    table_->setModel(model_);
-    table_->setItemDelegate(new CellDelegate(table_));
-    table_->setHorizontalHeader(new PlainHeader(Qt::Horizontal, table_));
-    names_ = new PlainHeader(Qt::Vertical, table_);
-    table_->setVerticalHeader(names_);
-    table_->horizontalHeader()->setSectionResizeMode(QHeaderView::Fixed);
-    names_->setSectionResizeMode(QHeaderView::Fixed);
-    make_corner_plain(*table_);
-    table_->setShowGrid(false);
-    table_->setWordWrap(false);
-    table_->setAlternatingRowColors(true);
-    table_->setTabKeyNavigation(false);
-    table_->setCornerButtonEnabled(false);
-    table_->setEditTriggers(QAbstractItemView::NoEditTriggers);
-    table_->setSelectionMode(QAbstractItemView::SingleSelection);
+    table_ = new RowsTable(model_, this);
 
     auto *above = new QHBoxLayout;
     above->addWidget(label_);
@@ -90,12 +90,12 @@ void RowsScreen::make_page() {
 }
 
 Figure RowsScreen::figure() const {
-    return offered()[static_cast<std::size_t>(std::max(0, figures_->currentIndex()))];
+    return net_first()[static_cast<std::size_t>(std::max(0, figures_->currentIndex()))];
 }
 
 void RowsScreen::name_figures(Tongue tongue) {
-    for (std::size_t i = 0; i < offered().size(); ++i) {
-        figures_->setItemText(static_cast<int>(i), words(long_name(field(offered()[i])), tongue));
+    for (std::size_t i = 0; i < net_first().size(); ++i) {
+        figures_->setItemText(static_cast<int>(i), words(long_name(field(net_first()[i])), tongue));
     }
     label_->setText(words(Word::rows_figure, tongue));
     figures_->setAccessibleName(words(Word::rows_figure, tongue));
@@ -104,6 +104,7 @@ void RowsScreen::name_figures(Tongue tongue) {
 
 void RowsScreen::clear(Tongue tongue) {
     forget_tool_tips();
+    leave_place();
     model_->clear(tongue);
     empty_->clear();
     name_figures(tongue);
@@ -127,39 +128,69 @@ void RowsScreen::show_rows(const Shown &shown) {
     empty_->setVisible(model_->rowCount() == 0);
     table_->setVisible(model_->rowCount() > 0);
     fit();
+    take_place(shown);
+}
+
+// A refresh leaves the table as it was: where it was scrolled to, and at which cell somebody was.
+void RowsScreen::leave_place() {
+    if (model_->rowCount() == 0) {
+        return;
+    }
+    const QModelIndex at = table_->currentIndex();
+    place_ = Place{.row = model_->id_at(at.row()),
+                   .column = at.column(),
+                   .across = table_->horizontalScrollBar()->value(),
+                   .down = table_->verticalScrollBar()->value()};
+}
+
+void RowsScreen::take_place(const Shown &shown) {
+    const std::optional<Place> left = std::exchange(place_, std::nullopt);
+    const bool is_same_day = std::exchange(day_, shown.day) == shown.day;
+    if (!left || !is_same_day || model_->rowCount() == 0) {
+        chosen_.reset();
+        choose(shown.plant, shown.quarter);
+        // It may not have its size yet.
+        QTimer::singleShot(0, table_, [this] { table_->scrollTo(table_->currentIndex()); });
+        return;
+    }
+    const auto row = left->row ? model_->row_of(*left->row) : model_->sums_row();
+    // Qt would bring the cell into sight, at once or when the table is next shown.
+    table_->setAutoScroll(false);
+    table_->setCurrentIndex(row && left->column >= 0 ? model_->index(*row, left->column) : QModelIndex());
+    table_->setAutoScroll(true);
+    table_->doItemsLayout();
+    table_->horizontalScrollBar()->setValue(left->across);
+    table_->verticalScrollBar()->setValue(left->down);
     choose(shown.plant, shown.quarter);
-    QTimer::singleShot(0, table_, [this] { table_->scrollTo(table_->currentIndex()); });
 }
 
-// All columns are as wide as the longest figure of any of them.
+// A figure that has no sum has no place for it.
 void RowsScreen::fit() {
-    const QFontMetrics metrics(table_->font());
-    int cell = metrics.horizontalAdvance(text(start({})));
-    for (const QString &longest : model_->longest()) {
-        cell = std::max(cell, metrics.horizontalAdvance(longest));
+    const bool has_sums = model_->has_sums();
+    if (model_->rowCount() > 0) {
+        table_->setRowHidden(model_->sums_row(), true);
     }
-    int name = 0;
-    for (int row = 0; row < model_->rowCount(); ++row) {
-        name = std::max(name, metrics.horizontalAdvance(model_->headerData(row, Qt::Vertical).toString()));
-    }
-    table_->horizontalHeader()->setDefaultSectionSize(cell + letters(*this, 2));
-    table_->horizontalHeader()->setFixedHeight(lines(*this, 1.7));
-    names_->setDefaultSectionSize(lines(*this, 1.5));
-    names_->setFixedWidth(std::min(name, letters(*this, most_name_letters)) + letters(*this, 2));
-    layout()->setContentsMargins(letters(*this, 1.5), lines(*this, 0.7), letters(*this, 1.5), lines(*this, 0.5));
+    table_->setColumnHidden(RowsModel::sums_column, true);
+    table_->pin(has_sums && model_->rowCount() > 0 ? std::optional(model_->sums_row()) : std::nullopt,
+                has_sums ? std::optional(RowsModel::sums_column) : std::nullopt);
+    table_->fit();
+    set_page_margins(*this);
 }
 
+// Only what is newly chosen is marked and brought into sight: somebody may be at another cell.
 void RowsScreen::choose(std::optional<RowId> plant, std::optional<Quarter> quarter) {
     const auto row = plant ? model_->row_of(*plant) : std::nullopt;
     if (!row) {
+        chosen_.reset();
         table_->setCurrentIndex({});
         return;
     }
-    const QModelIndex index = model_->index(*row, quarter ? quarter->number : 0);
-    if (table_->currentIndex() != index) {
-        table_->setCurrentIndex(index);
-        table_->scrollTo(index);
+    if (std::exchange(chosen_, std::pair(*plant, quarter)) == std::pair(*plant, quarter)) {
+        return;
     }
+    const QModelIndex index = model_->index(*row, quarter ? quarter->number : 0);
+    table_->setCurrentIndex(index);
+    table_->scrollTo(index);
 }
 
 void RowsScreen::focus_table() {

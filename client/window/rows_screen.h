@@ -5,13 +5,14 @@
 
 #include <QWidget>
 
+#include <utility>
+
 class QComboBox;
 class QLabel;
-class QTableView;
 
 namespace client {
 
-class PlainHeader;
+class FillingTable;
 class RowsModel;
 enum class Figure;
 
@@ -39,13 +40,24 @@ class RowsScreen : public QWidget {
     void name_figures(Tongue tongue);
     Figure figure() const;
     void fit();
+    void leave_place();
+    void take_place(const Shown &shown);
 
     QLabel *label_ = nullptr;
     QComboBox *figures_ = nullptr;
     QLabel *empty_ = nullptr;
-    QTableView *table_ = nullptr;
-    PlainHeader *names_ = nullptr;
+    FillingTable *table_ = nullptr;
     RowsModel *model_ = nullptr;
+
+    // Where somebody was in a day's table: its cell, and how far it was scrolled. No figure is kept.
+    struct Place {
+        std::optional<RowId> row; // none for the sums
+        int column = 0;
+        int across = 0, down = 0;
+    };
+    std::optional<Place> place_;                                     // left by the reading before
+    std::optional<Day> day_;                                         // whose table was shown last,
+    std::optional<std::pair<RowId, std::optional<Quarter>>> chosen_; // and what was marked in it
 };
 
 } // namespace client

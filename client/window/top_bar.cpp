@@ -42,6 +42,11 @@ QPushButton *button(QWidget *parent) {
     return made;
 }
 
+// A name that is longer than its field is read from its front.
+void show_front(QComboBox &choice) {
+    choice.lineEdit()->setCursorPosition(0);
+}
+
 // A plant is found by any part of its line.
 void make_searchable(QComboBox *plants) {
     plants->setEditable(true);
@@ -146,6 +151,7 @@ void TopBar::offer_plants(const Shown &shown) {
     if (at < 0) {
         plant_->setEditText(shown.plant ? words(plant_name(*shown.reading, *shown.plant), shown.tongue) : QString());
     }
+    show_front(*plant_);
     if (!typed_.isEmpty()) {
         plant_->setEditText(typed_);
         plant_->lineEdit()->setModified(true);
@@ -174,6 +180,7 @@ void TopBar::find_plant() {
         return;
     }
     plant_->setCurrentIndex(at);
+    show_front(*plant_);
     plant_->lineEdit()->setModified(false);
     emit plant_chosen(RowId{static_cast<std::uint16_t>(plant_->itemData(at).toUInt())});
 }
