@@ -5,9 +5,9 @@
 //
 // EXAMPLE is the example day and LATE the folder of its late correction. Beside each picture stands a text: every line
 // of letters that is painted in it, the chart's too. The texts have to be the same on every machine: no figure can be
-// another one unnoticed. Letters are smoothed by each kind of processor in its own way, so OUT says on which kind the
-// pictures were taken: there they have to agree closely, on another kind only by and large. The clock of the window
-// tells the same time in all pictures.
+// another one unnoticed. Letters are smoothed by each kind of processor in its own way, so a file says on which kind
+// the pictures were taken: there they have to agree closely, on another kind only by and large, and lines may end
+// elsewhere. The clock of the window tells the same time in all pictures.
 #include "desk.h"
 #include "painted_text.h"
 #include "typeface.h"
@@ -230,7 +230,16 @@ QString fault_of_image(const QImage &taken, const QImage &committed, bool is_sam
     return is_right ? QString() : QString("another picture, %1 points differ").arg(apart);
 }
 
-QString fault_of_text(const QStringList &taken, const QStringList &committed) {
+// Without what says where lines end: letters that are a hair wider may end them elsewhere.
+QString letters_of(const QStringList &lines) {
+    static const QRegularExpression between("[\\s|]+");
+    return lines.join(' ').remove(between);
+}
+
+QString fault_of_text(const QStringList &taken, const QStringList &committed, bool is_same_processor) {
+    if (!is_same_processor && letters_of(taken) == letters_of(committed)) {
+        return {};
+    }
     const QString apart = difference(taken.join('\n'), committed.join('\n'));
     return apart.isEmpty() ? QString() : "another text, " + apart;
 }
@@ -238,7 +247,7 @@ QString fault_of_text(const QStringList &taken, const QStringList &committed) {
 int compare(const Taken &taken, const QString &name, const QString &committed) {
     const bool is_same_processor = lines_of(path_in(committed, processor_file)).value(0) == this_processor();
     const QImage image = QImage(path_in(committed, name + ".png")).convertToFormat(QImage::Format_RGB32);
-    QStringList faults{fault_of_text(taken.text, lines_of(path_in(committed, name + ".txt"))),
+    QStringList faults{fault_of_text(taken.text, lines_of(path_in(committed, name + ".txt")), is_same_processor),
                        fault_of_image(taken.image, image, is_same_processor)};
     faults.removeAll(QString());
     const auto as_before = QString("as before%1").arg(is_same_processor ? "" : " (taken on another kind of processor)");
