@@ -11,7 +11,6 @@
 #include <QFile>
 #include <QFileInfo>
 #include <QProcess>
-#include <QSignalSpy>
 #include <QTabWidget>
 #include <QTemporaryDir>
 
@@ -129,9 +128,11 @@ class Bench {
 
     // What is asked of the window, from there until its figures are painted.
     void painted_after(Loop &loop, const std::function<void()> &ask) {
-        QSignalSpy taken(window_.get(), &MainWindow::taken);
+        bool is_taken = false;
+        const auto heard = QObject::connect(window_.get(), &MainWindow::taken, [&] { is_taken = true; });
         ask();
-        must(loop.until([&] { return !taken.isEmpty() && window_->shown().reading; }), "no figures come");
+        must(loop.until([&] { return is_taken && window_->shown().reading; }), "no figures come");
+        QObject::disconnect(heard);
         loop.until_idle();
     }
 

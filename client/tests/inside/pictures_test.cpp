@@ -14,6 +14,7 @@
 
 #include <QDir>
 #include <QFile>
+#include <QHash>
 #include <QImage>
 #include <QLabel>
 #include <QPainter>
@@ -30,8 +31,8 @@ using namespace client;
 namespace {
 
 // So many points may differ clearly on the kind of processor on which the pictures were taken, and so many of a
-// thousand on another.
-constexpr qint64 most_points = 4;
+// thousand on another. Two digits of the usual size differ by 2 points at least (6 and 8 in bold).
+constexpr qint64 most_points = 1;
 constexpr double most_elsewhere = 5.0;
 // How far the red, green or blue of two points that look alike may be apart, of 255.
 constexpr int clearly = 48;
@@ -122,6 +123,29 @@ QImage resting_image(MainWindow &window) {
     return image;
 }
 
+// The same with 16 steps of red, green and blue, a list of colours and their places in it: a third of the bytes, and
+// nobody sees it.
+QImage with_few_colours(const QImage &image) {
+    constexpr int step = 17;
+    const auto rounded = [](int part) { return (part + step / 2) / step * step; };
+    QImage few(image.size(), QImage::Format_Indexed8);
+    QHash<QRgb, int> places;
+    QList<QRgb> colours;
+    for (int y = 0; y < image.height(); ++y) {
+        for (int x = 0; x < image.width(); ++x) {
+            const QRgb point = image.pixel(x, y);
+            const QRgb colour = qRgb(rounded(qRed(point)), rounded(qGreen(point)), rounded(qBlue(point)));
+            if (!places.contains(colour)) {
+                places.insert(colour, static_cast<int>(colours.size()));
+                colours << colour;
+            }
+            few.scanLine(y)[x] = static_cast<uchar>(places[colour]);
+        }
+    }
+    few.setColorTable(colours);
+    return colours.size() <= 256 ? few : image;
+}
+
 struct Taken {
     QImage image;
     QStringList text;
@@ -146,7 +170,7 @@ Taken taken_of(const Picture &picture, const std::filesystem::path &example, con
     QTest::keyClick(&window, picture.screen, Qt::ControlModifier);
     QApplication::processEvents();
     set_clock(window);
-    return {resting_image(window), painted_text(window)};
+    return {with_few_colours(resting_image(window)), painted_text(window)};
 }
 
 // Files.
@@ -179,7 +203,8 @@ QStringList lines_of(const QString &path) {
 }
 
 void keep(const Taken &taken, const QString &name, const QString &folder) {
-    if (!taken.image.save(path_in(folder, name + ".png"))) {
+    constexpr int smallest = 0;
+    if (!taken.image.save(path_in(folder, name + ".png"), "PNG", smallest)) {
         fail("cannot write into " + folder);
     }
     write_lines(path_in(folder, name + ".txt"), taken.text);
@@ -246,7 +271,7 @@ QString fault_of_text(const QStringList &taken, const QStringList &committed, bo
 
 int compare(const Taken &taken, const QString &name, const QString &committed) {
     const bool is_same_processor = lines_of(path_in(committed, processor_file)).value(0) == this_processor();
-    const QImage image = QImage(path_in(committed, name + ".png")).convertToFormat(QImage::Format_RGB32);
+    const QImage image(path_in(committed, name + ".png"));
     QStringList faults{fault_of_text(taken.text, lines_of(path_in(committed, name + ".txt")), is_same_processor),
                        fault_of_image(taken.image, image, is_same_processor)};
     faults.removeAll(QString());

@@ -207,7 +207,8 @@ def bad_starts(desk):
     for arguments, name, said in starts:
         client = desk.start(*arguments, under=as_anybody())
         client.must_say(said)
-        client.press('F5', 'ctrl+e', 'ctrl+d', 'ctrl+1', 'ctrl+2', 'ctrl+3', 'ctrl+4', 'Escape', 'ctrl+l', 'ctrl+l')
+        # F5 comes last: Esc stops what is being read, and a folder that is not there is tried over and over.
+        client.press('ctrl+e', 'ctrl+d', 'ctrl+1', 'ctrl+2', 'ctrl+3', 'ctrl+4', 'Escape', 'ctrl+l', 'ctrl+l', 'F5')
         client.must_say(said)
         client.no_money()
         assert client.close() == 0
