@@ -1,18 +1,21 @@
 # For scripts that take long: what they are doing goes to standard error, on a terminal as one line that is rewritten, elsewhere as a plain line
 # for each step. To be sourced.
+# shellcheck shell=bash
 
 is_terminal() { [ -t 2 ]; }
 
 # One step that begins now.
 say_step() { # WORDS
-    is_terminal && printf '\r\033[K%s' "$1" >&2 || echo "$1" >&2
+    if is_terminal; then say_how_far "$1"; else echo "$1" >&2; fi
 }
 
 # How far it is: on a terminal alone.
 say_how_far() { # WORDS
     is_terminal || return 0
-    local room=$(($(tput cols 2>/dev/null || echo 80) - 1))
-    printf '\r\033[K%s' "${1:0:room}" >&2
+    local room
+    room=$(stty size <&2 2>/dev/null | cut -d " " -f 2) || true
+    [ "${room:-0}" -gt 1 ] || room=80
+    printf '\r\033[K%s' "${1:0:room-1}" >&2
 }
 
 say_no_more() {

@@ -92,7 +92,8 @@ void copy_folder(const std::filesystem::path &from, const std::filesystem::path 
 void wait_for(MainWindow &window, const std::function<void()> &begin) {
     QSignalSpy taken(&window, &MainWindow::taken);
     begin();
-    if (!taken.wait(limit_ms)) {
+    const auto is_there = [&] { return !taken.isEmpty() && window.shown().reading && !window.is_reading(); };
+    if (!QTest::qWaitFor(is_there, limit_ms)) {
         fail("the window has taken no reading");
     }
 }
