@@ -1,4 +1,8 @@
-"""A desk for one trial of the client: a copy of the example day, settings of its own, the words of both tongues, and the client on it."""
+"""A desk for one trial of the client: a copy of the example day, settings of its own, the words of both tongues, and the client on it.
+
+What is asserted is what is said, and what is nowhere once something else is said; never after what time. The client takes all figures away while a
+reading takes long, so on a busy machine a widget may be empty for a moment: what has to be there is waited for.
+"""
 import os, re, shutil, struct, subprocess, tempfile, time
 
 import screen
@@ -12,9 +16,8 @@ QUARTER, SPAN, OWED = 12, '03:00–03:15', '5,632.82'
 # The same after the late correction.
 LATE_SUM, LATE_OWED = '44,612.12', '4,506.22'
 
+AGAIN = 5           # seconds after which something is done once more
 MONEY = re.compile(r'\d\.\d{2}(?!\d)')
-SECOND = 1.0        # within this a change is on the screen
-LONG = 10           # what has no promise: the limit is there so that nothing waits for ever
 
 
 class Words:
@@ -65,11 +68,11 @@ def as_anybody():
     return ('setpriv', '--bounding-set=-dac_override,-dac_read_search', '--') if os.geteuid() == 0 else ()
 
 
-def timed(act, seen, limit, what, tell=None):
-    """Does something and hands back after how many seconds it was seen."""
+def timed(act, seen, what, tell=None):
+    """Does something and hands back after how many seconds it was seen. The time is told and nothing hangs on it: a busy machine may take longer."""
     begun = time.monotonic()
     act()
-    screen.wait_until(seen, limit - (time.monotonic() - begun), what, tell)
+    screen.wait_until(seen, what, tell)
     return time.monotonic() - begun
 
 
@@ -81,24 +84,68 @@ class Client(screen.Program):
         found = (widget for widget in self.widgets(hidden=False, cells=False) if any(text in told for told in widget.texts()))
         return next(found, None)
 
-    def must_say(self, text, limit=LONG):
-        return self.wait_until(lambda: self.says(text), limit, repr(text))
+    def must_say(self, text):
+        return self.wait_until(lambda: self.says(text), repr(text))
 
-    def must_show(self, text, limit=LONG):
-        """As must_say, cells too."""
-        self.wait_until(lambda: self.shows(text), limit, repr(text))
-
-    def label(self, text):
-        """The label that says this, once there is one."""
+    def label(self, *texts):
+        """The label that says all of this, once there is one."""
         def found():
-            return next((label for label in self.find_all('label') if text in label.name), None)
-        return self.wait_until(found, LONG, f'a label with {text!r}')
+            return next((label for label in self.find_all('label') if all(text in label.name for text in texts)), None)
+        return self.wait_until(found, f'a label with {texts!r}')
 
     def name_of(self, widget):
         return self.again(widget).name
 
     def description_of(self, widget):
         return self.again(widget).description
+
+    def must_begin(self, widget, text):
+        """The widget comes to say something that begins with this."""
+        self.wait_until(lambda: self.name_of(widget).startswith(text), f'{widget} says {text!r}..')
+
+    def must_describe(self, widget, text):
+        """The widget comes to be described by just this."""
+        self.wait_until(lambda: self.description_of(widget) == text, f'{widget} is described by {text!r}')
+
+    # Where something is not there yet, it is waited for.
+
+    def once(self, look, what):
+        """What a look hands back, once it finds something."""
+        def found():
+            try:
+                return look()
+            except LookupError:
+                return None
+        return self.wait_until(found, what)
+
+    def find(self, role=None, name=None, hidden=False):
+        return self.once(lambda: screen.Program.find(self, role, name, hidden), f'{role or "widget"} {name!r}')
+
+    def table(self, name, all_columns=False, hidden=False):
+        return self.once(lambda: screen.Program.table(self, name, all_columns, hidden), f'table {name!r}')
+
+    def cell(self, name, row, column):
+        return self.once(lambda: screen.Program.cell(self, name, row, column), f'a cell of table {name!r}')
+
+    def again_until(self, act, seen, what):
+        """Does something over and over until it has worked: what hangs on the time between two clicks, or on a pointer that rests, may not work on a
+        busy machine."""
+        def worked():
+            act()
+            try:
+                return screen.wait_until(seen, what, limit=AGAIN)
+            except screen.TooLate:
+                return None
+        return self.wait_until(worked, what)
+
+    def work_out_again(self):
+        """F5. The label tells the time to the second, so another second than the one that it tells has to have come."""
+        as_of = self.label(english('as-of', '', '').split('  ')[0])
+        before = self.name_of(as_of)
+        self.wait_until(lambda: time.strftime('%H:%M:%S') not in before, 'another second')
+        self.press('F5')
+        self.wait_until(lambda: self.name_of(as_of) not in ('', before), 'another time of working out')
+        return as_of
 
     def chart(self, words=english):
         return self.find('chart', words('chart.name'))
@@ -110,7 +157,7 @@ class Client(screen.Program):
         def click_at(across):
             before = self.description_of(chart)
             self.click_at(across, top + high // 2)
-            self.wait_until(lambda: self.description_of(chart) != before, LONG, 'another quarter')
+            self.wait_until(lambda: self.description_of(chart) != before, 'another quarter')
             hour, minute = map(int, re.match(r'(\d\d):(\d\d)', self.description_of(chart)).groups())
             return hour * 4 + minute // 15
         first, second = left + wide // 3, left + wide * 9 // 10

@@ -9,6 +9,7 @@ go on, and the exit status is 1.
 import argparse, os, subprocess, sys, tempfile, time, traceback
 
 sys.dont_write_bytecode = True     # nothing is left beside the sources
+import screen
 from desk import HERE, Desk
 from trials_changes import bursts, changes, disturbed, refused_correction
 from trials_files import bad_input, bad_starts, export, writes_nothing
@@ -40,7 +41,7 @@ def try_on_screen_of_its_own(trial, told):
     display = os.path.join(HERE, '..', '..', 'tools', 'display')
     argv = [display, sys.executable, os.path.join(HERE, 'drive.py'), told.program, told.example, told.late, trial.__name__]
     settings = {**SCREENS[trial], 'OUTSIDE_PICTURES': told.pictures, 'OUTSIDE_SCREEN': trial.__name__}
-    run = subprocess.run(argv, env={**os.environ, **settings}, stdout=subprocess.PIPE, timeout=60, text=True)
+    run = subprocess.run(argv, env={**os.environ, **settings}, stdout=subprocess.PIPE, timeout=10 * screen.LIMIT, text=True)
     lines = run.stdout.splitlines()
     if run.returncode != 0:
         raise AssertionError('on a screen of its own:\n' + '\n'.join(lines))

@@ -2,13 +2,14 @@
 real pointer (xdotool). For /usr/bin/python3 (python3-gi comes with Debian's python3-pyatspi), inside client/tools/display:
 
     with screen.Program(['build/wheatrudder', folder]) as program:
-        program.wait_until(lambda: program.shows('584.92'), 1, 'the amount')
+        program.wait_until(lambda: program.shows('584.92'), 'the amount')
         program.press('ctrl+2')
         heads, rows = program.table('Day book')
 
 The protocol is spoken directly, over Gio: pyatspi and libatspi under it keep names and states and may hand back old ones, while here
 nothing is kept, each reading asks the program for everything. Calls go out in bundles, so a window of a thousand texts is read in well under a second.
-Every wait has a limit; past it the error says what was showing.
+Every wait is for something to be seen, and has the same limit, which is there so that nothing waits for ever: how fast the machine is, and how busy,
+makes no difference. Past it the error says what was showing.
 """
 import functools, os, signal, subprocess, time
 
@@ -30,7 +31,7 @@ CHECKED, ENABLED, FOCUSED, SELECTED, SHOWING = 4, 8, 12, 23, 25
 ITEMS = ('cell', 'page tab', 'list item', 'tree item')
 
 POLL = 0.02
-ANSWER = 5          # seconds in which the program has to answer one question
+LIMIT = 60          # seconds; no promise of anybody
 BUNDLE = 200        # questions under way at once
 
 
@@ -42,21 +43,21 @@ class NoAnswer(AssertionError):
     """The program has ended, or does not answer."""
 
 
-def wait_until(condition, limit_seconds, what, tell=None):
+def wait_until(condition, what, tell=None, limit=LIMIT):
     """Waits until the condition holds and hands back what it gave. `tell` gives the text that helps if it never does."""
-    end = time.monotonic() + limit_seconds
+    end = time.monotonic() + limit
     while True:
         holds = condition()
         if holds:
             return holds
         if time.monotonic() > end:
-            raise TooLate(f'not within {limit_seconds} s: {what}' + (f'\n{tell()}' if tell else ''))
+            raise TooLate(f'not within {limit} s: {what}' + (f'\n{tell()}' if tell else ''))
         time.sleep(POLL)
 
 
-def xdotool(*words, limit=10):
+def xdotool(*words):
     """Runs xdotool and hands back what it printed, '' if it found nothing."""
-    run = subprocess.run(['xdotool', *map(str, words)], stdout=subprocess.PIPE, stderr=subprocess.DEVNULL, timeout=limit, text=True)
+    run = subprocess.run(['xdotool', *map(str, words)], stdout=subprocess.PIPE, stderr=subprocess.DEVNULL, timeout=LIMIT, text=True)
     return run.stdout.strip()
 
 
@@ -65,7 +66,7 @@ class Bus:
 
     def __init__(self):
         session = Gio.bus_get_sync(Gio.BusType.SESSION, None)
-        address = session.call_sync('org.a11y.Bus', '/org/a11y/bus', 'org.a11y.Bus', 'GetAddress', None, None, 0, ANSWER * 1000, None).unpack()[0]
+        address = session.call_sync('org.a11y.Bus', '/org/a11y/bus', 'org.a11y.Bus', 'GetAddress', None, None, 0, LIMIT * 1000, None).unpack()[0]
         flags = Gio.DBusConnectionFlags.AUTHENTICATION_CLIENT | Gio.DBusConnectionFlags.MESSAGE_BUS_CONNECTION
         self.bus = Gio.DBusConnection.new_for_address_sync(address, flags, None, None)
 
@@ -89,7 +90,7 @@ class Bus:
                 answers[place] = error
 
         for place, (name, path, interface, method, arguments) in enumerate(questions):
-            self.bus.call(name, path, interface, method, arguments, None, 0, ANSWER * 1000, None, answered, place)
+            self.bus.call(name, path, interface, method, arguments, None, 0, LIMIT * 1000, None, answered, place)
         while left:
             GLib.MainContext.default().iteration(True)
         return [self.settled(answer) for answer in answers]
@@ -130,7 +131,7 @@ class Ears:
         self.bus, self.told = Bus().bus, []
         for event in ('object:', 'focus:'):
             self.bus.call_sync('org.a11y.atspi.Registry', '/org/a11y/atspi/registry', 'org.a11y.atspi.Registry', 'RegisterEvent',
-                               GLib.Variant('(sass)', (event, [], '')), None, 0, ANSWER * 1000, None)
+                               GLib.Variant('(sass)', (event, [], '')), None, 0, LIMIT * 1000, None)
         self.bus.signal_subscribe(None, 'org.a11y.atspi.Event.Object', None, None, None, Gio.DBusSignalFlags.NONE, self.take)
 
     def __enter__(self):
@@ -143,13 +144,12 @@ class Ears:
         detail, number = arguments.unpack()[:2]
         self.told.append((event, detail, number, (sender, path)))
 
-    def heard(self, seconds=0.4):
-        """What was told since the last time, and within so many seconds from now."""
-        end = time.monotonic() + seconds
-        while time.monotonic() < end:
-            while GLib.MainContext.default().iteration(False):
-                pass
-            time.sleep(POLL)
+    def heard(self, program):
+        """What was told since the last time. The program is asked something on the same way: the bus keeps the order, so that what it told before it
+        answers is here by then."""
+        self.bus.call_sync(program.name, ROOT, *get(ACCESSIBLE, 'Name'), None, 0, LIMIT * 1000, None)
+        while GLib.MainContext.default().iteration(False):
+            pass
         told, self.told = self.told, []
         return told
 
@@ -196,15 +196,15 @@ class Widget:
 class Program:
     """A program that runs, has a window and answers."""
 
-    def __init__(self, argv, env=None, limit=10, **more):
+    def __init__(self, argv, env=None, **more):
         """Starts it and waits for its window. `env` is added to the environment; `more` goes to subprocess.Popen."""
         self.argv = [str(word) for word in argv]
         self.process = subprocess.Popen(self.argv, env={**os.environ, **(env or {})}, start_new_session=True, **more)
         try:
             self.bus = Bus()
             self.name = None
-            wait_until(self.has_window, limit, f'a window of {self.argv[0]}')
-            wait_until(self.is_active, limit, f'keys go to {self.argv[0]}')
+            wait_until(self.has_window, f'a window of {self.argv[0]}')
+            wait_until(self.is_active, f'keys go to {self.argv[0]}')
         except BaseException:
             self.end()
             raise
@@ -256,7 +256,7 @@ class Program:
             raise TooLate(f'{self.argv[0]} has no window that can be seen')
         return int(seen[0])
 
-    def end(self, limit=5):
+    def end(self):
         """Ends it and everything that it started; hands back its exit status, negative for a signal."""
         for ask in (signal.SIGTERM, signal.SIGKILL):
             try:
@@ -264,15 +264,15 @@ class Program:
             except ProcessLookupError:
                 pass
             try:
-                return self.process.wait(limit)
+                return self.process.wait(LIMIT / 4)
             except subprocess.TimeoutExpired:
                 continue
-        return self.process.wait(limit)
+        return self.process.wait(LIMIT)
 
-    def close(self, limit=5):
+    def close(self):
         """Closes the active window by the window manager's key, as a person does, and waits for the program's end; its exit status."""
         self.press('alt+F4')
-        wait_until(lambda: self.process.poll() is not None, limit, f'{self.argv[0]} ends when its window is closed')
+        wait_until(lambda: self.process.poll() is not None, f'{self.argv[0]} ends when its window is closed')
         return self.process.returncode
 
     # Reading.
@@ -412,8 +412,10 @@ class Program:
 
     def cell(self, name, row, column):
         """A table's cell as a widget, to click at."""
-        table = [widget for widget in self.find_all(None, name) if TABLE in widget.interfaces][0]
-        cell = Widget(self.cells(table.address, [(row, column)])[0], table)
+        tables = [widget for widget in self.find_all(None, name) if TABLE in widget.interfaces]
+        if not tables:
+            raise LookupError(f'no table {name!r}\n{self.told()}')
+        cell = Widget(self.cells(tables[0].address, [(row, column)])[0], tables[0])
         self.fill([cell])
         return cell
 
@@ -426,20 +428,20 @@ class Program:
         more = [f'.. and {len(texts) - most} more'] if len(texts) > most else []
         return 'showing:\n' + '\n'.join([f'    {text}' for text in texts[:most]] + more)
 
-    def wait_until(self, condition, limit_seconds, what):
+    def wait_until(self, condition, what):
         """As the function of that name; the error tells what is showing."""
-        return wait_until(condition, limit_seconds, what, self.told)
+        return wait_until(condition, what, self.told)
 
     # Keys and pointer.
 
     def press(self, *keys):
         """Presses keys one after the other, as xdotool names them: 'ctrl+2', 'F5', 'Right', 'Tab', 'Return'."""
-        wait_until(self.is_active, 2, f'keys go to {self.argv[0]}')
+        wait_until(self.is_active, f'keys go to {self.argv[0]}')
         xdotool('key', '--clearmodifiers', '--delay', 5, *keys)
 
     def type(self, text):
-        wait_until(self.is_active, 2, f'keys go to {self.argv[0]}')
-        xdotool('type', '--clearmodifiers', '--delay', 5, '--', text, limit=60)
+        wait_until(self.is_active, f'keys go to {self.argv[0]}')
+        xdotool('type', '--clearmodifiers', '--delay', 5, '--', text)
 
     def extents(self, widget):
         """Left, top, width and height on the screen."""
@@ -455,7 +457,7 @@ class Program:
         def rests():
             places.append(self.extents(widget))
             return places[-1] == places[-2] and places[-1]
-        return wait_until(rests, 2, f'{widget} stays where it is')
+        return wait_until(rests, f'{widget} stays where it is')
 
     def click(self, widget, button=1, times=1):
         """Clicks at a widget's middle."""
@@ -469,5 +471,5 @@ class Program:
     def picture(self, path, whole_screen=False):
         """Writes what the window, or the whole screen, looks like to a PNG."""
         window = 'root' if whole_screen else str(self.window())
-        subprocess.run(['import', '-silent', '-window', window, f'png:{path}'], check=True, timeout=20)
+        subprocess.run(['import', '-silent', '-window', window, f'png:{path}'], check=True, timeout=LIMIT)
         return path

@@ -1,7 +1,7 @@
 """What the client writes: exports that a person asks for, and settings. What it makes of files that nobody wrote for it."""
 import os, random, re, socket
 
-from desk import DAY_SUM, LATE_OWED, LONG, MONEY, OWED, as_anybody, english
+from desk import DAY_SUM, LATE_OWED, MONEY, OWED, as_anybody, english
 
 MARK = b'\xef\xbb\xbf'
 LEFT_SUM = '40,105.90'        # of the day without its dearest quarter
@@ -9,12 +9,21 @@ LEFT_SUM = '40,105.90'        # of the day without its dearest quarter
 
 def export_to(client, path):
     """Ctrl+E, a path, Return."""
+    def dialog():
+        return client.find_all('dialog') or client.find_all('file chooser')
+
+    def in_name():
+        """The field for the name, once it has the keys: until then they go elsewhere."""
+        widget = client.focused()
+        return widget if widget and widget.role == 'text' and widget.above else None
     client.press('ctrl+e')
-    client.wait_until(lambda: client.find_all('dialog') or client.find_all('file chooser'), LONG, 'the dialog')
+    client.wait_until(dialog, 'the dialog')
+    field = client.wait_until(in_name, 'the keys go to the name of the file')
     client.press('ctrl+a')
     client.type(path)
+    client.wait_until(lambda: client.again(field).text == path, f'the name is {path}')
     client.press('Return')
-    client.wait_until(lambda: not (client.find_all('dialog') or client.find_all('file chooser')), LONG, 'the end of the dialog')
+    client.wait_until(lambda: not dialog(), 'the end of the dialog')
 
 
 def export(desk):
@@ -40,9 +49,9 @@ def export(desk):
     client.must_say(english('export.failed', '', '').split(':')[0])
     desk.tell('nothing is written into the folder that is shown, and a failure is told')
     client.press('ctrl+e')
-    client.wait_until(lambda: client.find_all('dialog'), LONG, 'the dialog')
+    client.wait_until(lambda: client.find_all('dialog'), 'the dialog')
     client.press('Escape')
-    client.wait_until(lambda: not client.find_all('dialog'), LONG, 'the end of the dialog')
+    client.wait_until(lambda: not client.find_all('dialog'), 'the end of the dialog')
 
 
 # What it writes.
@@ -74,10 +83,10 @@ def writes_nothing(desk):
     client = desk.open_day(under=('strace', '-f', '-qq', '--signal=none', '-s', '4096', '-e', f'trace={calls}', '-o', trace))
     client.press('ctrl+1', 'Home', 'End', 'ctrl+d', 'ctrl+3', 'ctrl+4', 'ctrl+l', 'ctrl+l', 'ctrl+plus', 'ctrl+0', 'ctrl+1')
     desk.drop_late()
-    client.wait_until(lambda: LATE_OWED in client.name_of(client.headline), LONG, 'the corrected amount')
+    client.wait_until(lambda: LATE_OWED in client.name_of(client.headline), 'the corrected amount')
     os.remove(desk.correction)
-    client.wait_until(lambda: OWED in client.name_of(client.headline), LONG, 'the amount without it')
-    client.press('F5')
+    client.wait_until(lambda: OWED in client.name_of(client.headline), 'the amount without it')
+    client.work_out_again()
     path = os.path.join(desk.out, 'day.csv')
     export_to(client, path)
     client.must_say(english('export.done', path))
@@ -160,7 +169,7 @@ def try_unwelcome(desk, folder):
             desk.age(path.path)
     client = desk.start(folder, under=as_anybody())
     client.press('ctrl+4')
-    client.wait_until(lambda: client.find_all('table', english('files.table')), LONG, 'the list of files')
+    client.wait_until(lambda: client.find_all('table', english('files.table')), 'the list of files')
     heads, rows = client.table(english('files.table'))
     fault, name, says, advice = (heads.index(english(f'files.{key}')) for key in ('fault', 'name', 'says', 'advice'))
     listed = {row[name]: row for row in rows}
@@ -198,7 +207,8 @@ def bad_starts(desk):
     for arguments, name, said in starts:
         client = desk.start(*arguments, under=as_anybody())
         client.must_say(said)
-        client.press('F5', 'ctrl+e', 'ctrl+d', 'ctrl+1', 'ctrl+2', 'ctrl+3', 'ctrl+4', 'Escape', 'ctrl+l', 'ctrl+l')
+        # F5 comes last: Esc stops what is being read, and a folder that is not there is tried over and over.
+        client.press('ctrl+e', 'ctrl+d', 'ctrl+1', 'ctrl+2', 'ctrl+3', 'ctrl+4', 'Escape', 'ctrl+l', 'ctrl+l', 'F5')
         client.must_say(said)
         client.no_money()
         assert client.close() == 0

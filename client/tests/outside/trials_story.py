@@ -2,12 +2,12 @@
 letters twice as large."""
 import os
 
-from desk import DATE, DAY_SUM, LATE_OWED, LATE_SUM, OWED, ROW, SECOND, SPAN, chinese, english, no_longer_valid, timed
+from desk import DATE, DAY_SUM, LATE_OWED, LATE_SUM, OWED, ROW, SPAN, chinese, english, no_longer_valid, timed
 
 
 def story(desk):
     client = desk.open_day()
-    assert client.name_of(client.answer).startswith(f'{ROW} pays {DAY_SUM} yuan '), client.name_of(client.answer)
+    client.must_begin(client.answer, f'{ROW} pays {DAY_SUM} yuan ')
     desk.tell(f'the day opens and says what it costs: {DAY_SUM} yuan')
 
     client.press('ctrl+1', 'Home')
@@ -25,9 +25,9 @@ def story(desk):
 
 
 def see_correction(desk, client):
-    """The time is that from the copy to the new sentence of the pane."""
-    took = timed(desk.drop_late, lambda: LATE_OWED in client.name_of(client.headline), SECOND, 'the corrected amount', client.told)
-    assert OWED not in client.name_of(client.headline), client.name_of(client.headline)
+    """The time is that from the copy to the new sentence of the pane. Once that is there, the old amount stands nowhere but beside the new one, as void."""
+    took = timed(desk.drop_late, lambda: LATE_OWED in client.name_of(client.headline), 'the corrected amount', client.told)
+    client.nowhere(english('pays', ROW, f'{DATE} {SPAN}', OWED), DAY_SUM)
     desk.tell(f'a correction is dropped: the pane says {LATE_OWED} after {took:.2f} s')
 
     book = no_longer_valid(OWED, LATE_OWED)
@@ -39,7 +39,7 @@ def see_correction(desk, client):
     assert rows[-1] == [english('unit.of', english('figure.net'), english('unit.yuan')), f'−{OWED}', f'−{LATE_OWED}', '+1,126.60'], rows[-1]
     desk.tell(f'before and now stand side by side, with the reason: {meter}; {book}')
 
-    assert client.name_of(client.answer).startswith(f'{ROW} pays {LATE_SUM} yuan '), client.name_of(client.answer)
+    client.must_begin(client.answer, f'{ROW} pays {LATE_SUM} yuan ')
     steps = client.table(english('why.pays'))[1]
     assert steps[-1][1:] == [english('result.pays', LATE_OWED), LATE_OWED], steps[-1]
     client.nowhere(DAY_SUM)
