@@ -92,32 +92,28 @@ void RowsScreen::name_figures(Tongue tongue) {
     table_->setAccessibleName(words(Word::rows_table, tongue));
 }
 
-void RowsScreen::clear(Tongue tongue) {
+void RowsScreen::forget(Tongue tongue) {
     forget_tool_tips();
     model_->clear(tongue);
     empty_->clear();
     name_figures(tongue);
 }
 
-void RowsScreen::show_rows(const Shown &shown) {
-    clear(shown.tongue);
-    if (!shown.reading) {
-        return;
-    }
+void RowsScreen::show_reading(const Shown &shown) {
     Word instead = Word::rows_none;
     try {
         if (shown.day) {
             model_->show_rows(shown, figure());
         }
     } catch (const std::exception &) {
-        clear(shown.tongue);
+        forget(shown.tongue);
         instead = Word::screen_fault;
     }
     empty_->setText(model_->rowCount() == 0 ? words(instead, shown.tongue) : QString());
     empty_->setVisible(model_->rowCount() == 0);
     table_->setVisible(model_->rowCount() > 0);
     fit();
-    choose(shown.plant, shown.quarter);
+    show_choice(shown);
     QTimer::singleShot(0, table_, [this] { table_->scrollTo(table_->currentIndex()); });
 }
 
@@ -139,20 +135,20 @@ void RowsScreen::fit() {
     layout()->setContentsMargins(letters(*this, 1.5), lines(*this, 0.7), letters(*this, 1.5), lines(*this, 0.5));
 }
 
-void RowsScreen::choose(std::optional<RowId> plant, std::optional<Quarter> quarter) {
-    const auto row = plant ? model_->row_of(*plant) : std::nullopt;
+void RowsScreen::show_choice(const Shown &shown) {
+    const auto row = shown.plant ? model_->row_of(*shown.plant) : std::nullopt;
     if (!row) {
         table_->setCurrentIndex({});
         return;
     }
-    const QModelIndex index = model_->index(*row, quarter ? quarter->number : 0);
+    const QModelIndex index = model_->index(*row, shown.quarter ? shown.quarter->number : 0);
     if (table_->currentIndex() != index) {
         table_->setCurrentIndex(index);
         table_->scrollTo(index);
     }
 }
 
-void RowsScreen::focus_table() {
+void RowsScreen::take_keys() {
     table_->setFocus(Qt::ShortcutFocusReason);
 }
 

@@ -36,7 +36,7 @@ class ExportingTest : public QObject {
 };
 
 void ExportingTest::what_is_shown_is_written() {
-    Desk desk;
+    Desk desk({.by_events = false, .glance_ms = 0});
     desk.open();
     const QString path = out_.filePath("day.csv");
     desk.window().export_to(path);
@@ -49,7 +49,7 @@ void ExportingTest::what_is_shown_is_written() {
 }
 
 void ExportingTest::every_screen_has_its_own() {
-    Desk desk;
+    Desk desk({.by_events = false, .glance_ms = 0});
     desk.open();
     QTest::keyClick(&desk.window(), Qt::Key_3, Qt::ControlModifier);
     desk.window().export_to(out_.filePath("rows.csv"));
@@ -81,10 +81,11 @@ void ExportingTest::nothing_after_a_change() {
 }
 
 void ExportingTest::nothing_into_the_folder_itself() {
-    Desk desk;
+    Desk desk({.by_events = false, .glance_ms = 0});
     desk.open();
     const QString path = QString::fromStdString((desk.folder / "out.csv").native());
     desk.window().export_to(path);
+    QVERIFY(desk.waits_for_reading());
     QVERIFY(shows(desk, "would lie in the folder that is shown"));
     QVERIFY(!QFile::exists(path));
 }
@@ -103,7 +104,7 @@ void ExportingTest::nothing_where_nothing_is_shown() {
 }
 
 void ExportingTest::a_place_that_cannot_be_written() {
-    Desk desk;
+    Desk desk({.by_events = false, .glance_ms = 0});
     desk.open();
     desk.window().export_to(out_.filePath("not/there/day.csv"));
     QVERIFY(desk.waits_for_reading());
