@@ -218,6 +218,8 @@ void ReaderTest::an_export_that_another_folder_ends() {
 void ReaderTest::another_folder_while_one_is_read() {
     Desk desk({.by_events = false, .glance_ms = 0});
     desk.open();
+    const QString of_the_first = "1,000.00"; // four quarters
+    QVERIFY(all_text(desk.window()).contains(of_the_first));
     made::Folder around;
     const auto other = around / "other";
     std::filesystem::create_directory(other);
@@ -225,8 +227,8 @@ void ReaderTest::another_folder_while_one_is_read() {
     bool is_mixed = false;
     QTimer often;
     connect(&often, &QTimer::timeout, this, [&] {
-        is_mixed =
-            is_mixed || (desk.window().windowTitle().startsWith("other") && all_text(desk.window()).contains("250.00"));
+        is_mixed = is_mixed ||
+                   (desk.window().windowTitle().startsWith("other") && all_text(desk.window()).contains(of_the_first));
     });
     often.start(1);
     hold_a_reading(desk);
@@ -238,7 +240,7 @@ void ReaderTest::another_folder_while_one_is_read() {
     QTest::qWait(100);
     QVERIFY(!is_mixed);
     QCOMPARE(desk.window().shown().reading->folder, other);
-    QVERIFY(!all_text(desk.window()).contains("250.00"));
+    QVERIFY(!all_text(desk.window()).contains(of_the_first));
 }
 
 void ReaderTest::typing_outlives_a_refresh() {
