@@ -153,6 +153,10 @@ std::string first_by_main_thread() {
     return state().first_by_main;
 }
 
+void forget_main_thread() {
+    state().by_main = 0;
+}
+
 void share(const std::string &file) {
     const int descriptor = static_cast<int>(syscall(SYS_openat, AT_FDCWD, file.c_str(), O_RDWR | O_CREAT, 0600));
     if (descriptor < 0 || ftruncate(descriptor, sizeof(State)) != 0) {

@@ -21,6 +21,8 @@ int by_main_thread();
 // The first of them, for people: "openat /tmp/…".
 std::string first_by_main_thread();
 
+void forget_main_thread();
+
 // The state lies in this file from now on, which is made if it is not there.
 void share(const std::string &file);
 

@@ -97,8 +97,12 @@ void StalledTest::calls_are_slowed_down() {
     make_day(folder);
     const int before = slow_disk::ended();
     slow_disk::slow(folder.path().native(), 1);
+    slow_disk::count_main_thread(true);
     const Outcome outcome = read_folder(folder.path());
+    slow_disk::count_main_thread(false);
     slow_disk::slow("", 0);
+    QCOMPARE(slow_disk::by_main_thread(), slow_disk::ended() - before);
+    slow_disk::forget_main_thread();
     QVERIFY(std::holds_alternative<std::shared_ptr<const Reading>>(outcome));
     // A folder is opened and listed, and each file opened, looked at, read, and looked at again.
     QVERIFY2(slow_disk::ended() - before > 4 * 96, qPrintable(QString::number(slow_disk::ended() - before)));
