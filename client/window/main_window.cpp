@@ -237,7 +237,11 @@ void MainWindow::choose_quarter(Quarter quarter) {
     }
     session_.forget_notices();
     shown_.quarter = quarter;
-    screens_->choose(shown_);
+    try {
+        screens_->choose(shown_);
+    } catch (...) {
+        session_.give_up();
+    }
 }
 
 void MainWindow::step_day(int by) {

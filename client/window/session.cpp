@@ -182,7 +182,8 @@ void Session::take(const Answer &answer) {
     if (!answer.folder.empty()) {
         folder_ = answer.folder;
     }
-    orders_.erase(orders_.begin(), orders_.begin() + static_cast<std::ptrdiff_t>(answer.told.size()));
+    const auto done = std::min(answer.told.size(), orders_.size());
+    orders_.erase(orders_.begin(), orders_.begin() + static_cast<std::ptrdiff_t>(done));
     const auto *gone = std::get_if<Gone>(&answer.outcome);
     if (std::holds_alternative<std::shared_ptr<const Reading>>(answer.outcome)) {
         take_reading(answer);

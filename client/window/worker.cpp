@@ -18,6 +18,18 @@ int milliseconds_since(Clock::time_point begin) {
     return static_cast<int>(std::min<std::int64_t>(took, 3'600'000));
 }
 
+// Whatever was thrown: without an answer the window would wait for ever, and so would who asked for an export.
+Answer fault(const Question &question) noexcept {
+    Answer answer;
+    answer.outcome = Gone{Word::gone_fault};
+    try {
+        answer.told.assign(question.also.size(), Said(Word::export_fault));
+    } catch (...) {
+        return answer;
+    }
+    return answer;
+}
+
 } // namespace
 
 Worker::Worker(std::filesystem::path folder, bool by_events, std::stop_token stop)
@@ -25,7 +37,6 @@ Worker::Worker(std::filesystem::path folder, bool by_events, std::stop_token sto
 
 Worker::~Worker() = default;
 
-// Whatever is thrown: without an answer the window would wait for ever.
 void Worker::read(const Question &question) noexcept {
     if (stop_.stop_requested()) {
         return;
@@ -35,7 +46,7 @@ void Worker::read(const Question &question) noexcept {
     try {
         answer = answer_to(question);
     } catch (...) {
-        answer.outcome = Gone{Word::gone_fault};
+        answer = fault(question);
     }
     answer.took_ms = milliseconds_since(begin);
     emit read_out(answer);
@@ -66,18 +77,19 @@ void Worker::glance(const Reading &reading, std::optional<Day> day) noexcept {
 }
 
 void Worker::watch(const Reading &reading, std::optional<Day> day) noexcept {
+    set_watch(&reading, day);
+}
+
+bool Worker::set_watch(const Reading *reading, std::optional<Day> day) noexcept {
     try {
-        set_watch(&reading, day);
+        return by_events_ && !stop_.stop_requested() && set_paths(reading, day);
     } catch (...) {
-        return; // glances see what is not heard
+        return true; // glances see what is not heard
     }
 }
 
 // The paths are set again after every reading.
-bool Worker::set_watch(const Reading *reading, std::optional<Day> day) {
-    if (!by_events_ || stop_.stop_requested()) {
-        return false;
-    }
+bool Worker::set_paths(const Reading *reading, std::optional<Day> day) {
     if (!watch_) {
         watch_ = std::make_unique<Watch>();
         connect(watch_.get(), &Watch::stirred, this, &Worker::stirred);

@@ -54,7 +54,8 @@ class Worker : public QObject {
 
   private:
     Answer answer_to(const Question &question);
-    bool set_watch(const Reading *reading, std::optional<Day> day);
+    bool set_watch(const Reading *reading, std::optional<Day> day) noexcept;
+    bool set_paths(const Reading *reading, std::optional<Day> day);
     Progress reporter();
 
     std::filesystem::path folder_;

@@ -30,6 +30,7 @@ class ExportingTest : public QObject {
     void nothing_into_the_folder_itself();
     void nothing_where_nothing_is_shown();
     void a_place_that_cannot_be_written();
+    void whatever_is_thrown_is_told();
 
   private:
     QTemporaryDir out_;
@@ -109,6 +110,19 @@ void ExportingTest::a_place_that_cannot_be_written() {
     desk.window().export_to(out_.filePath("not/there/day.csv"));
     QVERIFY(desk.waits_for_reading());
     QVERIFY(shows(desk, "Not written: "));
+}
+
+// A reading that speaks of a file it has not: looking for it throws what nobody has thought of.
+void ExportingTest::whatever_is_thrown_is_told() {
+    Desk desk({.by_events = false, .glance_ms = 0});
+    desk.open();
+    auto broken = std::make_shared<Reading>(*desk.window().shown().reading);
+    broken->days.at(Desk::slot(1).day)[1].intervals = {999};
+    Order order{.what = {Subject::day}, .path = out_.filePath("broken.csv"), .shown = desk.window().shown()};
+    order.shown.reading = broken;
+    const Said told = write_if_same(order, std::shared_ptr<const Reading>(broken), {});
+    QCOMPARE(told.word, Word::export_failed);
+    QVERIFY(!QFile::exists(order.path));
 }
 
 QTEST_MAIN(ExportingTest)

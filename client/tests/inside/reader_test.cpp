@@ -105,6 +105,7 @@ class ReaderTest : public QObject {
     void an_export_that_takes_long();
     void two_exports_while_busy();
     void an_export_that_another_folder_ends();
+    void whatever_is_thrown_is_answered();
     void another_folder_while_one_is_read();
     void typing_outlives_a_refresh();
     void a_day_of_256_rows();
@@ -212,6 +213,19 @@ void ReaderTest::an_export_that_another_folder_ends() {
     QVERIFY(desk.waits_for_reading());
     QVERIFY(has_figures(desk));
     QVERIFY(shows(desk, "It may not have been written."));
+}
+
+// On a thread where nobody catches it, it would end the program.
+void ReaderTest::whatever_is_thrown_is_answered() {
+    made::Folder folder;
+    Reader reader(folder.path(), true);
+    std::optional<Answer> answer;
+    connect(&reader, &Reader::read_out, this, [&answer](const Answer &answered) { answer = answered; });
+    reader.read(std::nullopt, [](const Outcome &, const std::stop_token &) -> Said { throw 7; });
+    QTRY_VERIFY_WITH_TIMEOUT(answer.has_value(), long_ms);
+    QVERIFY(std::holds_alternative<Gone>(answer->outcome));
+    QCOMPARE(answer->told.size(), 1u);
+    QVERIFY(!reader.is_busy());
 }
 
 // The first one's figures never stand under the other's title, and its answer is dropped.
