@@ -25,7 +25,6 @@ class DayScreen : public QWidget, public Screen {
     explicit DayScreen(QWidget *parent = nullptr);
 
     QWidget &as_widget() override { return *this; }
-    Place place() const override { return Place::tab; }
     std::optional<Word> title() const override { return Word::tab_day; }
     QKeySequence keys() const override { return Qt::CTRL | Qt::Key_1; }
     // The keys go to the chart.

@@ -17,7 +17,6 @@ class FilesScreen : public QWidget, public Screen {
     explicit FilesScreen(QWidget *parent = nullptr);
 
     QWidget &as_widget() override { return *this; }
-    Place place() const override { return Place::tab; }
     std::optional<Word> title() const override { return Word::tab_files; }
     QKeySequence keys() const override { return Qt::CTRL | Qt::Key_4; }
     void take_keys() override;

@@ -37,19 +37,20 @@ MainWindow::MainWindow(Settings &settings, std::optional<std::filesystem::path> 
 }
 
 void MainWindow::make_page() {
-    screens_ = new Screens(wishes_, this);
+    const std::vector<Screen *> above = make_screens(Place::above, this, wishes_);
     notices_ = plain_label(this);
     notices_->setTextInteractionFlags(Qt::TextSelectableByMouse | Qt::TextSelectableByKeyboard);
     progress_ = new ProgressLine(this);
     message_ = new MessagePage(this);
+    screens_ = new Screens(above, wishes_, this);
     stack_ = new QStackedWidget(this);
     stack_->addWidget(message_);
     stack_->addWidget(screens_);
 
     auto *central = new QWidget(this);
     auto *page = new QVBoxLayout(central);
-    for (QWidget *screen : screens_->above()) {
-        page->addWidget(screen);
+    for (Screen *screen : above) {
+        page->addWidget(&screen->as_widget());
     }
     page->addWidget(notices_);
     page->addWidget(progress_);

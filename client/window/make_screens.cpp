@@ -49,9 +49,16 @@ Screen *make_files(QWidget *parent, Wishes &wishes) {
 
 } // namespace
 
-std::vector<Screen *> make_screens(QWidget *parent, Wishes &wishes) {
-    return {make_top(parent, wishes),  make_status(parent, wishes), make_day(parent, wishes),
-            make_rows(parent, wishes), make_files(parent, wishes),  new QuarterPane(parent)};
+std::vector<Screen *> make_screens(Place place, QWidget *parent, Wishes &wishes) {
+    switch (place) {
+    case Place::above:
+        return {make_top(parent, wishes), make_status(parent, wishes)};
+    case Place::tab:
+        return {make_day(parent, wishes), make_rows(parent, wishes), make_files(parent, wishes)};
+    case Place::beside:
+        break;
+    }
+    return {new QuarterPane(parent)};
 }
 
 } // namespace client

@@ -25,7 +25,6 @@ class QuarterPane : public QScrollArea, public Screen {
     explicit QuarterPane(QWidget *parent = nullptr);
 
     QWidget &as_widget() override { return *this; }
-    Place place() const override { return Place::beside; }
     QKeySequence keys() const override { return Qt::CTRL | Qt::Key_2; }
     // The explanation as text, for the clipboard; empty where none is shown.
     QString as_text() const { return text_; }

@@ -20,7 +20,6 @@ class RowsScreen : public QWidget, public Screen {
     explicit RowsScreen(QWidget *parent = nullptr);
 
     QWidget &as_widget() override { return *this; }
-    Place place() const override { return Place::tab; }
     std::optional<Word> title() const override { return Word::tab_rows; }
     QKeySequence keys() const override { return Qt::CTRL | Qt::Key_3; }
     void take_keys() override;

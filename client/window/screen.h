@@ -18,9 +18,6 @@ namespace client {
 
 class Screen {
   public:
-    // Where in the window it stands: above all others, as one of the tabs, or beside the tabs that have quarters.
-    enum class Place { above, tab, beside };
-
     Screen() = default;
     Screen(const Screen &) = delete;
     Screen &operator=(const Screen &) = delete;
@@ -48,7 +45,6 @@ class Screen {
     }
 
     virtual QWidget &as_widget() = 0;
-    virtual Place place() const = 0;
     // The name of its tab.
     virtual std::optional<Word> title() const { return std::nullopt; }
     // What brings it to the front and gives it the keys of the keyboard; none where only a pointer does.
@@ -67,6 +63,9 @@ class Screen {
 
     std::optional<Tongue> clear_in_; // it is clear, in this tongue, and nothing was shown since
 };
+
+// Where in the window a screen stands: above all others, as one of the tabs, or beside the tabs that have quarters.
+enum class Place { above, tab, beside };
 
 // What a person wants, on whichever screen it was.
 class Wishes : public QObject {
@@ -89,7 +88,7 @@ class Wishes : public QObject {
     void help_asked();
 };
 
-// All screens, in the order in which the keys go through them. Their parent owns them.
-std::vector<Screen *> make_screens(QWidget *parent, Wishes &wishes);
+// All screens of a place, in the order in which the keys go through them. Their parent owns them.
+std::vector<Screen *> make_screens(Place place, QWidget *parent, Wishes &wishes);
 
 } // namespace client

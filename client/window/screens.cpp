@@ -8,35 +8,31 @@
 
 namespace client {
 
-Screens::Screens(Wishes &wishes, QWidget *parent) : QSplitter(Qt::Horizontal, parent) {
-    all_ = make_screens(parent, wishes);
+// The keys go through widgets in the order in which they are made: the tabs' own before what lies in them.
+Screens::Screens(std::vector<Screen *> above, Wishes &wishes, QWidget *parent)
+    : QSplitter(Qt::Horizontal, parent), all_(std::move(above)) {
     tabs_ = new QTabWidget(this);
     addWidget(tabs_);
-    place_all();
+    for (Screen *screen : make_screens(Place::tab, tabs_, wishes)) {
+        tabs_->addTab(&screen->as_widget(), {});
+        all_.push_back(screen);
+    }
+    for (Screen *screen : make_screens(Place::beside, this, wishes)) {
+        addWidget(&screen->as_widget());
+        all_.push_back(screen);
+    }
     setStretchFactor(0, 3);
     setStretchFactor(1, 2);
     setChildrenCollapsible(false);
     connect(tabs_, &QTabWidget::currentChanged, this, &Screens::place_beside);
 }
 
-void Screens::place_all() {
-    for (Screen *screen : all_) {
-        if (screen->place() == Screen::Place::tab) {
-            tabs_->addTab(&screen->as_widget(), {});
-        } else if (screen->place() == Screen::Place::beside) {
-            addWidget(&screen->as_widget());
-        }
-    }
+bool Screens::is_tab(Screen &screen) const {
+    return tabs_->indexOf(&screen.as_widget()) >= 0;
 }
 
-std::vector<QWidget *> Screens::above() const {
-    std::vector<QWidget *> found;
-    for (Screen *screen : all_) {
-        if (screen->place() == Screen::Place::above) {
-            found.push_back(&screen->as_widget());
-        }
-    }
-    return found;
+bool Screens::is_beside(Screen &screen) const {
+    return indexOf(&screen.as_widget()) >= 0;
 }
 
 void Screens::clear(Tongue tongue) {
@@ -67,9 +63,9 @@ Screen &Screens::on_show() const {
 }
 
 void Screens::open(Screen &screen) {
-    if (screen.place() == Screen::Place::tab) {
+    if (is_tab(screen)) {
         tabs_->setCurrentWidget(&screen.as_widget());
-    } else if (screen.place() == Screen::Place::beside && !on_show().has_quarters()) {
+    } else if (is_beside(screen) && !on_show().has_quarters()) {
         open_subject(Subject::day);
     }
     screen.take_keys();
@@ -85,7 +81,7 @@ void Screens::open_subject(Subject subject) {
 
 void Screens::open_quarter() {
     for (Screen *screen : all_) {
-        if (screen->place() == Screen::Place::beside) {
+        if (is_beside(*screen)) {
             open(*screen);
         }
     }
@@ -94,7 +90,7 @@ void Screens::open_quarter() {
 void Screens::place_beside() {
     waiting_tab_.reset();
     for (Screen *screen : all_) {
-        if (screen->place() == Screen::Place::beside) {
+        if (is_beside(*screen)) {
             screen->as_widget().setVisible(on_show().has_quarters());
         }
     }

@@ -14,10 +14,8 @@ class Screens : public QSplitter {
     Q_OBJECT
 
   public:
-    Screens(Wishes &wishes, QWidget *parent);
-
-    // Those that stand above, for the window to place.
-    std::vector<QWidget *> above() const;
+    // Those that stand above are there already, for the window to place.
+    Screens(std::vector<Screen *> above, Wishes &wishes, QWidget *parent);
 
     void clear(Tongue tongue);
     void fill(const Shown &shown);
@@ -38,7 +36,8 @@ class Screens : public QSplitter {
     const std::vector<Screen *> &all() const { return all_; }
 
   private:
-    void place_all();
+    bool is_tab(Screen &screen) const;
+    bool is_beside(Screen &screen) const;
     void place_beside();
 
     std::vector<Screen *> all_;

@@ -15,7 +15,6 @@ class StatusLine : public QWidget, public Screen {
     explicit StatusLine(QWidget *parent = nullptr);
 
     QWidget &as_widget() override { return *this; }
-    Place place() const override { return Place::above; }
 
   signals:
     void files_asked();

@@ -16,7 +16,6 @@ class TopBar : public QWidget, public Screen {
     explicit TopBar(QWidget *parent = nullptr);
 
     QWidget &as_widget() override { return *this; }
-    Place place() const override { return Place::above; }
     QKeySequence keys() const override { return Qt::CTRL | Qt::Key_F; }
     // The keys go to the plant.
     void take_keys() override;

@@ -15,7 +15,14 @@ namespace {
 struct Set {
     QWidget around;
     Wishes wishes;
-    std::vector<Screen *> screens = make_screens(&around, wishes);
+    std::vector<Screen *> screens;
+
+    Set() {
+        for (const Place place : {Place::above, Place::tab, Place::beside}) {
+            const auto made = make_screens(place, &around, wishes);
+            screens.insert(screens.end(), made.begin(), made.end());
+        }
+    }
 };
 
 // A day with something of everything: a correction, a file at fault, one that is refused, names, several days.
