@@ -180,6 +180,7 @@ void MainWindow::say_instead() {
     const bool is_first_start = said.word == Word::welcome && example_folder_;
     message_->say(said, is_first_start, shown_.tongue);
     stack_->setCurrentWidget(message_);
+    keys_went_to_ = focusWidget();
 }
 
 void MainWindow::clear_all() {
@@ -202,15 +203,18 @@ void MainWindow::show_notices() {
     notices_->setVisible(!sentences.isEmpty());
 }
 
-// The keys go back to what had them, or to the figures.
-void MainWindow::give_keys_back(QWidget *to) {
-    QWidget *had = to && !message_->isAncestorOf(to) ? to : had_keys_.data();
+// The keys go back to what had them, unless somebody has moved them meanwhile; to the figures where it is gone.
+void MainWindow::give_keys_back(QWidget *now) {
+    const bool is_moved = now && now != keys_went_to_ && !message_->isAncestorOf(now);
+    QWidget *had = is_moved || !had_keys_ ? now : had_keys_.data();
     const bool has_room = had && had->isVisible() && had->isEnabled();
     if (std::exchange(is_opening_, false) || !has_room) {
         screens_->on_show().take_keys();
     } else {
         had->setFocus();
     }
+    had_keys_.clear();
+    keys_went_to_.clear();
 }
 
 // Choosing.

@@ -57,7 +57,7 @@ class MainWindow : public QMainWindow {
     void say_instead();
     void clear_all();
     void show_notices();
-    void give_keys_back(QWidget *to);
+    void give_keys_back(QWidget *now);
 
     void step_day(int by);
     void go_back();
@@ -75,8 +75,9 @@ class MainWindow : public QMainWindow {
     Session session_;
     Wishes wishes_;
     DialogTongue dialogs_;
-    bool is_opening_ = false;    // the first reading of a folder: the keys go to its figures
-    QPointer<QWidget> had_keys_; // before a sentence took the place of all screens
+    bool is_opening_ = false; // the first reading of a folder: the keys go to its figures
+    // What had the keys when a sentence took the place of all screens, and what has got them by that.
+    QPointer<QWidget> had_keys_, keys_went_to_;
 
     QLabel *notices_ = nullptr;
     ProgressLine *progress_ = nullptr;

@@ -129,6 +129,17 @@ void SessionTest::a_folder_that_was_away_leaves_the_screen() {
         QCOMPARE(tab(desk), before);
         QCOMPARE(desk.window().focusWidget(), keys);
     }
+    // What cannot be chosen meanwhile gets the keys back too.
+    press(desk, Qt::Key_F);
+    const QWidget *plant = desk.window().focusWidget();
+    std::filesystem::rename(desk.folder.path(), desk.folder.around() / "elsewhere");
+    desk.window().read_again();
+    QVERIFY(desk.waits_for_reading());
+    QVERIFY(desk.window().focusWidget() != plant);
+    std::filesystem::rename(desk.folder.around() / "elsewhere", desk.folder.path());
+    desk.window().read_again();
+    QVERIFY(desk.waits_for_reading());
+    QCOMPARE(desk.window().focusWidget(), plant);
 }
 
 void SessionTest::an_emptied_folder_leaves_the_screen() {
