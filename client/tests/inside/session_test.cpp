@@ -211,11 +211,11 @@ void SessionTest::a_folder_is_kept_from_its_root() {
     QCOMPARE(Settings(desk.settings_file()).folder(), std::optional(desk.folder.path()));
 }
 
-// What cannot be watched was once tried anew twenty times a second.
+// What is not there cannot be watched either, which is no reason to look again at once, over and over.
 void SessionTest::a_folder_that_is_away_is_not_asked_all_the_time() {
     Desk desk;
-    desk.open();
-    std::filesystem::rename(desk.folder.path(), desk.folder.around() / "elsewhere");
+    desk.window().show();
+    desk.window().open_folder(desk.folder / "nowhere");
     QTRY_VERIFY_WITH_TIMEOUT(shows(desk, "The folder cannot be read"), long_ms);
     QTest::qWait(300);
     QSignalSpy taken(&desk.window(), &MainWindow::taken);

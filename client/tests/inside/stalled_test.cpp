@@ -111,9 +111,9 @@ void StalledTest::calls_are_slowed_down() {
 void StalledTest::a_stall_leaves_no_figures_data() {
     QTest::addColumn<bool>("by_events");
     QTest::addColumn<bool>("something_happens");
-    QTest::addRow("a glance comes") << false << false;
-    QTest::addRow("a glance comes, with events") << true << false;
-    QTest::addRow("an event comes") << true << true;
+    QTest::addRow("glance") << false << false;
+    QTest::addRow("glance-with-events") << true << false;
+    QTest::addRow("event") << true << true;
 }
 
 void StalledTest::a_stall_leaves_no_figures() {
