@@ -128,7 +128,7 @@ void StalledTest::a_stall_leaves_no_figures() {
         made::write(desk.folder / Desk::name(1, "correction"), made::wind_corrected(Desk::slot(1), 6'000));
     }
     const Slowly slowly(desk.folder, stalled_ms);
-    QTRY_VERIFY_WITH_TIMEOUT(is_stalled() && !has_figures(desk.window()), long_ms);
+    QVERIFY(QTest::qWaitFor([&] { return is_stalled() && !has_figures(desk.window()); }, long_ms));
     QVERIFY(all_text(desk.window(), true).contains("Reading the folder again"));
     QVERIFY(desk.window().is_reading());
 
