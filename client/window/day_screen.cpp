@@ -205,7 +205,7 @@ void DayScreen::changeEvent(QEvent *event) {
     }
 }
 
-void DayScreen::clear(Tongue tongue) {
+void DayScreen::forget(Tongue tongue) {
     // Nothing is hidden here: what has the keys would lose them at every reading.
     for (QLabel *label : {answer_, parts_, standing_, booking_, outdated_}) {
         label->clear();
@@ -226,16 +226,12 @@ void DayScreen::clear(Tongue tongue) {
     split_->setAccessibleName(words(Word::day_split, tongue));
 }
 
-void DayScreen::show_day(const Shown &shown) {
-    clear(shown.tongue);
-    if (!shown.reading) {
-        return;
-    }
+void DayScreen::show_reading(const Shown &shown) {
     const bool has_day = shown.day && shown.plant;
     try {
         has_day ? show_plant(shown) : show_emptiness(shown);
     } catch (const std::exception &) {
-        clear(shown.tongue);
+        forget(shown.tongue);
         answer_->setText(words(Word::screen_fault, shown.tongue));
     }
     for (QLabel *label : {answer_, parts_, standing_, booking_, outdated_}) {
@@ -272,7 +268,7 @@ void DayScreen::show_plant(const Shown &shown) {
         table_->setColumnHidden(column, column == DayModel::time_column() || model_->is_idle(column));
     }
     table_->fit();
-    choose(shown.quarter);
+    mark(shown.quarter);
     // A refresh leaves the table where it was scrolled to; another day or plant shows the chosen quarter.
     const bool is_other = std::exchange(table_of_, std::pair(day.day, day.id)) != std::pair(day.day, day.id);
     QTimer::singleShot(0, table_, [this, is_other, at = scrolled_to_] {
@@ -329,7 +325,7 @@ void DayScreen::show_dearest(const PlantDay &day, Tongue tongue) {
     explain_button(*dearest_, words({Word::day_dearest_what, {keys}}, tongue));
 }
 
-void DayScreen::choose(std::optional<Quarter> quarter) {
+void DayScreen::mark(std::optional<Quarter> quarter) {
     chosen_ = quarter;
     chart_->choose(quarter);
     mark_row(quarter);
@@ -339,7 +335,7 @@ QSize DayScreen::sizeHint() const {
     return {letters(*this, 96), lines(*this, 40)};
 }
 
-void DayScreen::focus_chart() {
+void DayScreen::take_keys() {
     chart_->setFocus(Qt::ShortcutFocusReason);
 }
 
@@ -347,7 +343,7 @@ void DayScreen::pick(Quarter quarter) {
     if (chosen_ == quarter) {
         return;
     }
-    choose(quarter);
+    mark(quarter);
     emit quarter_chosen(quarter);
 }
 

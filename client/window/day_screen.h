@@ -1,9 +1,7 @@
 // The day of a plant: what it comes to, the chart of its 96 quarters, and the table of all their figures.
 #pragma once
 
-#include "shown.h"
-
-#include <QWidget>
+#include "screen.h"
 
 #include <utility>
 
@@ -20,20 +18,18 @@ class DayModel;
 class FillingTable;
 struct PlantDay;
 
-class DayScreen : public QWidget {
+class DayScreen : public QWidget, public Screen {
     Q_OBJECT
 
   public:
     explicit DayScreen(QWidget *parent = nullptr);
 
-    // No figure is left; heads and names of what is there are in this tongue.
-    void clear(Tongue tongue);
-    // Shows the day and the plant that are chosen; without one of them it says what is missing.
-    void show_day(const Shown &shown);
-    // Marks another quarter of the day that is shown.
-    void choose(std::optional<Quarter> quarter);
+    QWidget &as_widget() override { return *this; }
+    std::optional<Word> title() const override { return Word::tab_day; }
+    QKeySequence keys() const override { return Qt::CTRL | Qt::Key_1; }
     // The keys go to the chart.
-    void focus_chart();
+    void take_keys() override;
+    std::optional<Subject> exports() const override { return Subject::day; }
 
     QSize sizeHint() const override;
 
@@ -47,6 +43,12 @@ class DayScreen : public QWidget {
     void resizeEvent(QResizeEvent *event) override;
 
   private:
+    void forget(Tongue tongue) override;
+    // Shows the day and the plant that are chosen; without one of them it says what is missing.
+    void show_reading(const Shown &shown) override;
+    // Marks another quarter of the day that is shown.
+    void show_choice(const Shown &shown) override { mark(shown.quarter); }
+
     void make_page();
     void make_answer(QBoxLayout &column);
     void make_table(QBoxLayout &column);
@@ -59,6 +61,7 @@ class DayScreen : public QWidget {
     void show_standing(const Reading &reading, Day day, Tongue tongue, std::size_t absent);
     void show_outdated(const PlantDay &day, Tongue tongue);
     void show_dearest(const PlantDay &day, Tongue tongue);
+    void mark(std::optional<Quarter> quarter);
     void pick(Quarter quarter);
     void pick_row(const QModelIndex &current);
     void mark_row(std::optional<Quarter> quarter);

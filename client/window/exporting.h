@@ -1,4 +1,4 @@
-// Writing what is shown as CSV.
+// Writing what is shown to a file.
 #pragma once
 
 #include "shown.h"
@@ -7,23 +7,30 @@
 
 namespace client {
 
-enum class Screen { day, rows, files };
+enum class Subject { day, rows, files };
+enum class Format { csv };
 
-// An export that somebody asked for: where to, of which screen, and what was on it then.
+// What is exported, and as what.
 struct Export {
+    Subject subject = Subject::day;
+    Format format = Format::csv;
+};
+
+// An export that somebody asked for: of what, where to, and what was on the screen then.
+struct Order {
+    Export what;
     QString path;
-    Screen screen = Screen::day;
     Shown shown;
 };
 
-// Whether the screen has something to write.
-bool has_csv(const Shown &shown, Screen screen);
+// Whether there is something to write.
+bool has_content(const Shown &shown, Export what);
 // The name that is offered.
-QString name_of_csv(const Shown &shown, Screen screen);
+QString name_of(const Shown &shown, Export what);
 
-// Writes what was shown, all of it or nothing, if the folder as it was read just now is still the same. It takes long
-// for a month and is made for another thread than the window's; it throws nothing, and answers with a sentence for
-// people.
-Said write_if_same(const Export &wanted, const Outcome &outcome, const std::stop_token &stop);
+// Writes what was shown, all of it or nothing, if the folder as it was read just now is still the same, and never into
+// that folder. It touches the disk and takes long for a month, and is made for another thread than the window's; it
+// throws nothing, and answers with a sentence for people.
+Said write_if_same(const Order &order, const Outcome &outcome, const std::stop_token &stop) noexcept;
 
 } // namespace client

@@ -100,30 +100,26 @@ void FilesScreen::changeEvent(QEvent *event) {
     }
 }
 
-void FilesScreen::clear(Tongue tongue) {
+void FilesScreen::forget(Tongue tongue) {
     forget_tool_tips();
     summary_->clear();
     model_->clear(tongue);
     table_->setAccessibleName(words(Word::files_table, tongue));
 }
 
-void FilesScreen::show_files(const Shown &shown) {
-    clear(shown.tongue);
-    if (!shown.reading) {
-        return;
-    }
+void FilesScreen::show_reading(const Shown &shown) {
     try {
         model_->show_files(shown.reading, shown.tongue);
         table_->setColumnHidden(FilesModel::fault, model_->faulty() == 0);
         table_->fit();
         summary_->setText(summary_of(*shown.reading, static_cast<std::size_t>(model_->faulty()), shown.tongue));
     } catch (const std::exception &) {
-        clear(shown.tongue);
+        forget(shown.tongue);
         summary_->setText(words(Word::screen_fault, shown.tongue));
     }
 }
 
-void FilesScreen::focus_table() {
+void FilesScreen::take_keys() {
     table_->setFocus(Qt::ShortcutFocusReason);
 }
 

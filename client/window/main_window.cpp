@@ -1,84 +1,31 @@
 #include "main_window.h"
 
-#include "day_screen.h"
-#include "files_screen.h"
+#include "choosing.h"
 #include "help_dialog.h"
+#include "look.h"
 #include "message_page.h"
 #include "names.h"
-#include "quarter_pane.h"
-#include "rows_screen.h"
-#include "top_bar.h"
-#include "view.h"
+#include "progress_line.h"
 
 #include <QApplication>
-#include <QClipboard>
 #include <QCloseEvent>
-#include <QDateTime>
-#include <QFile>
 #include <QFileDialog>
-#include <QHBoxLayout>
 #include <QLabel>
-#include <QProgressBar>
-#include <QPushButton>
 #include <QScreen>
 #include <QShortcut>
-#include <QSplitter>
 #include <QStackedWidget>
 #include <QStandardPaths>
-#include <QTabWidget>
 #include <QVBoxLayout>
 
 #include <algorithm>
-#include <iterator>
 
 namespace client {
 
-namespace {
-
-constexpr int slow_after_ms = 150;
-// When the folder is looked at once more because a path was not watched before.
-constexpr int soon_ms = 50;
-
-// Under a plain label a file's name is never taken for rich text.
-QLabel *plain_label(QWidget *parent) {
-    auto *label = new QLabel(parent);
-    label->setTextFormat(Qt::PlainText);
-    label->setWordWrap(true);
-    return label;
-}
-
-QString clock_text(std::chrono::system_clock::time_point taken) {
-    const auto since = std::chrono::duration_cast<std::chrono::milliseconds>(taken.time_since_epoch());
-    return QDateTime::fromMSecsSinceEpoch(since.count()).toString("yyyy-MM-dd HH:mm:ss");
-}
-
-std::filesystem::path path_of(const QString &text) {
-    return QFile::encodeName(text).toStdString();
-}
-
-QString text_of(const std::filesystem::path &path) {
-    return QFile::decodeName(QByteArray::fromStdString(path.native()));
-}
-
-// Whether a file that is written there would lie in the folder, where the next reading would find it.
-bool lies_within(const QString &path, const std::filesystem::path &folder) {
-    std::error_code failed;
-    const auto place = std::filesystem::weakly_canonical(path_of(path), failed);
-    const auto around = std::filesystem::weakly_canonical(folder, failed);
-    const auto reached = std::mismatch(around.begin(), around.end(), place.begin(), place.end()).first;
-    return !failed && reached == around.end();
-}
-
-} // namespace
-
 MainWindow::MainWindow(Settings &settings, std::optional<std::filesystem::path> example, Seeing seeing)
-    : settings_(settings), example_folder_(std::move(example)), seeing_(seeing) {
+    : settings_(settings), example_folder_(std::move(example)), session_(seeing) {
     shown_.tongue = settings_.tongue();
     shown_.plant = settings_.plant();
-    slow_.setSingleShot(true);
-    slow_.setInterval(slow_after_ms);
-    glance_.setSingleShot(true);
-    arriving_.setSingleShot(true);
+    dialogs_.speak(shown_.tongue);
     make_page();
     make_keys();
     connect_all();
@@ -86,78 +33,47 @@ MainWindow::MainWindow(Settings &settings, std::optional<std::filesystem::path> 
     // With room for the frame around it.
     resize(QSize(1'440, 900).boundedTo(screen()->availableSize() - QSize(10, 40)));
     restoreGeometry(settings_.place());
-    say_instead(Word::welcome);
+    show_session();
 }
 
 void MainWindow::make_page() {
-    top_ = new TopBar(this);
-    as_of_ = plain_label(this);
-    as_of_->setAlignment(Qt::AlignRight | Qt::AlignVCenter);
-    faults_ = new QPushButton(this);
-    faults_->setFlat(true);
-    notice_label_ = plain_label(this);
-    notice_label_->setTextInteractionFlags(Qt::TextSelectableByMouse | Qt::TextSelectableByKeyboard);
-    progress_line_ = new QWidget(this);
-    progress_ = new QProgressBar(progress_line_);
-    stop_ = new QPushButton(progress_line_);
-    auto *progress_row = new QHBoxLayout(progress_line_);
-    progress_row->setContentsMargins(0, 0, 0, 0);
-    progress_row->addWidget(progress_, 1);
-    progress_row->addWidget(stop_);
-
+    const std::vector<Screen *> above = make_screens(Place::above, this, wishes_);
+    notices_ = plain_label(this);
+    notices_->setTextInteractionFlags(Qt::TextSelectableByMouse | Qt::TextSelectableByKeyboard);
+    progress_ = new ProgressLine(this);
     message_ = new MessagePage(this);
-    make_screens();
+    screens_ = new Screens(above, wishes_, this);
     stack_ = new QStackedWidget(this);
     stack_->addWidget(message_);
-    stack_->addWidget(content_);
+    stack_->addWidget(screens_);
 
-    auto *status_row = new QHBoxLayout;
-    status_row->addWidget(faults_);
-    status_row->addWidget(as_of_, 1);
-    auto *page = new QVBoxLayout;
-    page->addWidget(top_);
-    page->addLayout(status_row);
-    page->addWidget(notice_label_);
-    page->addWidget(progress_line_);
-    page->addWidget(stack_, 1);
     auto *central = new QWidget(this);
-    central->setLayout(page);
+    auto *page = new QVBoxLayout(central);
+    for (Screen *screen : above) {
+        page->addWidget(&screen->as_widget());
+    }
+    page->addWidget(notices_);
+    page->addWidget(progress_);
+    page->addWidget(stack_, 1);
     setCentralWidget(central);
-}
-
-void MainWindow::make_screens() {
-    content_ = new QSplitter(Qt::Horizontal, this);
-    tabs_ = new QTabWidget(content_);
-    day_screen_ = new DayScreen(tabs_);
-    rows_screen_ = new RowsScreen(tabs_);
-    files_screen_ = new FilesScreen(tabs_);
-    tabs_->addTab(day_screen_, {});
-    tabs_->addTab(rows_screen_, {});
-    tabs_->addTab(files_screen_, {});
-    pane_ = new QuarterPane(content_);
-    content_->addWidget(tabs_);
-    content_->addWidget(pane_);
-    content_->setStretchFactor(0, 3);
-    content_->setStretchFactor(1, 2);
-    content_->setChildrenCollapsible(false);
 }
 
 void MainWindow::make_keys() {
     const auto on = [this](const QKeySequence &keys, auto act) {
         connect(new QShortcut(keys, this), &QShortcut::activated, this, act);
     };
-    on(Qt::CTRL | Qt::Key_1, [this] { show_screen(Screen::day); });
-    on(Qt::CTRL | Qt::Key_2, [this] { focus_pane(); });
-    on(Qt::CTRL | Qt::Key_3, [this] { show_screen(Screen::rows); });
-    on(Qt::CTRL | Qt::Key_4, [this] { show_screen(Screen::files); });
+    for (Screen *screen : screens_->all()) {
+        if (!screen->keys().isEmpty()) {
+            on(screen->keys(), [this, screen] { screens_->open(*screen); });
+        }
+    }
     on(Qt::CTRL | Qt::Key_O, [this] { ask_for_folder(); });
-    on(Qt::CTRL | Qt::Key_F, [this] { top_->focus_plant(); });
     on(Qt::CTRL | Qt::Key_E, [this] { ask_for_export(); });
     on(Qt::CTRL | Qt::Key_L, [this] { switch_tongue(); });
     on(Qt::CTRL | Qt::Key_PageUp, [this] { step_day(-1); });
     on(Qt::CTRL | Qt::Key_PageDown, [this] { step_day(1); });
     on(Qt::Key_F5, [this] { read_again(); });
-    on(Qt::Key_F1, [this] { HelpDialog(shown_.tongue, this).exec(); });
+    on(Qt::Key_F1, [this] { emit wishes_.help_asked(); });
     on(Qt::Key_Escape, [this] { go_back(); });
     on(Qt::CTRL | Qt::Key_Plus, [this] { resize_letters(settings_.percent() + 25); });
     on(Qt::CTRL | Qt::Key_Equal, [this] { resize_letters(settings_.percent() + 25); });
@@ -166,363 +82,193 @@ void MainWindow::make_keys() {
 }
 
 void MainWindow::connect_all() {
-    connect(top_, &TopBar::open_asked, this, &MainWindow::ask_for_folder);
-    connect(top_, &TopBar::day_chosen, this, &MainWindow::choose_day);
-    connect(top_, &TopBar::plant_chosen, this, &MainWindow::choose_plant);
-    connect(top_, &TopBar::plant_unknown, this, [this](const QString &typed) {
-        notify({Word::plant_unknown, {typed.toStdString()}});
+    connect(&wishes_, &Wishes::day_chosen, this, &MainWindow::choose_day);
+    connect(&wishes_, &Wishes::plant_chosen, this, &MainWindow::choose_plant);
+    connect(&wishes_, &Wishes::plant_unknown, this, [this](const QString &typed) {
+        session_.notify({Word::plant_unknown, {typed.toStdString()}});
     });
-    connect(top_, &TopBar::export_asked, this, &MainWindow::ask_for_export);
-    connect(top_, &TopBar::tongue_asked, this, &MainWindow::switch_tongue);
-    connect(top_, &TopBar::help_asked, this, [this] { HelpDialog(shown_.tongue, this).exec(); });
-    connect(message_, &MessagePage::open_asked, this, &MainWindow::ask_for_folder);
-    connect(message_, &MessagePage::example_asked, this, [this] { open_folder(*example_folder_); });
-    connect(faults_, &QPushButton::clicked, this, [this] { show_screen(Screen::files); });
-    connect(stop_, &QPushButton::clicked, this, &MainWindow::stop);
-    connect(tabs_, &QTabWidget::currentChanged, this, [this] { pane_->setVisible(on_show() != Screen::files); });
-
-    connect(day_screen_, &DayScreen::quarter_chosen, this, &MainWindow::choose_quarter);
-    connect(day_screen_, &DayScreen::quarter_opened, this, &MainWindow::focus_pane);
-    connect(rows_screen_, &RowsScreen::cell_chosen, this, [this](RowId id, Quarter quarter) {
+    connect(&wishes_, &Wishes::quarter_chosen, this, &MainWindow::choose_quarter);
+    connect(&wishes_, &Wishes::quarter_opened, screens_, &Screens::open_quarter);
+    connect(&wishes_, &Wishes::cell_chosen, this, [this](RowId plant, Quarter quarter) {
         shown_.quarter = quarter;
-        choose_plant(id);
+        choose_plant(plant);
     });
-    connect(files_screen_, &FilesScreen::slot_chosen, this, [this](Slot slot) {
+    connect(&wishes_, &Wishes::slot_chosen, this, [this](Slot slot) {
         shown_.quarter = slot.quarter;
         choose_day(slot.day);
-        show_screen(Screen::day);
+        screens_->open_subject(Subject::day);
     });
+    connect(&wishes_, &Wishes::folder_asked, this, &MainWindow::ask_for_folder);
+    connect(&wishes_, &Wishes::files_asked, this, [this] { screens_->open_subject(Subject::files); });
+    connect(&wishes_, &Wishes::export_asked, this, &MainWindow::ask_for_export);
+    connect(&wishes_, &Wishes::tongue_asked, this, &MainWindow::switch_tongue);
+    connect(&wishes_, &Wishes::help_asked, this, [this] { HelpDialog(shown_.tongue, this).exec(); });
+    connect(message_, &MessagePage::open_asked, this, &MainWindow::ask_for_folder);
+    connect(message_, &MessagePage::example_asked, this, [this] { open_folder(*example_folder_); });
+    connect(progress_, &ProgressLine::stop_asked, this, &MainWindow::stop);
 
-    connect(&reader_, &Reader::read_out, this, &MainWindow::take);
-    connect(&reader_, &Reader::progressed, this, &MainWindow::show_progress);
-    connect(&reader_, &Reader::glanced, this,
-            [this](bool changed) { changed ? begin_reading() : glance_.start(seeing_.glance_ms); });
-    connect(&watch_, &Watch::stirred, this, &MainWindow::begin_reading);
-    connect(&watch_, &Watch::stirred_around, this, &MainWindow::glance);
-    connect(&glance_, &QTimer::timeout, this, &MainWindow::glance);
-    connect(&arriving_, &QTimer::timeout, this, &MainWindow::begin_reading);
-    connect(&slow_, &QTimer::timeout, this, [this] {
-        if (reader_.is_reading()) {
-            say_instead(Word::reading);
-            show_progress(0, 0);
-        }
+    connect(&session_, &Session::changed, this, &MainWindow::show_session);
+    connect(&session_, &Session::noticed, this, &MainWindow::show_notices);
+    connect(&session_, &Session::answered, this, [this] {
+        keep_folder();
+        emit taken();
     });
+    connect(&session_, &Session::progressed, this,
+            [this](int read, int of) { progress_->tell(read, of, shown_.tongue); });
 }
 
-// Reading the folder.
+// The folder.
 
 void MainWindow::open_folder(const std::filesystem::path &folder) {
-    std::error_code failed;
-    const auto whole = std::filesystem::absolute(folder, failed);
-    folder_ = failed ? folder : whole;
-    settings_.keep_folder(*folder_);
     shown_.day.reset();
     shown_.quarter.reset();
     is_opening_ = true;
-    forget_notice();
-    say_instead(Word::reading);
-    read_again();
+    session_.open(folder);
+    keep_folder();
+}
+
+// From the root, so that the next start finds it from wherever it is begun. Until the folder has answered it may not be
+// known.
+void MainWindow::keep_folder() {
+    const auto &folder = session_.folder();
+    if (folder && folder->is_absolute() && settings_.folder() != folder) {
+        settings_.keep_folder(*folder);
+    }
 }
 
 void MainWindow::read_again() {
-    is_stopped_ = false;
-    begin_reading();
-}
-
-// After a stop nothing begins by itself.
-void MainWindow::begin_reading() {
-    begin_reading_also({});
-}
-
-void MainWindow::begin_reading_also(Also also) {
-    if (!folder_ || is_stopped_) {
-        return;
-    }
-    glance_.stop();
-    arriving_.stop();
-    if (!slow_.isActive()) {
-        slow_.start();
-    }
-    reader_.read(*folder_, std::move(also));
-}
-
-// Without a reading there is nothing to compare with, so the folder is tried anew.
-void MainWindow::glance() {
-    if (!folder_ || is_stopped_ || reader_.is_reading()) {
-        return;
-    }
-    if (shown_.reading) {
-        reader_.glance(shown_.reading, shown_.day);
-    } else {
-        begin_reading();
-    }
+    session_.read_again();
 }
 
 void MainWindow::stop() {
-    if (!reader_.is_reading()) {
+    session_.stop();
+}
+
+// Showing what the session says. Whatever a screen throws, no part of a reading stays.
+
+void MainWindow::show_session() {
+    shown_.reading = session_.reading();
+    if (!shown_.reading) {
+        say_instead();
         return;
     }
-    is_stopped_ = true;
-    reader_.stop();
-    watch_.clear();
-    say_instead(Word::stopped);
-    emit taken();
+    try {
+        settle_choices(shown_);
+        session_.look_at(shown_.day);
+        show_reading();
+    } catch (...) {
+        session_.give_up();
+    }
 }
 
-void MainWindow::take(const Outcome &outcome, const std::optional<Said> &told) {
-    slow_.stop();
-    if (told) {
-        notify(*told);
-    }
-    if (const auto *reading = std::get_if<std::shared_ptr<const Reading>>(&outcome)) {
-        take_reading(*reading);
-    } else if (const auto *gone = std::get_if<Gone>(&outcome)) {
-        if (!is_said(gone->why)) {
-            say_instead(gone->why);
-        }
-    } else {
-        say_instead(Word::stopped);
-    }
-    const bool is_unheard = seeing_.by_events && watch_.set(*folder_, shown_.reading.get(), shown_.day);
-    if (seeing_.glance_ms > 0) {
-        glance_.start(is_unheard ? soon_ms : seeing_.glance_ms);
-    }
-    if (reader_.is_reading()) {
-        slow_.start();
-    }
-    emit taken();
-}
-
-void MainWindow::take_reading(std::shared_ptr<const Reading> reading) {
+void MainWindow::show_reading() {
     QWidget *focused = focusWidget(); // what is empty for a moment loses the keys
     clear_all();
-    shown_.reading = std::move(reading);
-    if (shown_.reading->arriving) {
-        arriving_.start(static_cast<int>(arriving_for.count()) + 100);
-    }
-    settle_choices();
-    show_all();
-    if (std::exchange(is_opening_, false)) {
-        show_screen(on_show());
-    } else if (focused && focused->isVisible() && focused->isEnabled()) {
-        focused->setFocus();
-    }
+    screens_->fill(shown_);
+    screens_->settle_tab(shown_.day.has_value(), is_opening_);
+    stack_->setCurrentWidget(screens_);
+    give_keys_back(focused);
 }
 
 // A sentence in the place of all screens; no figure stays behind it.
-void MainWindow::say_instead(const Said &said) {
+void MainWindow::say_instead() {
+    if (stack_->currentWidget() == screens_) {
+        had_keys_ = focusWidget();
+    }
     clear_all();
-    shown_.reading.reset();
-    instead_ = said;
+    const Said &said = session_.instead();
     const bool is_first_start = said.word == Word::welcome && example_folder_;
     message_->say(said, is_first_start, shown_.tongue);
     stack_->setCurrentWidget(message_);
+    keys_went_to_ = focusWidget();
 }
-
-// A folder that stays away is tried over and over: nobody has to hear of it each time.
-bool MainWindow::is_said(const Said &said) const {
-    return instead_ && instead_->in(shown_.tongue) == said.in(shown_.tongue);
-}
-
-// What was chosen stays chosen where the reading has it.
-void MainWindow::settle_choices() {
-    const Reading &reading = *shown_.reading;
-    if (!shown_.day || !reading.days.contains(*shown_.day)) {
-        shown_.day = reading.first_day();
-    }
-    if (!shown_.day) {
-        return;
-    }
-    if (!shown_.plant) {
-        const auto plants = plants_of(reading, *shown_.day);
-        shown_.plant = plants.empty() ? std::nullopt : std::optional(plants.front().id);
-    }
-    if (!shown_.quarter && shown_.plant) {
-        shown_.quarter = dearest(plant_day(shown_.reading, *shown_.day, *shown_.plant)).value_or(Quarter{0});
-    }
-}
-
-// Showing.
 
 void MainWindow::clear_all() {
     const Tongue tongue = shown_.tongue;
-    instead_.reset();
+    screens_->clear(tongue);
     message_->say(Word::reading, false, tongue);
-    top_->clear(tongue);
-    day_screen_->clear(tongue);
-    rows_screen_->clear(tongue);
-    files_screen_->clear(tongue);
-    pane_->clear(tongue);
-    as_of_->clear();
-    faults_->hide();
-    faults_->setText({});
-    progress_line_->hide();
-    progress_->reset();
-    progress_->setFormat({});
-    progress_->setAccessibleName({});
-    tabs_->setTabText(0, words(Word::tab_day, tongue));
-    tabs_->setTabText(1, words(Word::tab_rows, tongue));
-    tabs_->setTabText(2, words(Word::tab_files, tongue));
-    tabs_->setAccessibleName(words(Word::tabs, tongue));
-    pane_->setAccessibleName(words(Word::pane, tongue));
-    pane_->widget()->setAccessibleName(words(Word::pane, tongue));
-    stop_->setText(words(Word::stop, tongue));
-    stop_->setToolTip(words(Word::stop_what, tongue));
-    const Said title =
-        folder_ ? Said(Word::title_of, {client::shown(folder_->filename().native())}) : Said(Word::title);
+    progress_->clear(tongue);
+    const auto &folder = session_.folder();
+    const Said title = folder ? Said(Word::title_of, {client::shown(folder->filename().native())}) : Said(Word::title);
     setWindowTitle(words(title, tongue));
-    notice_label_->setText(notice_ ? words(*notice_, tongue) : QString());
-    notice_label_->setVisible(notice_.has_value());
+    show_notices();
 }
 
-void MainWindow::show_all() {
-    top_->offer(shown_);
-    show_as_of();
-    files_screen_->show_files(shown_);
-    show_emptiness();
-    rows_screen_->show_rows(shown_);
-    day_screen_->show_day(shown_);
-    show_quarter();
-    stack_->setCurrentWidget(content_);
-}
-
-// A folder without interval files has a list of files all the same.
-void MainWindow::show_emptiness() {
-    const bool is_empty = !shown_.reading->first_day();
-    const bool is_said = notice_ && notice_->word == Word::no_files;
-    if (is_empty) {
-        show_screen(Screen::files);
-        notify(Word::no_files);
-    } else if (is_said) {
-        forget_notice();
+void MainWindow::show_notices() {
+    QStringList sentences;
+    for (const Said &said : session_.notices()) {
+        sentences.append(words(said, shown_.tongue));
     }
+    notices_->setText(sentences.join('\n'));
+    notices_->setVisible(!sentences.isEmpty());
 }
 
-void MainWindow::show_quarter() {
-    day_screen_->choose(shown_.quarter);
-    rows_screen_->choose(shown_.plant, shown_.quarter);
-    pane_->clear(shown_.tongue);
-    pane_->show_quarter(shown_);
-}
-
-void MainWindow::show_as_of() {
-    const Reading &reading = *shown_.reading;
-    const std::string at = clock_text(reading.taken).toStdString();
-    const auto files = static_cast<std::int64_t>(reading.files.size());
-    as_of_->setText(
-        words(files == 1 ? Said(Word::as_of_one, {at}) : Said(Word::as_of, {at, text(files)}), shown_.tongue));
-    const auto faulty =
-        std::count_if(reading.files.begin(), reading.files.end(), [](const File &file) { return file.is_faulty(); });
-    faults_->setText(words(faulty == 1 ? Said(Word::faults_one) : Said(Word::faults, {text(faulty)}), shown_.tongue));
-    faults_->setToolTip(words(Word::faults_what, shown_.tongue));
-    faults_->setVisible(faulty > 0);
-}
-
-void MainWindow::show_progress(int read, int of) {
-    if (!instead_ || instead_->word != Word::reading) {
-        return;
+// The keys go back to what had them, unless somebody has moved them meanwhile; to the figures where it is gone.
+void MainWindow::give_keys_back(QWidget *now) {
+    const bool is_moved = now && now != keys_went_to_ && !message_->isAncestorOf(now);
+    QWidget *had = is_moved || !had_keys_ ? now : had_keys_.data();
+    const bool has_room = had && had->isVisible() && had->isEnabled();
+    if (std::exchange(is_opening_, false) || !has_room) {
+        screens_->on_show().take_keys();
+    } else {
+        had->setFocus();
     }
-    progress_->setRange(0, of);
-    progress_->setValue(read);
-    progress_->setFormat(
-        words({Word::reading_progress, {text(std::int64_t{read}), text(std::int64_t{of})}}, shown_.tongue));
-    progress_->setAccessibleName(progress_->format());
-    progress_line_->show();
-}
-
-void MainWindow::notify(const Said &said) {
-    notice_ = said;
-    notice_label_->setText(words(said, shown_.tongue));
-    notice_label_->show();
-}
-
-void MainWindow::forget_notice() {
-    notice_.reset();
-    notice_label_->clear();
-    notice_label_->hide();
+    had_keys_.clear();
+    keys_went_to_.clear();
 }
 
 // Choosing.
 
 void MainWindow::choose_day(Day day) {
-    if (!shown_.reading) {
-        return;
-    }
-    forget_notice();
-    shown_.day = day;
-    take_reading(shown_.reading);
-    if (seeing_.by_events) {
-        watch_.set(*folder_, shown_.reading.get(), shown_.day);
+    if (shown_.reading) {
+        shown_.day = day;
+        session_.forget_notices();
+        show_session();
     }
 }
 
 void MainWindow::choose_plant(RowId plant) {
-    if (!shown_.reading) {
-        return;
+    if (shown_.reading) {
+        shown_.plant = plant;
+        settings_.keep_plant(plant);
+        session_.forget_notices();
+        show_session();
     }
-    forget_notice();
-    shown_.plant = plant;
-    settings_.keep_plant(plant);
-    take_reading(shown_.reading);
 }
 
 void MainWindow::choose_quarter(Quarter quarter) {
     if (!shown_.reading || shown_.quarter == quarter) {
         return;
     }
-    forget_notice();
+    session_.forget_notices();
     shown_.quarter = quarter;
-    show_quarter();
+    try {
+        screens_->choose(shown_);
+    } catch (...) {
+        session_.give_up();
+    }
 }
 
 void MainWindow::step_day(int by) {
-    if (!shown_.reading || !shown_.day) {
-        return;
+    if (const auto day = day_beside(shown_, by)) {
+        choose_day(*day);
     }
-    const auto &days = shown_.reading->days;
-    const auto here = days.find(*shown_.day);
-    if (by < 0 && here != days.begin()) {
-        choose_day(std::prev(here)->first);
-    } else if (by > 0 && std::next(here) != days.end()) {
-        choose_day(std::next(here)->first);
-    }
-}
-
-void MainWindow::show_screen(Screen screen) {
-    tabs_->setCurrentIndex(static_cast<int>(screen));
-    switch (screen) {
-    case Screen::day:
-        return day_screen_->focus_chart();
-    case Screen::rows:
-        return rows_screen_->focus_table();
-    case Screen::files:
-        return files_screen_->focus_table();
-    }
-}
-
-Screen MainWindow::on_show() const {
-    return static_cast<Screen>(tabs_->currentIndex());
-}
-
-void MainWindow::focus_pane() {
-    if (on_show() == Screen::files) {
-        show_screen(Screen::day);
-    }
-    pane_->setFocus(Qt::ShortcutFocusReason);
 }
 
 void MainWindow::go_back() {
-    if (instead_ && reader_.is_reading()) {
+    if (!shown_.reading && session_.is_reading()) {
         stop();
     } else {
-        show_screen(on_show());
+        screens_->on_show().take_keys();
     }
 }
 
 // Folder, export, tongue, size.
 
+// The dialog looks at the folder that it begins in: not at one that may not answer.
 void MainWindow::ask_for_folder() {
-    const QString from = folder_ ? text_of(*folder_) : QStandardPaths::writableLocation(QStandardPaths::HomeLocation);
+    const QString from = shown_.reading ? text_of(shown_.reading->folder)
+                                        : QStandardPaths::writableLocation(QStandardPaths::HomeLocation);
     const QString chosen = QFileDialog::getExistingDirectory(this, words(Word::open, shown_.tongue), from);
     if (!chosen.isEmpty()) {
         open_folder(path_of(chosen));
@@ -533,46 +279,36 @@ void MainWindow::ask_for_folder() {
 // chosen.
 void MainWindow::ask_for_export() {
     const Shown asked = shown_;
-    const Screen of = on_show();
-    if (!has_csv(asked, of)) {
-        notify(Word::export_none);
+    const auto subject = screens_->on_show().exports();
+    if (!subject || !has_content(asked, {*subject})) {
+        session_.notify(Word::export_none);
         return;
     }
     const QString folder = QStandardPaths::writableLocation(QStandardPaths::DocumentsLocation);
     const QString chosen = QFileDialog::getSaveFileName(this, words(Word::export_it, shown_.tongue),
-                                                        folder + "/" + name_of_csv(asked, of), "CSV (*.csv)");
+                                                        folder + "/" + name_of(asked, {*subject}), "CSV (*.csv)");
     if (!chosen.isEmpty()) {
-        begin_export({chosen, of, asked});
+        begin_export({{*subject}, chosen, asked});
     }
 }
 
 void MainWindow::export_to(const QString &path) {
-    begin_export({path, on_show(), shown_});
+    begin_export({{screens_->on_show().exports().value_or(Subject::day)}, path, shown_});
 }
 
-// Everything is read again for it, and written on the reader's thread: a month's list of files takes a tenth of a
-// second.
-void MainWindow::begin_export(Export wanted) {
-    if (!has_csv(wanted.shown, wanted.screen)) {
-        notify(Word::export_none);
-    } else if (lies_within(wanted.path, wanted.shown.reading->folder)) {
-        notify(Word::export_within);
+void MainWindow::begin_export(const Order &order) {
+    if (has_content(order.shown, order.what)) {
+        session_.write(order);
     } else {
-        is_stopped_ = false;
-        begin_reading_also([wanted = std::move(wanted)](const Outcome &outcome, const std::stop_token &stop) {
-            return write_if_same(wanted, outcome, stop);
-        });
+        session_.notify(Word::export_none);
     }
 }
 
 void MainWindow::switch_tongue() {
     shown_.tongue = shown_.tongue == Tongue::english ? Tongue::chinese : Tongue::english;
     settings_.keep_tongue(shown_.tongue);
-    if (shown_.reading) {
-        take_reading(shown_.reading);
-    } else if (instead_) {
-        say_instead(Said(*instead_));
-    }
+    dialogs_.speak(shown_.tongue);
+    show_session();
 }
 
 void MainWindow::resize_letters(int percent) {
@@ -582,19 +318,12 @@ void MainWindow::resize_letters(int percent) {
     QFont font = QApplication::font();
     font.setPointSizeF(plain_size * within / 100);
     QApplication::setFont(font);
-    share_room();
-}
-
-// The quarter gets two fifths of the width, or up to a half where its sentences need it.
-void MainWindow::share_room() {
-    const int wide = width();
-    const int pane = std::clamp(QFontMetrics(QApplication::font()).horizontalAdvance('0') * 60, wide * 2 / 5, wide / 2);
-    content_->setSizes({wide - pane, pane});
+    screens_->share_room(width());
 }
 
 void MainWindow::showEvent(QShowEvent *event) {
     QMainWindow::showEvent(event);
-    share_room();
+    screens_->share_room(width());
 }
 
 void MainWindow::closeEvent(QCloseEvent *event) {

@@ -1,39 +1,24 @@
-// The window: what is chosen, when the folder is read, and what is shown of a reading.
+// The window: what is chosen, and what is shown of the session's reading.
 //
-// A reading comes in one step: everything that was on the screen is cleared, hidden screens too, and then filled from
-// the new reading alone. Where there is no reading, a sentence stands in the place of all screens.
+// A reading comes in one step: every screen of the list is cleared, hidden ones too, and then filled from the new
+// reading alone. Where there is no reading, a sentence stands in the place of all screens.
 #pragma once
 
-#include "exporting.h"
-#include "reader.h"
+#include "dialog_tongue.h"
+#include "screens.h"
+#include "session.h"
 #include "settings.h"
-#include "shown.h"
-#include "watch.h"
 
 #include <QMainWindow>
-#include <QTimer>
+#include <QPointer>
 
 class QLabel;
-class QProgressBar;
-class QPushButton;
-class QSplitter;
 class QStackedWidget;
-class QTabWidget;
 
 namespace client {
 
-class DayScreen;
-class FilesScreen;
 class MessagePage;
-class QuarterPane;
-class RowsScreen;
-class TopBar;
-
-// How changes are seen. Tests take one away to try the other.
-struct Seeing {
-    bool by_events = true;
-    int glance_ms = 800; // 0: no glances
-};
+class ProgressLine;
 
 class MainWindow : public QMainWindow {
     Q_OBJECT
@@ -51,7 +36,7 @@ class MainWindow : public QMainWindow {
     void choose_plant(RowId plant);
     void choose_quarter(Quarter quarter);
 
-    bool is_reading() const { return reader_.is_reading(); }
+    bool is_reading() const { return session_.is_reading(); }
     const Shown &shown() const { return shown_; }
 
   signals:
@@ -64,72 +49,41 @@ class MainWindow : public QMainWindow {
 
   private:
     void make_page();
-    void make_screens();
     void make_keys();
     void connect_all();
 
-    void begin_reading();
-    void begin_reading_also(Also also);
-    void glance();
-    void take(const Outcome &outcome, const std::optional<Said> &told);
-    void take_reading(std::shared_ptr<const Reading> reading);
-    void say_instead(const Said &said);
-    bool is_said(const Said &said) const;
-    void begin_export(Export wanted);
-
+    void show_session();
+    void show_reading();
+    void say_instead();
     void clear_all();
-    void show_all();
-    void show_emptiness();
-    void show_quarter();
-    void show_as_of();
-    void show_progress(int read, int of);
-    void notify(const Said &said);
-    void forget_notice();
+    void show_notices();
+    void give_keys_back(QWidget *now);
 
     void step_day(int by);
-    void settle_choices();
-    void show_screen(Screen screen);
-    Screen on_show() const;
-    void focus_pane();
     void go_back();
 
     void ask_for_folder();
     void ask_for_export();
+    void begin_export(const Order &order);
+    void keep_folder();
     void switch_tongue();
     void resize_letters(int percent);
-    void share_room();
 
     Settings &settings_;
     std::optional<std::filesystem::path> example_folder_;
-    Seeing seeing_;
-    std::optional<std::filesystem::path> folder_;
     Shown shown_;
-    std::optional<Said> instead_; // the sentence in the place of all screens
-    std::optional<Said> notice_;
-    bool is_stopped_ = false; // nothing starts by itself until somebody asks for it
+    Session session_;
+    Wishes wishes_;
+    DialogTongue dialogs_;
     bool is_opening_ = false; // the first reading of a folder: the keys go to its figures
+    // What had the keys when a sentence took the place of all screens, and what has got them by that.
+    QPointer<QWidget> had_keys_, keys_went_to_;
 
-    Reader reader_;
-    Watch watch_;
-    QTimer slow_;   // a reading that takes longer than this leaves no figure on the screen
-    QTimer glance_; // the next glance at the folder
-    QTimer arriving_;
-
-    TopBar *top_ = nullptr;
-    QLabel *as_of_ = nullptr;
-    QPushButton *faults_ = nullptr;
-    QLabel *notice_label_ = nullptr;
-    QWidget *progress_line_ = nullptr;
-    QProgressBar *progress_ = nullptr;
-    QPushButton *stop_ = nullptr;
+    QLabel *notices_ = nullptr;
+    ProgressLine *progress_ = nullptr;
     QStackedWidget *stack_ = nullptr;
     MessagePage *message_ = nullptr;
-    QSplitter *content_ = nullptr;
-    QTabWidget *tabs_ = nullptr;
-    DayScreen *day_screen_ = nullptr;
-    RowsScreen *rows_screen_ = nullptr;
-    FilesScreen *files_screen_ = nullptr;
-    QuarterPane *pane_ = nullptr;
+    Screens *screens_ = nullptr;
 };
 
 } // namespace client

@@ -162,7 +162,7 @@ void QuarterPane::name(Section &section, Word word, Tongue tongue) {
     section.table->setAccessibleName(words(word, tongue));
 }
 
-void QuarterPane::clear(Tongue tongue) {
+void QuarterPane::forget(Tongue tongue) {
     for (QLabel *label : {headline_, hindrance_, reservation_, reasons_heading_, reasons_, disagreement_}) {
         label->clear();
     }
@@ -170,7 +170,9 @@ void QuarterPane::clear(Tongue tongue) {
         section->table->clear();
     }
     text_.clear();
+    setAccessibleName(words(Word::pane, tongue));
     setAccessibleDescription({});
+    page_->setAccessibleName(words(Word::pane, tongue));
     name(comparison_, Word::quarter_compared, tongue);
     name(steps_, Word::why_pays, tongue);
     name(line_, Word::quarter_line, tongue);
@@ -201,20 +203,19 @@ void QuarterPane::show_what_is_there() {
     setAccessibleDescription(headline_->text());
 }
 
-void QuarterPane::show_quarter(const Shown &shown) {
-    clear(shown.tongue);
+void QuarterPane::show_reading(const Shown &shown) {
     try {
-        if (shown.reading && shown.day && shown.plant && shown.quarter) {
+        if (shown.day && shown.plant && shown.quarter) {
             const Slot slot{*shown.day, *shown.quarter};
             const At at{*shown.reading, shown.reading->at(slot), slot, *shown.plant, shown.tongue};
             show_statement(at);
             show_reservations(at);
             show_files(at);
-        } else if (shown.reading) {
+        } else {
             hindrance_->setText(words(Word::quarter_choose, shown.tongue));
         }
     } catch (const std::exception &) {
-        clear(shown.tongue);
+        forget(shown.tongue);
         hindrance_->setText(words(Word::screen_fault, shown.tongue));
     }
     show_what_is_there();

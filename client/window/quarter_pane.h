@@ -2,7 +2,7 @@
 // head and the files it comes from.
 #pragma once
 
-#include "shown.h"
+#include "screen.h"
 
 #include <QScrollArea>
 
@@ -18,14 +18,14 @@ struct Line;
 struct QuarterRead;
 struct Row;
 
-class QuarterPane : public QScrollArea {
+class QuarterPane : public QScrollArea, public Screen {
     Q_OBJECT
 
   public:
     explicit QuarterPane(QWidget *parent = nullptr);
 
-    void clear(Tongue tongue);
-    void show_quarter(const Shown &shown);
+    QWidget &as_widget() override { return *this; }
+    QKeySequence keys() const override { return Qt::CTRL | Qt::Key_2; }
     // The explanation as text, for the clipboard; empty where none is shown.
     QString as_text() const { return text_; }
 
@@ -58,6 +58,10 @@ class QuarterPane : public QScrollArea {
         std::optional<Quarter> quarter;
         friend bool operator==(const Of &, const Of &) = default;
     };
+
+    void forget(Tongue tongue) override;
+    void show_reading(const Shown &shown) override;
+    void show_choice(const Shown &shown) override { fill(shown); }
 
     void make_page();
     Section make_section(int wrapping_column);

@@ -1,106 +1,86 @@
 #include "reader.h"
 
+#include <QThread>
+
 namespace client {
 
-namespace {
-
-// So often, at most, the window hears how far a reading is.
-constexpr std::chrono::milliseconds between_reports{30};
-
-} // namespace
-
-Reader::Reader(QObject *parent) : QObject(parent) {}
+// Signals of the worker come in the window's thread, and not at all once the reader is gone.
+Reader::Reader(std::filesystem::path folder, bool by_events, QObject *parent) : QObject(parent) {
+    thread_ = new QThread;
+    worker_ = new Worker(std::move(folder), by_events, stop_.get_token());
+    worker_->moveToThread(thread_);
+    connect(thread_, &QThread::finished, worker_, &QObject::deleteLater);
+    connect(thread_, &QThread::finished, thread_, &QObject::deleteLater);
+    connect(worker_, &Worker::progressed, this, &Reader::progressed);
+    connect(worker_, &Worker::read_out, this, &Reader::take);
+    connect(worker_, &Worker::glanced, this, &Reader::take_glance);
+    connect(worker_, &Worker::stirred, this, &Reader::stirred);
+    connect(worker_, &Worker::stirred_around, this, &Reader::stirred_around);
+    thread_->start();
+}
 
 Reader::~Reader() {
-    thread_.request_stop();
-    if (thread_.joinable()) {
-        thread_.join();
+    leave();
+}
+
+void Reader::leave() {
+    if (worker_) {
+        worker_->disconnect(this);
+        stop_.request_stop();
+        thread_->quit();
+        worker_ = nullptr;
     }
 }
 
-void Reader::read(std::filesystem::path folder, Also also) {
+void Reader::read(std::optional<Day> day, Also also) {
     is_reading_ = true;
-    if (!is_busy_) {
-        begin_reading({std::move(folder), std::move(also)});
+    if (!waiting_) {
+        waiting_.emplace();
+    }
+    waiting_->day = day;
+    if (also) {
+        waiting_->also.push_back(std::move(also));
+    }
+    begin_what_waits();
+}
+
+void Reader::begin_what_waits() {
+    if (is_busy_ || !waiting_) {
         return;
     }
-    // What waits to be done with a reading is done with the one that comes in its place.
-    if (!also && waiting_) {
-        also = std::move(waiting_->also);
-    }
-    waiting_ = Asked{std::move(folder), std::move(also)};
-}
-
-void Reader::begin_reading(Asked asked) {
-    ++questions_;
-    const auto work = [this, asked = std::move(asked), question = questions_,
-                       report = reporter()](const std::stop_token &stop) -> Answer {
-        Outcome outcome = read_folder(asked.folder, stop, report);
-        std::optional<Said> told = asked.also ? asked.also(outcome, stop) : std::nullopt;
-        return [this, question, outcome = std::move(outcome), told = std::move(told)] {
-            if (question == questions_) {
-                is_reading_ = waiting_.has_value();
-                emit read_out(outcome, told);
-            }
-        };
-    };
-    begin(work);
+    is_busy_ = true;
+    const auto ask = [worker = worker_, question = *std::exchange(waiting_, std::nullopt)] { worker->read(question); };
+    QMetaObject::invokeMethod(worker_, ask, Qt::QueuedConnection);
 }
 
 void Reader::glance(std::shared_ptr<const Reading> reading, std::optional<Day> day) {
     if (is_busy_) {
         return;
     }
-    begin([this, reading = std::move(reading), day, question = questions_](std::stop_token) -> Answer {
-        const bool changed = has_changed(*reading, day);
-        return [this, question, changed] {
-            if (question == questions_ && !waiting_) {
-                emit glanced(changed);
-            }
-        };
-    });
-}
-
-void Reader::stop() {
-    ++questions_;
-    waiting_.reset();
-    is_reading_ = false;
-    thread_.request_stop();
-}
-
-// The work is done on the thread; its answer is given in the window's.
-void Reader::begin(std::function<Answer(std::stop_token)> work) {
     is_busy_ = true;
-    thread_ = std::jthread([this, work = std::move(work)](std::stop_token stop) {
-        Answer answer = work(std::move(stop));
-        QMetaObject::invokeMethod(
-            this, [this, answer = std::move(answer)] { end(answer); }, Qt::QueuedConnection);
-    });
+    const auto ask = [worker = worker_, reading = std::move(reading), day] { worker->glance(*reading, day); };
+    QMetaObject::invokeMethod(worker_, ask, Qt::QueuedConnection);
 }
 
-void Reader::end(const Answer &answer) {
+void Reader::watch(std::shared_ptr<const Reading> reading, std::optional<Day> day) {
+    const auto ask = [worker = worker_, reading = std::move(reading), day] { worker->watch(*reading, day); };
+    QMetaObject::invokeMethod(worker_, ask, Qt::QueuedConnection);
+}
+
+void Reader::take(const Answer &answer) {
     is_busy_ = false;
-    answer();
-    if (waiting_ && !is_busy_) {
-        begin_reading(*std::exchange(waiting_, std::nullopt));
-    }
+    is_reading_ = waiting_.has_value();
+    begin_what_waits();
+    emit read_out(answer);
 }
 
-Progress Reader::reporter() {
-    return [this, question = questions_, last = std::chrono::steady_clock::time_point{}](std::size_t read,
-                                                                                         std::size_t of) mutable {
-        const auto now = std::chrono::steady_clock::now();
-        if (now - last < between_reports) {
-            return;
-        }
-        last = now;
-        const auto tell = [this, question, read, of] {
-            if (question == questions_) {
-                emit progressed(static_cast<int>(read), static_cast<int>(of));
-            }
-        };
-        QMetaObject::invokeMethod(this, tell, Qt::QueuedConnection);
-    };
+void Reader::take_glance(bool changed, int took_ms) {
+    is_busy_ = false;
+    if (waiting_) {
+        begin_what_waits();
+    } else {
+        emit glanced(changed, took_ms);
+    }
 }
 
 } // namespace client

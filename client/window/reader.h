@@ -1,59 +1,57 @@
-// Reads the folder on a thread of its own, one reading at a time, so that the window never waits for a disk.
+// Asks a worker about one folder, one question at a time, so that the window never waits for a disk.
+//
+// Another folder gets a reader of its own. A reader that goes leaves its worker to itself: it is asked to stop, its
+// answer is dropped, and nobody waits for its thread, which may be blocked in the system for as long as a share stalls.
 #pragma once
 
-#include "reading.h"
+#include "worker.h"
 
-#include <QObject>
-
-#include <functional>
-#include <thread>
+class QThread;
 
 namespace client {
-
-// What is to be done with an outcome on the reader's thread, before the window has it; it may leave a sentence for
-// people.
-using Also = std::function<std::optional<Said>(const Outcome &outcome, const std::stop_token &stop)>;
 
 class Reader : public QObject {
     Q_OBJECT
 
   public:
-    explicit Reader(QObject *parent = nullptr);
-    // Asks what is under way to stop, and waits for the file at hand.
+    Reader(std::filesystem::path folder, bool by_events, QObject *parent = nullptr);
     ~Reader() override;
 
-    // Begins a reading. While something is under way, it is begun once that has ended.
-    void read(std::filesystem::path folder, Also also = {});
+    // Begins a reading. While something is under way, it is begun once that has ended; all that is to be done with
+    // readings that wait is done with the one that comes.
+    void read(std::optional<Day> day, Also also = {});
     // Looks whether the folder still is what the reading has. Where something is under way there is no need to.
     void glance(std::shared_ptr<const Reading> reading, std::optional<Day> day);
-    // The reading under way and the one that waits come to nothing.
-    void stop();
+    // Watches the files of another day first.
+    void watch(std::shared_ptr<const Reading> reading, std::optional<Day> day);
 
+    // The worker is left to itself, and nothing is heard of it any more.
+    void leave();
+
+    // Somebody waits for a reading.
     bool is_reading() const { return is_reading_; }
+    // The worker has a question that it has not answered.
+    bool is_busy() const { return is_busy_; }
 
   signals:
     void progressed(int read, int of);
-    void read_out(client::Outcome outcome, std::optional<client::Said> told);
+    void read_out(client::Answer answer);
     // What a glance found; not said where a reading was asked for meanwhile, which finds it too.
-    void glanced(bool changed);
+    void glanced(bool changed, int took_ms);
+    void stirred();
+    void stirred_around();
 
   private:
-    using Answer = std::function<void()>;
-    struct Asked {
-        std::filesystem::path folder;
-        Also also;
-    };
-
-    void begin(std::function<Answer(std::stop_token)> work);
-    void begin_reading(Asked asked);
-    void end(const Answer &answer);
-    Progress reporter();
+    void begin_what_waits();
+    void take(const Answer &answer);
+    void take_glance(bool changed, int took_ms);
 
     bool is_busy_ = false;
-    bool is_reading_ = false;     // somebody waits for a reading
-    std::uint64_t questions_ = 0; // an answer to an earlier question is dropped
-    std::optional<Asked> waiting_;
-    std::jthread thread_;
+    bool is_reading_ = false;
+    std::optional<Question> waiting_;
+    std::stop_source stop_;
+    Worker *worker_ = nullptr; // it and its thread go when the thread has ended
+    QThread *thread_ = nullptr;
 };
 
 } // namespace client

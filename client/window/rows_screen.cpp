@@ -102,7 +102,7 @@ void RowsScreen::name_figures(Tongue tongue) {
     table_->setAccessibleName(words(Word::rows_table, tongue));
 }
 
-void RowsScreen::clear(Tongue tongue) {
+void RowsScreen::forget(Tongue tongue) {
     forget_tool_tips();
     leave_place();
     model_->clear(tongue);
@@ -110,18 +110,14 @@ void RowsScreen::clear(Tongue tongue) {
     name_figures(tongue);
 }
 
-void RowsScreen::show_rows(const Shown &shown) {
-    clear(shown.tongue);
-    if (!shown.reading) {
-        return;
-    }
+void RowsScreen::show_reading(const Shown &shown) {
     Word instead = Word::rows_none;
     try {
         if (shown.day) {
             model_->show_rows(shown, figure());
         }
     } catch (const std::exception &) {
-        clear(shown.tongue);
+        forget(shown.tongue);
         instead = Word::screen_fault;
     }
     empty_->setText(model_->rowCount() == 0 ? words(instead, shown.tongue) : QString());
@@ -148,7 +144,7 @@ void RowsScreen::take_place(const Shown &shown) {
     const bool is_same_day = std::exchange(day_, shown.day) == shown.day;
     if (!left || !is_same_day || model_->rowCount() == 0) {
         chosen_.reset();
-        choose(shown.plant, shown.quarter);
+        show_choice(shown);
         // It may not have its size yet.
         QTimer::singleShot(0, table_, [this] { table_->scrollTo(table_->currentIndex()); });
         return;
@@ -161,7 +157,7 @@ void RowsScreen::take_place(const Shown &shown) {
     table_->doItemsLayout();
     table_->horizontalScrollBar()->setValue(left->across);
     table_->verticalScrollBar()->setValue(left->down);
-    choose(shown.plant, shown.quarter);
+    show_choice(shown);
 }
 
 // A figure that has no sum has no place for it.
@@ -178,22 +174,23 @@ void RowsScreen::fit() {
 }
 
 // Only what is newly chosen is marked and brought into sight: somebody may be at another cell.
-void RowsScreen::choose(std::optional<RowId> plant, std::optional<Quarter> quarter) {
-    const auto row = plant ? model_->row_of(*plant) : std::nullopt;
+void RowsScreen::show_choice(const Shown &shown) {
+    const auto row = shown.plant ? model_->row_of(*shown.plant) : std::nullopt;
     if (!row) {
         chosen_.reset();
         table_->setCurrentIndex({});
         return;
     }
-    if (std::exchange(chosen_, std::pair(*plant, quarter)) == std::pair(*plant, quarter)) {
+    const std::pair now(*shown.plant, shown.quarter);
+    if (std::exchange(chosen_, now) == now) {
         return;
     }
-    const QModelIndex index = model_->index(*row, quarter ? quarter->number : 0);
+    const QModelIndex index = model_->index(*row, shown.quarter ? shown.quarter->number : 0);
     table_->setCurrentIndex(index);
     table_->scrollTo(index);
 }
 
-void RowsScreen::focus_table() {
+void RowsScreen::take_keys() {
     table_->setFocus(Qt::ShortcutFocusReason);
 }
 

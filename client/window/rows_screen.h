@@ -1,9 +1,7 @@
 // All rows of a day: a line for each row, a column for each quarter; one figure of each, which is chosen.
 #pragma once
 
-#include "shown.h"
-
-#include <QWidget>
+#include "screen.h"
 
 #include <utility>
 
@@ -16,17 +14,17 @@ class FillingTable;
 class RowsModel;
 enum class Figure;
 
-class RowsScreen : public QWidget {
+class RowsScreen : public QWidget, public Screen {
     Q_OBJECT
 
   public:
     explicit RowsScreen(QWidget *parent = nullptr);
 
-    void clear(Tongue tongue);
-    void show_rows(const Shown &shown);
-    // Marks the row and the quarter that are chosen.
-    void choose(std::optional<RowId> plant, std::optional<Quarter> quarter);
-    void focus_table();
+    QWidget &as_widget() override { return *this; }
+    std::optional<Word> title() const override { return Word::tab_rows; }
+    QKeySequence keys() const override { return Qt::CTRL | Qt::Key_3; }
+    void take_keys() override;
+    std::optional<Subject> exports() const override { return Subject::rows; }
 
   signals:
     // A cell was opened: that row and that quarter.
@@ -36,6 +34,11 @@ class RowsScreen : public QWidget {
     void changeEvent(QEvent *event) override;
 
   private:
+    void forget(Tongue tongue) override;
+    void show_reading(const Shown &shown) override;
+    // Marks the row and the quarter that are chosen.
+    void show_choice(const Shown &shown) override;
+
     void make_page();
     void name_figures(Tongue tongue);
     Figure figure() const;

@@ -3,8 +3,10 @@
 
 #include "reading.h"
 
+#include <QFile>
 #include <QString>
 
+#include <filesystem>
 #include <memory>
 #include <optional>
 
@@ -24,6 +26,15 @@ inline QString text(const std::string &utf8) {
 
 inline QString words(const Said &said, Tongue tongue) {
     return QString::fromStdString(said.in(tongue));
+}
+
+// A path as Qt has it and as the system has it. Neither looks at the disk.
+inline std::filesystem::path path_of(const QString &text) {
+    return QFile::encodeName(text).toStdString();
+}
+
+inline QString text_of(const std::filesystem::path &path) {
+    return QFile::decodeName(QByteArray::fromStdString(path.native()));
 }
 
 } // namespace client

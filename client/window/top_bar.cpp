@@ -105,11 +105,13 @@ void TopBar::name_all(Tongue tongue) {
     name(tongue_, Word::language, Word::language_what, tongue);
 }
 
-void TopBar::clear(Tongue tongue) {
+void TopBar::forget(Tongue tongue) {
     name_all(tongue);
     // What somebody is typing just now is no figure, and stays.
     const bool is_typing = plant_->lineEdit()->hasFocus() && plant_->lineEdit()->isModified();
-    typed_ = is_typing ? plant_->currentText() : QString();
+    if (plant_->isEnabled()) {
+        typed_ = is_typing ? plant_->currentText() : QString();
+    }
     const QSignalBlocker quiet_day(day_), quiet_plant(plant_);
     day_->clear();
     plant_->clear();
@@ -119,7 +121,7 @@ void TopBar::clear(Tongue tongue) {
     }
 }
 
-void TopBar::offer(const Shown &shown) {
+void TopBar::show_reading(const Shown &shown) {
     name_all(shown.tongue);
     offer_days(shown);
     offer_plants(shown);
@@ -131,6 +133,10 @@ void TopBar::offer_days(const Shown &shown) {
     day_->clear();
     for (const auto &[day, read] : shown.reading->days) {
         day_->addItem(text(date(day)), day.number);
+    }
+    // A day whose files are gone is still the one that is shown.
+    if (shown.day && !shown.reading->days.contains(*shown.day)) {
+        day_->addItem(text(date(*shown.day)), shown.day->number);
     }
     day_->setCurrentIndex(shown.day ? day_->findData(shown.day->number) : -1);
     day_->setEnabled(day_->count() > 0);
@@ -159,7 +165,7 @@ void TopBar::offer_plants(const Shown &shown) {
     plant_->setEnabled(plant_->count() > 0);
 }
 
-void TopBar::focus_plant() {
+void TopBar::take_keys() {
     plant_->setFocus(Qt::ShortcutFocusReason);
     plant_->lineEdit()->selectAll();
 }

@@ -1,9 +1,7 @@
 // The line at the top: folder, day, plant, export, tongue, help.
 #pragma once
 
-#include "shown.h"
-
-#include <QWidget>
+#include "screen.h"
 
 class QComboBox;
 class QLabel;
@@ -11,17 +9,16 @@ class QPushButton;
 
 namespace client {
 
-class TopBar : public QWidget {
+class TopBar : public QWidget, public Screen {
     Q_OBJECT
 
   public:
     explicit TopBar(QWidget *parent = nullptr);
 
-    // No day and no plant to choose from.
-    void clear(Tongue tongue);
-    // The days of the reading and the plants of the day, with what is chosen of them.
-    void offer(const Shown &shown);
-    void focus_plant();
+    QWidget &as_widget() override { return *this; }
+    QKeySequence keys() const override { return Qt::CTRL | Qt::Key_F; }
+    // The keys go to the plant.
+    void take_keys() override;
 
   signals:
     void open_asked();
@@ -34,6 +31,11 @@ class TopBar : public QWidget {
     void help_asked();
 
   private:
+    // No day and no plant to choose from.
+    void forget(Tongue tongue) override;
+    // The days of the reading and the plants of the day, with what is chosen of them.
+    void show_reading(const Shown &shown) override;
+
     void name_all(Tongue tongue);
     void offer_days(const Shown &shown);
     void offer_plants(const Shown &shown);

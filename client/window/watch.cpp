@@ -1,6 +1,6 @@
 #include "watch.h"
 
-#include <QFile>
+#include "shown.h"
 
 #include <algorithm>
 
@@ -8,14 +8,10 @@ namespace client {
 
 namespace {
 
-// The system lets a program watch so many paths; a poll sees what lies beyond (MainWindow).
+// The system lets a program watch so many paths; glances see what lies beyond (Session).
 constexpr qsizetype most_files = 500;
 
 constexpr int burst_ms = 120;
-
-QString text_of(const std::filesystem::path &path) {
-    return QFile::decodeName(QByteArray::fromStdString(path.native()));
-}
 
 // The files of the day first, then the others, as many as may be watched.
 QStringList files_to_watch(const Reading &reading, std::optional<Day> day) {
@@ -75,14 +71,12 @@ bool Watch::change_to(const QSet<QString> &paths) {
     if (!gone.isEmpty()) {
         watcher_.removePaths({gone.begin(), gone.end()});
     }
-    if (!come.isEmpty()) {
-        watcher_.addPaths({come.begin(), come.end()});
+    if (come.isEmpty()) {
+        return false;
     }
-    return !come.isEmpty();
-}
-
-void Watch::clear() {
-    change_to({});
+    // A folder that is away cannot be watched, and is no news.
+    const QStringList refused = watcher_.addPaths({come.begin(), come.end()});
+    return refused.size() < come.size();
 }
 
 void Watch::hear_folder(const QString &path) {

@@ -8,12 +8,6 @@
 
 using namespace client;
 
-namespace {
-
-constexpr int within_ms = 1'000;
-
-} // namespace
-
 Desk::Desk(Seeing seeing) {
     for (unsigned quarter = 0; quarter < 4; ++quarter) {
         made::write(folder / name(quarter), made::interval(slot(quarter)));
@@ -28,12 +22,12 @@ void Desk::open() {
     window_->show();
     QSignalSpy taken(window_.get(), &MainWindow::taken);
     window_->open_folder(folder.path());
-    QVERIFY(taken.wait(5'000));
+    QVERIFY(taken.wait(long_ms));
     QVERIFY(window_->shown().reading);
 }
 
 bool Desk::waits_for_reading() {
-    return QSignalSpy(window_.get(), &MainWindow::taken).wait(within_ms);
+    return QSignalSpy(window_.get(), &MainWindow::taken).wait(long_ms);
 }
 
 QString Desk::text() const {
@@ -50,7 +44,7 @@ QString Desk::text_of_fresh_start() const {
     fresh.show();
     QSignalSpy taken(&fresh, &MainWindow::taken);
     fresh.open_folder(folder.path());
-    taken.wait(5'000);
+    taken.wait(long_ms);
     if (window_->shown().quarter) {
         fresh.choose_quarter(*window_->shown().quarter);
     }

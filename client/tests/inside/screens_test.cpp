@@ -7,7 +7,6 @@
 #include <QAbstractItemView>
 #include <QAccessible>
 #include <QComboBox>
-#include <QElapsedTimer>
 #include <QFile>
 #include <QLineEdit>
 #include <QRegularExpression>
@@ -84,7 +83,7 @@ void ScreensTest::keys_choose_quarters() {
     press(desk, Qt::Key_Right);
     QCOMPARE(quarter(desk), 95u);
     press(desk, Qt::Key_D, Qt::ControlModifier);
-    QTRY_COMPARE_WITH_TIMEOUT(quarter(desk), 0u, 1'000);
+    QTRY_COMPARE_WITH_TIMEOUT(quarter(desk), 0u, long_ms);
 }
 
 void ScreensTest::keys_choose_screens() {
@@ -178,7 +177,7 @@ void ScreensTest::a_correction_says_before_and_now() {
     Desk desk;
     desk.open();
     made::write(desk.folder / Desk::name(0, "correction"), made::wind_corrected(Desk::slot(0), 6'000));
-    QVERIFY(desk.waits_for_reading());
+    QTRY_VERIFY_WITH_TIMEOUT(showing(desk).contains("No longer valid"), long_ms);
     const QString text = showing(desk);
     QVERIFY(text.contains("Meter reading of row 3 replaced: 5,000 → 6,000 kWh"));
     // 900.00 by 15,000 and 6,000 kWh: row 2 owes 642.85 and is no longer at its cap of 650.00.
@@ -192,14 +191,12 @@ void ScreensTest::a_moved_fen_leaves_no_steps() {
     Shown shown = desk.window().shown();
     shown.quarter = Quarter{0};
     QuarterPane pane;
-    pane.clear(Tongue::english);
-    pane.show_quarter(shown);
+    pane.fill(shown);
     pane.resize(500, 700);
     pane.show();
     QVERIFY(all_text(pane, true).contains("Round 1"));
     shown.reading = with_a_moved_fen(*shown.reading, Desk::slot(0));
-    pane.clear(Tongue::english);
-    pane.show_quarter(shown);
+    pane.fill(shown);
     QVERIFY(all_text(pane, true).contains("does not come to the same figures"));
     QVERIFY(!all_text(pane).contains("Round 1"));
     QVERIFY(pane.as_text().isEmpty());
@@ -254,7 +251,7 @@ void ScreensTest::first_start_offers_the_example() {
             button->click();
         }
     }
-    QVERIFY(taken.wait(2'000));
+    QVERIFY(taken.wait(long_ms));
     QVERIFY(all_text(window, true).contains("gets 900.00 yuan"));
 }
 

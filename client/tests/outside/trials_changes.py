@@ -36,10 +36,10 @@ class Seen:
         self.desk.tell(f'{what}: {amount or "no figure"} after {took:.2f} s' + (f', {before} is nowhere' if before not in (None, amount) else ''))
         time.sleep(ALONE)
 
-    def expect_nothing(self, what, act, says):
+    def expect_nothing(self, what, act, says, headline=''):
         """After the change there is no amount at all, but a sentence."""
         client = self.client
-        took = timed(act, lambda: client.name_of(client.headline) == '', f'{what}: no figure', client.told)
+        took = timed(act, lambda: client.name_of(client.headline) == headline, f'{what}: no figure', client.told)
         client.must_say(says)
         client.no_money()
         self.amount = None
@@ -209,7 +209,8 @@ def disturbed(desk):
     def empty():
         for name in os.listdir(desk.day):
             os.remove(desk.path(name))
-    seen.expect_nothing('the folder emptied', empty, english('no-files'))
+    # The day that was shown is shown as empty, and its plants have no names any more.
+    seen.expect_nothing('the folder emptied', empty, english('no-files'), english('quarter.none', 'Row 101', f'{DATE} {SPAN}'))
 
     def fill():
         shutil.copytree(desk.given.example, desk.day, dirs_exist_ok=True)
