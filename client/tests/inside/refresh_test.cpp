@@ -189,7 +189,7 @@ void RefreshTest::refused_correction_leaves_no_figure() {
     QVERIFY(has_money(all_text(desk.window())));
     made::write(desk.folder / Desk::name(1, "correction"), made::correction(Desk::slot(1), {{753, 2, 100, 1'000}}));
     const auto refused = [&desk] { return all_text(desk.window(), true).contains("the correction is refused"); };
-    QTRY_VERIFY_WITH_TIMEOUT(refused(), long_ms);
+    QVERIFY(QTest::qWaitFor(refused, long_ms));
     QVERIFY(!desk.window().shown().reading->at(Desk::slot(1)).statement);
     QVERIFY(!all_text(desk.window()).contains("250.00"));
 }
