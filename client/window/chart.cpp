@@ -127,8 +127,11 @@ QString Chart::told_of(Quarter quarter) const {
         return {};
     }
     const Said amount = amount_of(quarter);
-    const auto open = reservation(*day_->reading, *day_->quarters[quarter.number].read);
-    return words(open ? Said(Word::chart_reserved, {amount, *open}) : amount, tongue_);
+    const QuarterRead &read = *day_->quarters[quarter.number].read;
+    const auto open = reservation(*day_->reading, read);
+    // Where there is no amount, what stands in its place is a sentence already.
+    const Word both = read.statement ? Word::chart_reserved : Word::listing_sentences;
+    return words(open ? Said(both, {amount, *open}) : amount, tongue_);
 }
 
 Said Chart::amount_of(Quarter quarter) const {

@@ -113,16 +113,14 @@ void DayScreen::make_answer(QBoxLayout &column) {
     dearest_ = new QPushButton(page_);
     dearest_->setSizePolicy(QSizePolicy::Maximum, QSizePolicy::Maximum);
 
-    auto *standing = new QVBoxLayout;
-    standing->addWidget(standing_);
-    standing->addWidget(booking_);
-    standing->addWidget(outdated_);
     below_answer_ = new QBoxLayout(QBoxLayout::LeftToRight);
-    below_answer_->addLayout(standing, 1);
+    below_answer_->addWidget(standing_, 1);
     below_answer_->addWidget(dearest_, 0, Qt::AlignBottom | Qt::AlignLeft);
     column.addWidget(answer_);
     column.addWidget(parts_);
     column.addLayout(below_answer_);
+    column.addWidget(booking_);
+    column.addWidget(outdated_);
 }
 
 void DayScreen::make_table(QBoxLayout &column) {
@@ -171,7 +169,6 @@ void DayScreen::set_fonts() {
     auto *column = page_->layout();
     column->setSpacing(lines(*this, 0.5));
     below_answer_->setSpacing(lines(*this, 0.35));
-    below_answer_->itemAt(0)->layout()->setSpacing(lines(*this, 0.3));
     set_page_margins(*page_);
 }
 

@@ -44,6 +44,20 @@ class Words:
 
 english, chinese = Words(1), Words(2)
 
+# Two files of the example day are refused: every figure is told with it.
+OPEN_FILES = english('listing.several', '2026-10-31-q18.interval', '2026-10-31-q54.correction')
+RESERVATION = english('reservation.several', OPEN_FILES)
+
+
+def told_of_bar(key, *holes):
+    """What the chart tells of a quarter with a statement."""
+    return english('chart.reserved', english(key, *holes), RESERVATION)
+
+
+def told_of_no_bar(*holes):
+    """What it tells of one without."""
+    return english('listing.sentences', english('chart.hindered', *holes), RESERVATION)
+
 
 def yuan(fen):
     return f'{fen // 100:,}.{fen % 100:02}'

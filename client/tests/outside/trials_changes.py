@@ -2,7 +2,7 @@
 import os, shutil, struct, time
 
 import screen
-from desk import DATE, DAY_SUM, LATE_OWED, OWED, QUARTER, ROW, SPAN, as_anybody, at_cap, english, no_longer_valid, timed
+from desk import DATE, DAY_SUM, LATE_OWED, OPEN_FILES, OWED, QUARTER, ROW, SPAN, as_anybody, at_cap, english, no_longer_valid, timed, told_of_bar
 
 # After this nothing of a change is under way any more, so that the next one is seen for itself. On a busy machine two may be seen as one: then less
 # is tried, and it holds all the same.
@@ -116,7 +116,7 @@ def hover(client):
 
     def told():
         return next((widget.name for widget in client.top() if widget.role == 'tool tip' and widget.showing), '')
-    client.again_until(rest, lambda: told() == english('chart.pays', SPAN, OWED), f'a tool tip of {SPAN}')
+    client.again_until(rest, lambda: told() == told_of_bar('chart.pays', SPAN, OWED), f'a tool tip of {SPAN}')
 
 
 def drop_and_take(desk, seen):
@@ -190,7 +190,7 @@ def disturbed(desk):
     shut = english('gone', english('unread.permission'))
     seen.expect_nothing('the folder made unreadable', lambda: os.chmod(desk.day, 0), shut)
     seen.expect('the folder made readable', lambda: os.chmod(desk.day, 0o755), OWED)
-    seen.expect('the file made unreadable', lambda: os.chmod(desk.interval, 0), None, english('state.missing'))
+    seen.expect('the file made unreadable', lambda: os.chmod(desk.interval, 0), None, english('state.missing-named', os.path.basename(desk.interval)))
     seen.expect('the file made readable', lambda: os.chmod(desk.interval, 0o644), OWED)
 
     desk.copy(desk.given.example, other)
@@ -230,6 +230,8 @@ def refused_correction(desk):
     desk.tell(f'when it is no longer fresh: “{english("state.refused-correction", "").strip()}”; {OWED} and {DAY_SUM} are nowhere')
     seen.expect('the right one in its place: corrected', lambda: write(desk.correction, desk.late_bytes()), LATE_OWED)
 
+    damaged(desk, seen)
+
     other = desk.path('second.correction')
     second = bytearray(desk.late_bytes())
     struct.pack_into('<I', second, 9 + 7, 25_000)
@@ -238,3 +240,21 @@ def refused_correction(desk):
     seen.client.must_say(english('state.two', os.path.basename(desk.correction), 'second.correction'))
     desk.tell(f'two corrections: neither counts, {OWED} is nowhere either')
     seen.expect('the second removed', lambda: os.remove(other), LATE_OWED)
+
+
+def damaged(desk, seen):
+    """The correction's first byte is damaged: nobody knows what it is, the figure without it stands with a reservation wherever it stands."""
+    client, name = seen.client, os.path.basename(desk.correction)
+    open_files = english('listing.several', OPEN_FILES, name)
+    whole = desk.late_bytes()
+    seen.expect('a correction with its first byte damaged', lambda: write(desk.correction, b'X' + whole[1:]), OWED)
+    client.must_say(english('reservation.named', name))
+    client.must_say(english('reservation.several', open_files))
+    client.press('ctrl+4')
+    client.must_say(english('reservation.several', open_files))
+    client.press('ctrl+1')
+    assert client.description_of(client.chart()).endswith(english('reservation.several', open_files)), client.description_of(client.chart())
+    client.nowhere(english('day.ready'))
+    desk.tell(f'{name} is named in the headline, the pane, the list of files and the chart, and nothing is ready to book')
+    seen.amount = None      # it stands beside the new one, as the figure before the correction
+    seen.expect('put right', lambda: write(desk.correction, whole), LATE_OWED)

@@ -175,7 +175,7 @@ def try_unwelcome(desk, folder):
     listed = {row[name]: row for row in rows}
     unread = {'link': 'link', 'loop': 'link', 'pipe': 'pipe', 'socket': 'socket', 'shut': 'permission', 'unreadable': 'permission', 'deep/deeper': 'folder'}
     sentences = {file: english('file.unread', english(f'unread.{reason}')) for file, reason in unread.items()}
-    for file, sentence in {**sentences, 'new\\nline': english('file.empty'), 'random': english('file.other')}.items():
+    for file, sentence in {**sentences, 'new\\nline': english('file.empty'), 'random': english('file.unknown')}.items():
         assert file in listed and listed[file][says] == sentence, f'{file}: {listed.get(file)} and not {sentence!r}\n{sorted(listed)}'
     assert len(rows) == 58 and all(row[says] for row in rows), f'{len(rows)} files: {rows}'
     faulty = [row for row in rows if row[fault]]

@@ -2,7 +2,7 @@
 import re, time
 
 import screen
-from desk import DATE, DAY_SUM, OWED, QUARTER, ROW, SPAN, chinese, english, span
+from desk import DATE, DAY_SUM, OWED, QUARTER, ROW, SPAN, chinese, english, span, told_of_bar, told_of_no_bar
 
 MISSING = 71        # the quarter of the example that has no file
 FOCUSABLE = 11      # the number of the state in AT-SPI
@@ -215,7 +215,7 @@ def pointer(desk):
     chart = client.chart()
     client.click_bar(chart, QUARTER)
     at_quarter(client, chart, QUARTER)
-    client.must_describe(chart, english('chart.pays', SPAN, OWED))
+    client.must_describe(chart, told_of_bar('chart.pays', SPAN, OWED))
     desk.tell(f'a click at the bar of {SPAN} chooses it')
 
     client.press('ctrl+1', 'Home')
@@ -262,13 +262,13 @@ def cell_on_screen(client):
 def readers(desk):
     client = desk.open_day()
     chart = client.chart()
-    assert chart.role == 'chart' and chart.name == english('chart.name') and chart.description == english('chart.pays', SPAN, OWED), chart.texts()
+    assert chart.role == 'chart' and chart.name == english('chart.name') and chart.description == told_of_bar('chart.pays', SPAN, OWED), chart.texts()
     client.press('ctrl+1')
-    for key, said in (('Left', english('chart.pays', span(QUARTER - 1), '4,479.89')), ('End', english('chart.zero', span(95)))):
+    for key, said in (('Left', told_of_bar('chart.pays', span(QUARTER - 1), '4,479.89')), ('End', told_of_bar('chart.zero', span(95)))):
         client.press(key)
         client.must_describe(chart, said)
     client.press('End', *['Left'] * (95 - MISSING))
-    client.must_describe(chart, english('chart.hindered', span(MISSING), english('state.missing')))
+    client.must_describe(chart, told_of_no_bar(span(MISSING), english('state.missing')))
     client.press('ctrl+d')
     at_quarter(client, chart, QUARTER)
     desk.tell('the chart has its role, a name, and says quarter and amount, or why there is none, as the keys move')
