@@ -88,6 +88,7 @@ std::variant<std::monostate, Obstacle, Stopped> Collector::collect(Reading &read
         const bool is_restless = !(listed == std::variant<Listing, Obstacle>(found));
         if (!is_restless || listing == listings) {
             hand_over(reading, found);
+            reading.restless = is_restless;
             reading.arriving |= is_restless;
             return std::monostate{};
         }

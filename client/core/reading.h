@@ -115,6 +115,7 @@ struct Reading {
     std::vector<std::size_t> outdated; // whole statements of a quarter that has another statement now, by slot
     Names names;
     bool arriving = false; // some file has to be looked at again once it is no longer fresh
+    bool restless = false; // files came or went all the while: it may lack one that is there
 
     const QuarterRead &at(Slot slot) const; // missing where no file names its day
     // The two files of a quarter that has a statement, as the engine was given them; the correction is empty where

@@ -49,6 +49,9 @@ std::vector<Said> hindrances(const Arrived &arrived) {
     if (arrived.arriving > 0) {
         all.push_back({Word::day_arriving, {number(arrived.arriving)}});
     }
+    if (arrived.is_restless) {
+        all.push_back(Word::day_restless);
+    }
     return all;
 }
 
@@ -133,6 +136,7 @@ Arrived arrived(const Reading &reading, Day day) {
         count(arrived, reading.at({day, {static_cast<std::uint8_t>(number)}}), number);
     }
     arrived.unaccounted = reading.unaccounted();
+    arrived.is_restless = reading.restless;
     return arrived;
 }
 

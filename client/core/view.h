@@ -51,9 +51,10 @@ struct Arrived {
     std::size_t arriving = 0; // of these, the ones that may still be arriving
     std::optional<Quarter> first_missing;
     std::size_t unaccounted = 0; // files of the folder, whichever day they name: a damaged head can name any
+    bool is_restless = false;    // files came or went while the folder was read
 
     // It may be booked: all 96 are settled, and every file of the folder is accounted for.
-    bool is_ready() const { return settled == quarters_of_day && unaccounted == 0; }
+    bool is_ready() const { return settled == quarters_of_day && unaccounted == 0 && !is_restless; }
 };
 
 Arrived arrived(const Reading &reading, Day day);

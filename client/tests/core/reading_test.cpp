@@ -691,6 +691,8 @@ void files_come_and_go() {
         }
     });
     holds(std::get<ReadIn>(restless)->arriving, "nobody looks again");
+    holds(!arrived(*std::get<ReadIn>(restless), {day}).is_ready(), "ready, and a file may be missing");
+    holds(english(readiness(*std::get<ReadIn>(restless), {day})).find("came or went") != std::string::npos, "not said");
 }
 
 void whatever_is_thrown() {

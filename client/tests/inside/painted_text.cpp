@@ -4,14 +4,23 @@
 #include <QPaintEngine>
 #include <QRegion>
 
+#include <algorithm>
 #include <cmath>
 
 namespace {
 
-// Paints nothing and takes down every text.
-class Listening : public QPaintEngine {
+// A piece of text as it comes: letters of one font.
+struct Piece {
+    QString text;
+    QPointF from; // the left end of its base line
+    QRectF box;
+    QRegion seen; // what is painted on; empty where that is everything
+};
+
+// Paints nothing and takes down every piece of text.
+class Listener : public QPaintEngine {
   public:
-    Listening() : QPaintEngine(AllFeatures) {}
+    Listener() : QPaintEngine(AllFeatures) {}
 
     bool begin(QPaintDevice *) override { return true; }
     bool end() override { return true; }
@@ -30,51 +39,21 @@ class Listening : public QPaintEngine {
     void drawTextItem(const QPointF &place, const QTextItem &item) override {
         const QPointF from = transform_.map(place);
         const QRectF box(from.x(), from.y() - item.ascent(), item.width(), item.ascent() + item.descent());
-        if (is_seen(box) && !is_told_already(from, item)) {
-            add(from, item.text());
-        }
-        before_ = item.text();
-        end_ = {from.x() + item.width(), from.y()};
+        pieces.push_back({item.text(), from, box, systemClip()});
     }
 
-    const QStringList &lines() const { return lines_; }
+    std::vector<Piece> pieces;
 
   private:
-    // Half of a line of letters can be read; its upper or lower edge alone cannot.
-    bool is_seen(const QRectF &box) const {
-        const QRectF middle = box.adjusted(0, box.height() / 4, 0, -box.height() / 4);
-        return systemClip().isEmpty() || systemClip().intersects(middle.toAlignedRect());
-    }
-
-    // A text with letters of two fonts comes once for each of them, with all of its letters.
-    bool is_told_already(QPointF from, const QTextItem &item) const {
-        return item.text() == before_ && follows(from) && !lines_.isEmpty();
-    }
-
-    bool follows(QPointF from) const { return std::abs(from.x() - end_.x()) < 1 && std::abs(from.y() - end_.y()) < 1; }
-
-    void add(QPointF from, const QString &text) {
-        const bool is_same_line = !lines_.isEmpty() && std::abs(from.y() - end_.y()) < 1 && from.x() > end_.x() - 1;
-        if (!is_same_line) {
-            lines_ << text;
-        } else if (follows(from)) {
-            lines_.last() += text;
-        } else {
-            lines_.last() += " | " + text;
-        }
-    }
-
     QTransform transform_;
-    QStringList lines_;
-    QString before_; // the text painted last, and where it ended
-    QPointF end_;
 };
 
 class Sheet : public QPaintDevice {
   public:
     explicit Sheet(QSize size) : size_(size) {}
-    QPaintEngine *paintEngine() const override { return &engine_; }
-    const QStringList &lines() const { return engine_.lines(); }
+    QPaintEngine *paintEngine() const override { return &engine; }
+
+    mutable Listener engine;
 
   protected:
     int metric(PaintDeviceMetric which) const override {
@@ -102,15 +81,94 @@ class Sheet : public QPaintDevice {
 
   private:
     QSize size_;
-    mutable Listening engine_;
 };
+
+std::vector<Piece> pieces_of(QWidget &widget) {
+    Sheet sheet(widget.size());
+    widget.render(&sheet);
+    return sheet.engine.pieces;
+}
+
+// Half of a line of letters can be read; its upper or lower edge alone cannot.
+bool is_seen(const Piece &piece) {
+    const QRectF middle = piece.box.adjusted(0, piece.box.height() / 4, 0, -piece.box.height() / 4);
+    return piece.seen.isEmpty() || piece.seen.intersects(middle.toAlignedRect());
+}
+
+bool is_on_line(const Piece &piece, const Piece &before) {
+    return std::abs(piece.from.y() - before.from.y()) < 1;
+}
+
+bool follows(const Piece &piece, const Piece &before) {
+    return is_on_line(piece, before) && std::abs(piece.from.x() - before.box.right()) < 1;
+}
+
+// A text with letters of two fonts comes once for each of them, with all of its letters.
+bool is_told_already(const Piece &piece, const Piece &before) {
+    return piece.text == before.text && follows(piece, before);
+}
+
+bool is_whole(const Piece &piece) {
+    const QRect seen = piece.seen.boundingRect();
+    return piece.seen.isEmpty() || (piece.box.left() >= seen.left() && piece.box.right() <= seen.right() + 1.5);
+}
 
 } // namespace
 
-QStringList painted_text(QWidget &window) {
-    Sheet sheet(window.size());
-    window.render(&sheet);
-    QStringList lines = sheet.lines();
+QStringList painted_text(QWidget &widget) {
+    QStringList lines;
+    const Piece nothing{};
+    const Piece *before = &nothing;
+    const std::vector<Piece> pieces = pieces_of(widget);
+    for (const Piece &piece : pieces) {
+        if (is_seen(piece) && !(is_told_already(piece, *before) && !lines.isEmpty())) {
+            const bool is_same_line =
+                !lines.isEmpty() && is_on_line(piece, *before) && piece.from.x() > before->box.right() - 1;
+            if (!is_same_line) {
+                lines << piece.text;
+            } else {
+                lines.last() += (follows(piece, *before) ? "" : " | ") + piece.text;
+            }
+        }
+        before = &piece;
+    }
     lines.removeAll(QString());
     return lines;
+}
+
+std::vector<Painted> painted_places(QWidget &widget) {
+    std::vector<Painted> all;
+    const Piece nothing{};
+    const Piece *before = &nothing;
+    const std::vector<Piece> pieces = pieces_of(widget);
+    for (const Piece &piece : pieces) {
+        if (is_seen(piece) && is_told_already(piece, *before) && !all.empty()) {
+            all.back().place.setRight(piece.box.right());
+            all.back().is_whole = all.back().is_whole && is_whole(piece);
+        } else if (is_seen(piece)) {
+            all.push_back({piece.text, piece.box, is_whole(piece)});
+        }
+        before = &piece;
+    }
+    return all;
+}
+
+QString painted_within(const std::vector<Painted> &all, const QRect &place) {
+    std::vector<Painted> here;
+    for (const Painted &one : all) {
+        if (QRectF(place).contains(one.place.center())) {
+            here.push_back(one);
+        }
+    }
+    std::sort(here.begin(), here.end(),
+              [](const Painted &one, const Painted &other) { return one.place.left() < other.place.left(); });
+    QString text;
+    for (const Painted &one : here) {
+        const bool fits = one.place.left() >= place.left() && one.place.right() <= place.right() + 1.0;
+        if (!fits || !one.is_whole) {
+            return {};
+        }
+        text += one.text;
+    }
+    return text;
 }

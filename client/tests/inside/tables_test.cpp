@@ -1,7 +1,7 @@
 // The tables: figures that are whole, what is always in sight, keys and screen readers in it, and what a refresh leaves
 // where it is.
 #include "desk.h"
-#include "painted_places.h"
+#include "painted_text.h"
 #include "screen_text.h"
 #include "typeface.h"
 
