@@ -219,7 +219,9 @@ def bad_starts(desk):
 def first_start(desk):
     """Without a folder the example is offered; the folder is remembered, and shown again at the next start."""
     client = desk.start('--example', desk.day, under=('env', f'XDG_CONFIG_HOME={desk.work}/first'))
-    client.click(client.find('push button', english('example')))
+    # The window may still be moved to its place when its button is found.
+    client.again_until(lambda: client.click(client.find('push button', english('example'))),
+                       lambda: not client.find_all('push button', english('example')), 'the example day opens')
     client.label(DAY_SUM)
     client.close()
     client = desk.start(under=('env', f'XDG_CONFIG_HOME={desk.work}/first'))
