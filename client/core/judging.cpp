@@ -269,8 +269,17 @@ void Judge::judge_alone(std::size_t place) {
     case Form::names:
         take_names(file);
         return;
-    default:
-        account_for(file, file.form == Form::exported ? Word::file_exported : Word::file_other);
+    case Form::exported:
+        account_for(file, Word::file_exported);
+        return;
+    case Form::text:
+    case Form::pdf:
+    case Form::picture:
+    case Form::archive:
+        account_for(file, Word::file_other);
+        return;
+    case Form::unread:
+        return;
     }
 }
 
