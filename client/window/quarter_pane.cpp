@@ -263,6 +263,10 @@ void QuarterPane::show_reservations(const At &at) {
         }
     }
     reservation_->setText(sentences.join(QLatin1Char('\n')));
+    // What is copied leaves the window, and takes its reservations along.
+    if (!text_.isEmpty() && !sentences.isEmpty()) {
+        text_ += QLatin1Char('\n') + reservation_->text() + QLatin1Char('\n');
+    }
 }
 
 void QuarterPane::show_correction(const At &at, const std::vector<Row> &rows) {

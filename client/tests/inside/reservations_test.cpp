@@ -76,9 +76,11 @@ void ReservationsTest::a_damaged_correction_is_told_everywhere() {
     QTRY_VERIFY_WITH_TIMEOUT(all_text(desk.window()).contains(not_final), 30'000);
     QVERIFY(text_in<DayScreen>(desk).contains("so far"));
     QVERIFY(!all_text(desk.window()).contains("Ready to book"));
-    for (const QString &text : {text_in<DayScreen>(desk), text_in<QuarterPane>(desk), text_in<FilesScreen>(desk, false),
-                                desk.window().findChild<Chart *>()->told(), first_line_of_export(desk, Qt::Key_1),
-                                first_line_of_export(desk, Qt::Key_3), first_line_of_export(desk, Qt::Key_4)}) {
+    for (const QString &text :
+         {text_in<DayScreen>(desk), text_in<QuarterPane>(desk), text_in<FilesScreen>(desk, false),
+          desk.window().findChild<Chart *>()->told(), desk.window().findChild<QuarterPane *>()->as_text(),
+          first_line_of_export(desk, Qt::Key_1), first_line_of_export(desk, Qt::Key_3),
+          first_line_of_export(desk, Qt::Key_4)}) {
         QVERIFY2(text.contains("Not accounted for: late.") && text.contains(not_final), qPrintable(text.left(600)));
     }
 
