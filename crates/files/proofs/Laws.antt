@@ -9,37 +9,42 @@
 --   counting-alike      and its kind, capacity, offered, minimum and bids: only metered and status may differ
 --   ids-rise            ids of the interval's rows rise strictly
 --   counting-rise       and so do those of the rows that count
+--   counting-whole      the bytes that count for an id are a row's 21, if the pair is accepted and the interval has the id ..
+--   counting-nobody, counting-refused     .. and else there are none
 --   source-at           what a column of sources has at row i
 --   no-source           without a correction every row that counts is the interval's own
 --   row-ranges, head-ranges (Ranges.antt)      a row, a head in its ranges as a record of facts
 --   zero-none, none-zero, number-earliest, earliest-number (Answer.antt)
 --                       number 0 is given exactly if no check applies, number a ≠ 0 and place p exactly if the first that applies has them
-use mathlib.Core.Path.{_≡_, refl, _∙_}
-use Prim.Native.Nat.{ℕ, _+_, _<_}
+use mathlib.Core.Path.{_≡_, refl, sym, ap, _∙_}
+use mathlib.Core.Logic.{⊎-elim}
+use Prim.Native.Nat.{ℕ, _+_, _*_, _≤_, _<_}
 use mathlib.Core.Bool.{Bool, true, false, cond}
-use mathlib.Core.List.{List}
+use mathlib.Core.List.{List, []}
 use native.Mathlib.Omega.{arith}
 use lib.Dec.{ltb}
-use lib.ListN.{length, getD}
-use borrow.Author.Tests.{ltb-true, le-ltb, eq-eqb, ne-eqb}
+use lib.ListN.{length, getD, drop, length-drop}
+use lib.Seq.{length-take-le}
+use borrow.Author.Tests.{ltb-true, lt-ltb, le-ltb, eq-eqb, ne-eqb}
 use Rattle.columns.specs.Table.{table}
 use Rattle.records.specs.Buffer.{put}
 use Rattle.columns.proofs.Table.{table-length, table-at}
 use Rattle.records.proofs.Buffer.{put-inside}
-use Rattle.columns.proofs.First.{right-true}
+use Rattle.columns.proofs.First.{left-true, right-true}
 use Rattle.columns.proofs.Rank.{find-is}
-use Rattle.files.specs.Layout.{headSize, correctionHeadSize, rowAt, rowStart, correctionStart}
+use Rattle.columns.proofs.Sum.{lt-or-le}
+use Rattle.files.specs.Layout.{headSize, rowSize, correctionHeadSize, rowAt, rowStart, correctionStart}
 use Rattle.files.specs.Layout.{headAt, rowCount, correctionCount}
 use Rattle.files.specs.Terms.{termsOf}
 use Rattle.files.specs.Range.{rowOk}
-use Rattle.files.specs.Walk.{idOf, hasId, findId, inCorrection, Own}
+use Rattle.files.specs.Walk.{idOf, hasId, findId, inInterval, inCorrection, Rows, Own}
 use Rattle.files.specs.Order.{alike, corrects, verdict, verdictOf}
-use Rattle.files.specs.Counting.{sourceOf, countingRow}
+use Rattle.files.specs.Counting.{part, named, countingBytes, sourceOf, countingRow}
 use Rattle.files.specs.declared.Row.{Row}
-use Rattle.files.specs.declared.Verdict.the-variants.{Accepted}
-use Rattle.files.proofs.Accepted.{accepted-own, accepted-head-ok, accepted-row-ok, accepted-rows, accepted-corrected}
+use Rattle.files.specs.declared.Verdict.the-variants.{Accepted, Refused}
+use Rattle.files.proofs.Accepted.{accepted-passes, accepted-own, accepted-head-ok, accepted-row-ok, accepted-rows, accepted-corrected}
 use Rattle.files.proofs.Found.{find-has}
-use Rattle.files.proofs.Sourced.{none-there}
+use Rattle.files.proofs.Sourced.{none-there, counting-none}
 use Rattle.files.proofs.Ranges.{HeadRanges, head-ranges, RowRanges, row-ranges}
 pub use Rattle.files.proofs.Accepted.{accepted-count, accepted-length, accepted-few}
 
@@ -75,16 +80,21 @@ alike-self r =
       eq-eqb (r .bid2 .0) (r .bid2 .0) refl,
     )
 
+-- a row is found by its id
+own-found : (s : List ℕ) (n i : ℕ) → Own s n → i < n → inInterval s (idOf s headSize i) ≡ i
+unfolding findId hasId
+own-found s n i own l =
+    rw (← own .told)
+    (find-is n (hasId s headSize (idOf s headSize i)) i l (eq-eqb (idOf s headSize i) (idOf s headSize i) refl)
+    (λ x m. ne-eqb (idOf s headSize x) (idOf s headSize i)
+    (λ (q : idOf s headSize x ≡ idOf s headSize i). omega (arith, own .rows .rising x i m l))))
+
 -- a row that corrects, of row i's id, is like row i
 corrects-own : (s : List ℕ) (n i : ℕ) (r : Row) → Own s n → i < n → r .id ≡ idOf s headSize i → corrects s r ≡ true
     → alike (rowAt s (rowStart i)) r ≡ true
-unfolding corrects findId hasId
+unfolding corrects
 corrects-own s n i r own l e h =
-    let found : findId s headSize (rowCount s) (r .id) ≡ i =
-    rw (← own .told, e)
-    (find-is n (hasId s headSize (idOf s headSize i)) i l (eq-eqb (idOf s headSize i) (idOf s headSize i) refl)
-    (λ x m. ne-eqb (idOf s headSize x) (idOf s headSize i)
-    (λ (q : idOf s headSize x ≡ idOf s headSize i). omega (arith, own .rows .rising x i m l)))) in
+    let found : findId s headSize (rowCount s) (r .id) ≡ i = rw e (own-found s n i own l) in
     right-true (ltb i (rowCount s)) (alike (rowAt s (rowStart i)) r) (rw found at h)
 
 module _ (s k : List ℕ) (n : ℕ) (h : verdictOf s k ≡ Accepted n) where
@@ -111,6 +121,60 @@ module _ (s k : List ℕ) (n : ℕ) (h : verdictOf s k ≡ Accepted n) where
 
   pub counting-rise : (i j : ℕ) → i < j → j < n → countingRow s k i .id < countingRow s k j .id
   counting-rise i j l m = rw (counting-id s k i, counting-id s k j) (ids-rise i j l m)
+
+-- ---- the bytes that count for an id
+
+pub counting-refused : (s k : List ℕ) (id a p : ℕ) → verdictOf s k ≡ Refused a p → length (countingBytes s k id) ≡ 0
+counting-refused s k id a p h = ap length (sym (counting-none s k id (verdictOf s k) refl a p h))
+
+-- one of n rows has all its bytes
+part-whole : (s : List ℕ) (start n i : ℕ) → Rows s start n → i < n → length (part s (start + i * rowSize)) ≡ rowSize
+part-whole s start n i rows l =
+    length-take-le rowSize (drop (start + i * rowSize) s) (omega (arith, rows .inside i l, length-drop (start + i * rowSize) s))
+
+module _ (s k : List ℕ) (n id : ℕ) (h : verdictOf s k ≡ Accepted n) where
+  pub counting-whole : (i : ℕ) → i < n → idOf s headSize i ≡ id → length (countingBytes s k id) ≡ rowSize
+  unfolding countingBytes named
+  counting-whole i l e = rw (accepted-passes s k n h) (go (ltb j m) refl) where
+    m : ℕ
+    m = correctionCount k
+
+    j : ℕ
+    j = inCorrection k id
+
+    found : inInterval s id ≡ i
+    found = rw (← e) (own-found s n i (accepted-own s k n h) l)
+
+    go : (t : Bool) → ltb j m ≡ t
+        → length (cond (ltb j m) (part k (correctionStart j)) (cond (ltb (inInterval s id) (rowCount s)) (part s (rowStart (inInterval s id))) [])) ≡ rowSize
+    go true q = rw q (part-whole k correctionHeadSize m j (accepted-corrected s k n h .rows) (ltb-true j m q))
+    go false q =
+        rw (q, found, lt-ltb i (rowCount s) (omega (arith, accepted-count s k n h))) (part-whole s headSize n i (accepted-rows s k n h) l)
+
+  module _ (nobody : (i : ℕ) → i < n → idOf s headSize i ≡ id → ⊥) where
+    not-own : inInterval s id < rowCount s → ⊥
+    not-own l =
+        nobody (inInterval s id) (omega (arith, accepted-count s k n h)) (find-has s headSize (rowCount s) id l)
+
+    -- nor does the correction name it: each of its rows corrects one of the interval's
+    not-theirs : inCorrection k id < correctionCount k → ⊥
+    unfolding corrects
+    not-theirs l =
+        let row = rowAt k (correctionStart (inCorrection k id)) in
+        let there = left-true (ltb (inInterval s (row .id)) (rowCount s)) _ (accepted-corrected s k n h .names _ l) in
+        not-own (ltb-true (inInterval s id) (rowCount s) (rw (find-has k correctionHeadSize (correctionCount k) id l) at there))
+
+    pub counting-nobody : length (countingBytes s k id) ≡ 0
+    unfolding countingBytes named
+    counting-nobody =
+        rw (
+          accepted-passes s k n h,
+          le-ltb (inCorrection k id) (correctionCount k) (not-below not-theirs),
+          le-ltb (inInterval s id) (rowCount s) (not-below not-own),
+        )
+      where
+        not-below : {x y : ℕ} → (x < y → ⊥) → y ≤ x
+        not-below {x} {y} f = ⊎-elim (λ (l : x < y). absurd (f l)) (λ (l : y ≤ x). l) (lt-or-le x y)
 
 -- a column that was put in front of a buffer, read at row i
 pub source-at : (out : List ℕ) (n : ℕ) (f : ℕ → ℕ) (i : ℕ) → i < n → getD (put out 0 (table n f)) i 0 ≡ f i
