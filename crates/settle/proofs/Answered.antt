@@ -1,4 +1,7 @@
--- What the engine has of an accepted pair, and its answers and buffers as the code meets them; as theorems they are in Demand1.
+-- The engine's answer and buffer by what the code has found out; as theorems about any files they are in `demands` (Demand1).
+--   files-stop, room-stop, none-stop     which check comes first, by the files' verdict and the buffer's length
+--   accepted-free              no check of the files applies to an accepted pair, and it has as many rows as its head says
+--   settled-count              a statement of n rows has 39 + 42n bytes
 --   told                       the verdict that was matched on
 --   refusal-told, refusal-left     the files are refused: the answer, and the buffer
 --   short-told, short-left         the buffer is too short: the same
@@ -6,47 +9,112 @@
 --   few-rows, head-there       an accepted pair has at most 256 rows, and a head
 --   stated-long                the statement leaves the buffer as long as it was
 use Prim.Native.Nat.{ℕ, _≤_, _<_}
-use mathlib.Core.Path.{_≡_, sym, ap, _∙_}
-use mathlib.Core.List.{List}
+use mathlib.Core.Path.{_≡_, refl, sym, ap, _∙_}
+use mathlib.Core.Bool.{true, false}
+use mathlib.Core.List.{List, [], _∷_}
 use native.Mathlib.Omega.{arith}
+use lib.Dec.{ltb}
 use lib.ListN.{length}
+use borrow.Author.Tests.{lt-ltb, le-ltb}
+use Rattle.columns.specs.Checks.{Refusal, refusal, firstRefusal}
+use Rattle.columns.proofs.Checks.{append-first, append-next}
 use Rattle.records.specs.Buffer.{put}
 use Rattle.records.proofs.Buffer.{put-length}
-use Rattle.files.specs.Layout.{headSize}
-use Rattle.files.specs.Order.{verdictOf}
+use Rattle.files.specs.Layout.{headSize, headAt, rowCount}
+use Rattle.files.specs.Order.{fileOrder, fileFault, verdictOf}
+use Rattle.files.specs.Counting.{countingRow}
 use Rattle.files.specs.declared.Verdict.{Verdict}
 use Rattle.files.specs.declared.Verdict.the-variants as verdicts
+use Rattle.files.proofs.Answer.{accepted-of, refused-of}
 use Rattle.files.proofs.Laws.{accepted-few, accepted-length, accepted-count}
 use Rattle.statement.specs.Statement.{lineStart}
-use Rattle.settle.specs.Answer.{statementOf, answerOf, bufferAfter, numberOf}
+use Rattle.statement.proofs.Laws.{statement-length}
+use Rattle.settle.specs.Statement.{statementHead, lineOf, statementBytes}
+use Rattle.settle.specs.Answer.{figuresOf, statementOf, settleOrder, answerOf, bufferAfter}
 use Rattle.settle.specs.declared.Answer.the-variants.{Settled, Refused}
-use Rattle.settle.proofs.Demand1.{files-refused, short-refused, refused-keeps, accepted-settled, settled-count, settled-buffer}
+
+-- ---- the files first, then the buffer
+
+module _ (s k : List ℕ) (room : ℕ) where
+  -- the buffer's own check
+  abbrev last : List Refusal
+  last = refusal (ltb room (lineStart (rowCount s))) 11 0 ∷ []
+
+  buffer-next : fileFault s k .applies ≡ false → firstRefusal (settleOrder s k room) ≡ firstRefusal last
+  unfolding settleOrder
+  buffer-next = append-next (fileOrder s k) last
+
+  pub accepted-free : (n : ℕ) → verdictOf s k ≡ verdicts.Accepted n → (fileFault s k .applies ≡ false) × (rowCount s ≡ n)
+  unfolding verdictOf
+  accepted-free n ok = accepted-of (rowCount s) n (fileFault s k) ok
+
+  pub files-stop : (a p : ℕ) → verdictOf s k ≡ verdicts.Refused a p → firstRefusal (settleOrder s k room) ≡ refusal true a p
+  unfolding verdictOf settleOrder
+  files-stop a p refused =
+      let is = refused-of (rowCount s) a p (fileFault s k) refused in
+      append-first (fileOrder s k) last (ap (λ (r : Refusal). r .applies) is) ∙ is
+
+  pub room-stop : (n : ℕ) → verdictOf s k ≡ verdicts.Accepted n → room < lineStart n → firstRefusal (settleOrder s k room) ≡ refusal true 11 0
+  unfolding firstRefusal
+  room-stop n ok short =
+      let both = accepted-free n ok in
+      let lacks : room < lineStart (rowCount s) = omega (arith, both .1) in
+      buffer-next (both .0) ∙ rw (lt-ltb room (lineStart (rowCount s)) lacks)
+
+  pub none-stop : (n : ℕ) → verdictOf s k ≡ verdicts.Accepted n → lineStart n ≤ room → firstRefusal (settleOrder s k room) .applies ≡ false
+  unfolding firstRefusal
+  none-stop n ok enough =
+      let both = accepted-free n ok in
+      let fits : lineStart (rowCount s) ≤ room = omega (arith, both .1) in
+      ap (λ (r : Refusal). r .applies) (buffer-next (both .0)) ∙ rw (le-ltb room (lineStart (rowCount s)) fits) refl
+
+pub settled-count : (s k : List ℕ) → length (statementOf s k) ≡ lineStart (rowCount s)
+unfolding statementOf statementBytes
+settled-count s k =
+    let n = rowCount s in
+    statement-length (statementHead (headAt s) n (figuresOf s k)) n (λ i. lineOf (countingRow s k i .id) (figuresOf s k) i) (λ i. refl)
+
+-- ---- as the code meets them
 
 pub told : (s k : List ℕ) (v w : Verdict) → v ≡ verdictOf s k → v ≡ w → verdictOf s k ≡ w
 told s k v w e f = sym e ∙ f
 
+module _ (s k out : List ℕ) (a p : ℕ) (stop : firstRefusal (settleOrder s k (length out)) ≡ refusal true a p) where
+  refused : Refused a p ≡ answerOf s k (length out)
+  unfolding answerOf
+  refused = rw stop
+
+  unchanged : out ≡ bufferAfter s k out
+  unfolding bufferAfter
+  unchanged = rw stop
+
 module _ (s k out : List ℕ) (v : Verdict) (a p : ℕ) (e : v ≡ verdictOf s k) (f : v ≡ verdicts.Refused a p) where
+  first : firstRefusal (settleOrder s k (length out)) ≡ refusal true a p
+  first = files-stop s k (length out) a p (told s k v (verdicts.Refused a p) e f)
+
   pub refusal-told : Refused a p ≡ answerOf s k (length out)
-  refusal-told = sym (files-refused s k (length out) a p (told s k v (verdicts.Refused a p) e f))
+  refusal-told = refused s k out a p first
 
   pub refusal-left : out ≡ bufferAfter s k out
-  refusal-left = sym (refused-keeps s k out a p (sym refusal-told))
+  refusal-left = unchanged s k out a p first
 
 module _ (s k out : List ℕ) (n size : ℕ) (ok : verdictOf s k ≡ verdicts.Accepted n) (is : size ≡ lineStart n) where
   pub short-told : length out < size → Refused 11 0 ≡ answerOf s k (length out)
-  short-told short = sym (short-refused s k (length out) n ok (rw is at short))
+  short-told short = refused s k out 11 0 (room-stop s k (length out) n ok (rw is at short))
 
   pub short-left : length out < size → out ≡ bufferAfter s k out
-  short-left short = sym (refused-keeps s k out 11 0 (sym (short-told short)))
+  short-left short = unchanged s k out 11 0 (room-stop s k (length out) n ok (rw is at short))
 
-  settled : size ≤ length out → answerOf s k (length out) ≡ Settled (lineStart n)
-  settled room = accepted-settled s k (length out) n ok (rw is at room)
+  none : size ≤ length out → firstRefusal (settleOrder s k (length out)) .applies ≡ false
+  none room = none-stop s k (length out) n ok (rw is at room)
 
   pub written-told : size ≤ length out → Settled size ≡ answerOf s k (length out)
-  written-told room = ap Settled is ∙ sym (settled room)
+  unfolding answerOf
+  written-told room = rw (none room, is, accepted-free s k (length out) n ok .1)
 
   pub written-left : (after : List ℕ) → size ≤ length out → after ≡ put out 0 (statementOf s k) → after ≡ bufferAfter s k out
-  written-left after room written = written ∙ sym (settled-buffer s k out (ap numberOf (settled room)))
+  unfolding bufferAfter
+  written-left after room written = rw (none room) written
 
 pub few-rows : (s k : List ℕ) (n : ℕ) → verdictOf s k ≡ verdicts.Accepted n → n ≤ 256
 few-rows s k n ok = accepted-few s k n ok

@@ -8,15 +8,6 @@ pub mod Paying
 pub mod Reading
 pub mod Levying
 pub mod Accepted
-pub mod Turns
 pub mod Stated
 pub mod Answered
-pub mod Figures
-pub mod Demand1
-pub mod Demand2
-pub mod Prices
-pub mod Demand3
-pub mod Penalties
-pub mod Visits
-pub mod InTurn
 pub mod Unique

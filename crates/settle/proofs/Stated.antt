@@ -39,8 +39,7 @@ use Rattle.settle.specs.Work.{lined, rowLine, tierOne, tierTwo, Offered,
 use Rattle.settle.specs.declared.market.Accounts.{Accounts}
 use Rattle.settle.specs.declared.market.Cleared.{Cleared}
 use Rattle.settle.specs.declared.market.Market.{Market}
-use Rattle.settle.proofs.Accepted.{duties-within}
-use Rattle.settle.proofs.Turns.{first-inside}
+use Rattle.settle.proofs.Accepted.{first-inside, duties-within}
 use Rattle.settle.proofs.Staged as stage
 
 module _ (s k : List ℕ) (n : ℕ) (ok : verdictOf s k ≡ Accepted n) (out : List ℕ) (room : lineStart n ≤ length out) (h : Head) (is : h ≡ headAt s)

@@ -3,6 +3,3 @@ pub mod Within
 pub mod Statement
 pub mod Answer
 pub mod Work
-pub mod Table
-pub mod Requests
-pub mod Promise

@@ -23,8 +23,9 @@ use Rattle.settle.specs.Answer.{statementOf, answerOf, bufferAfter, numberOf}
 use Rattle.settle.specs.declared.Answer.{Answer}
 use Rattle.settle.specs.declared.Answer.the-variants.{Settled, Refused}
 use Rattle.settle.specs.Statement.{statementHead}
-use Rattle.settle.proofs.Demand1.{settled-accepted, accepted-settled, settled-buffer, settled-front, settled-count}
-use Rattle.settle.proofs.Demand2.{statement-read-head}
+use Rattle.settle.proofs.Answered.{settled-count}
+use Rattle.demands.proofs.Demand1.{settled-accepted, accepted-settled, settled-buffer, settled-front}
+use Rattle.demands.proofs.Demand2.{statement-read-head}
 use Rattle.telling.specs.Text.{decimal, lineText, linesTo, linesIn, statementText, refusedWord, refusedText, toldText, tellText, Placed}
 use Rattle.telling.specs.Text.{room, numberMost, lineMost, textMost, refusalMost}
 use Rattle.telling.proofs.Texts.{placed-none, placed-after}

@@ -25,7 +25,7 @@ use Rattle.statement.specs.Statement.{statementHeadBytes}
 use Rattle.settle.specs.Settlement.{firstTurn, compensationsOf, penaltiesOf, levied, figures}
 use Rattle.settle.specs.Statement.{statementHead, statementBytes}
 use Rattle.settle.specs.Answer.{dutiesIn, figuresOf, statementOf, settleOrder, answerOf}
-use Rattle.settle.specs.Table.{intervalX}
+use Rattle.demands.specs.Table.{intervalX}
 use Rattle.telling.specs.Text.{decimalIn, textTo, linesTo, statementText, refusedText, toldText, tellText}
 
 pub shown-statement : tellText (intervalX 1300)

@@ -10,7 +10,7 @@ use Rattle.statement.specs.Statement.{headSize, lineStart}
 use Rattle.settle.specs.Answer.{answerOf, numberOf, valueOf}
 use Rattle.settle.specs.declared.Answer.{Answer}
 use Rattle.settle.specs.declared.Answer.the-variants.{Settled}
-use Rattle.settle.proofs.Demand1.{zero-free, free-zero, settled-room}
+use Rattle.demands.proofs.Demand1.{zero-free, free-zero, settled-room}
 
 pub settled-is : (s k : List ℕ) (room size : ℕ) → answerOf s k room ≡ Settled size → size ≡ lineStart (rowCount s)
 settled-is s k room size h = sym (ap valueOf h) ∙ free-zero s k room (zero-free s k room (ap numberOf h)) .1

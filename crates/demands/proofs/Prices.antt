@@ -4,7 +4,7 @@
 --   statement-prices     both prices as the bytes of its statement state them
 use Prim.Native.Nat.{ℕ, _<_}
 use mathlib.Core.Path.{_≡_, sym, _∙_}
-use mathlib.Core.Logic.{_⊎_, ⊎-elim}
+use mathlib.Core.Logic.{⊎-elim}
 use mathlib.Core.List.{List}
 use native.Mathlib.Omega.{arith}
 use lib.ListN.{length}
@@ -25,12 +25,12 @@ use Rattle.merit.specs.Band.{Tier, one, two, widths}
 use Rattle.merit.specs.Call.{calls}
 use Rattle.merit.specs.Price.{price}
 use Rattle.merit.proofs.Laws.{calls-le, Delivered, price-reached, price-least, price-zero}
 use Rattle.settle.specs.Settlement.{firstTurn, bandsOf, figures}
 use Rattle.settle.specs.Answer.{dutiesIn, figuresOf, answerOf, bufferAfter, numberOf}
-use Rattle.settle.specs.Promise.{Bytes, figuresAt, Delivers, SetBy, Prices}
+use Rattle.demands.specs.Promise.{figuresAt, Delivers, SetBy, Prices}
 use Rattle.settle.proofs.Accepted.{rows-ranged}
-use Rattle.settle.proofs.Demand1.{settled-accepted}
-use Rattle.settle.proofs.Demand2.{statement-figures}
+use Rattle.demands.proofs.Demand1.{settled-accepted}
+use Rattle.demands.proofs.Demand2.{statement-figures}
 
 -- ---- of either tier: what a row offers there, is paid for, shows by its meter and bid, and what each row is called for
 
@@ -119,6 +119,6 @@ module _ (s k : List ℕ) (n : ℕ) (h : verdictOf s k ≡ Accepted n) where
 
 -- ---- of the statement's bytes
 
-pub statement-prices : (s k out : List ℕ) → numberOf (answerOf s k (length out)) ≡ 0 → Bytes s → Prices s k (figuresAt (bufferAfter s k out))
-statement-prices s k out h bytes =
-    rw (statement-figures s k out h bytes) (accepted-prices s k (rowCount s) (settled-accepted s k (length out) h))
+pub statement-prices : (s k out : List ℕ) → numberOf (answerOf s k (length out)) ≡ 0 → Prices s k (figuresAt (bufferAfter s k out))
+statement-prices s k out h =
+    rw (statement-figures s k out h) (accepted-prices s k (rowCount s) (settled-accepted s k (length out) h))

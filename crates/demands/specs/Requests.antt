@@ -20,9 +20,9 @@ use Rattle.duties.specs.Duty.{thermalWeight}
 use Rattle.levy.specs.Rounds.{final, visits}
 use Rattle.statement.specs.Statement.{lineStart, statementHeadAt}
 use Rattle.statement.specs.Line as line
 use Rattle.settle.specs.Settlement.{firstTurn}
 use Rattle.settle.specs.Answer.{answerOf, bufferAfter, numberOf, valueOf}
-use Rattle.settle.specs.Table.{Entry, entry, intervalX, twoBands}
+use Rattle.demands.specs.Table.{Entry, entry, intervalX, twoBands}
 
 -- the fields of a thermal row that offers down to 8,000 kWh, by its id, metered energy, status and bids; of one that does not offer;
 -- of a wind farm

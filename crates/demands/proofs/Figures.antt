@@ -32,11 +32,11 @@ use Rattle.merit.specs.Call.{cheaperIn, cheaper, group, due, called, calls, unc
 use Rattle.merit.specs.Price.{price}
 use Rattle.levy.specs.Rounds.{opens, closes, closed, next, run, opening, final, visitsFrom, visits, openWeights, paid, payments, shortfall, cuts, returned}
 use Rattle.statement.specs.Statement.{statementHeadBytes, statementHeadAt}
 use Rattle.settle.specs.Settlement.{firstTurn, compensationsOf, penaltiesOf, levied, figures}
 use Rattle.settle.specs.Statement.{statementHead, statementBytes}
 use Rattle.settle.specs.Answer.{dutiesIn, figuresOf, statementOf, settleOrder, answerOf, bufferAfter}
-use Rattle.settle.specs.Requests.{fileOf, settledThree, told, settledNone, settledReduced, visited, rungs, climbed, requestTable}
-use Rattle.settle.specs.Table.{intervalX, settledX, Entry, entry, figuresTable, same, allRight}
+use Rattle.demands.specs.Requests.{fileOf, settledThree, told, settledNone, settledReduced, visited, rungs, climbed, requestTable}
+use Rattle.demands.specs.Table.{intervalX, settledX, Entry, entry, figuresTable, same, allRight}
 
 all-right : (allRight figuresTable && allRight requestTable) ≡ true
 unfolding sumTo countTo maxTo maxWhere findTo whole table numberAt numberBytes fieldsBytes fieldsAt recordAt recordBytes recordsBytes put columnOf

@@ -21,13 +21,13 @@ use Rattle.levy.specs.Rounds.{final}
 use Rattle.levy.proofs.Step.{final-sound}
 use Rattle.levy.proofs.Payment.{paid-alike}
 use Rattle.levy.proofs.Cut.{cut-alike, returned-alike}
 use Rattle.settle.specs.Settlement.{firstTurn, bandsOf, Figures, levied, figures}
 use Rattle.settle.specs.Within.{Turn}
 use Rattle.settle.specs.Answer.{dutiesIn, figuresOf, answerOf, bufferAfter, numberOf}
-use Rattle.settle.specs.Promise.{Bytes, figuresAt, Alike, InTurn}
+use Rattle.demands.specs.Promise.{figuresAt, Alike, InTurn}
+use Rattle.settle.proofs.Accepted.{first-inside}
 use Rattle.settle.proofs.Sizes.{figures-long}
-use Rattle.settle.proofs.Demand2.{statement-figures}
-use Rattle.settle.proofs.Turns.{first-inside}
+use Rattle.demands.proofs.Demand2.{statement-figures}
 
 -- ---- the figures of any columns of one length, at two positions of which the first has the earlier turn
 
@@ -86,5 +86,5 @@ accepted-in-turn s k =
       returned = λ i j x. returned-in-turn need first (rowCount s) d level goes i j (x .one) (x .other) (x .turns);
     }
 
-pub statement-in-turn : (s k out : List ℕ) → Bytes s → numberOf (answerOf s k (length out)) ≡ 0 → InTurn s k (figuresAt (bufferAfter s k out))
-statement-in-turn s k out bytes h = rw (statement-figures s k out h bytes) (accepted-in-turn s k)
+pub statement-in-turn : (s k out : List ℕ) → numberOf (answerOf s k (length out)) ≡ 0 → InTurn s k (figuresAt (bufferAfter s k out))
+statement-in-turn s k out h = rw (statement-figures s k out h) (accepted-in-turn s k)

@@ -6,9 +6,8 @@
 --   files-refused      what refuses the files refuses them here, whatever the buffer
 --   short-refused      accepted files and a buffer that is too short: 11, place 0
 --   refused-by         and there is no other refusal
---   refusal-keeps      a refusal leaves every byte of the buffer as it was; refused-keeps: the same by the answer
---   settled-count      a statement of n rows has 39 + 42n bytes
---   settled-buffer     a settlement: they are put in front of what the buffer held
+--   refusal-keeps      a refusal leaves every byte of the buffer as it was
+--   settled-buffer     a settlement: the statement's 39 + 42n bytes (`settled-count` of `settle`) are put in front of what the buffer held
 --   settled-front      so they stand at the front of the buffer
 --   settled-past       and every byte past them is as before
 --   buffer-length      the buffer keeps its length, whatever the answer
@@ -16,33 +15,30 @@
 --   accepted-settled   and the other way round
 -- The list of the checks is `settleOrder`; `Earliest` and `NoneApplies` are of columns (specs/Checks.antt).
 use Prim.Native.Nat.{ℕ, _+_, _≤_, _<_}
-use mathlib.Core.Path.{_≡_, refl, sym, ap, _∙_}
+use mathlib.Core.Path.{_≡_, refl, ap, _∙_}
 use mathlib.Core.Logic.{_⊎_, inl, inr, ⊎-elim}
 use mathlib.Core.Bool.{Bool, true, false}
-use mathlib.Core.List.{List, [], _∷_, _++_}
+use mathlib.Core.List.{List, [], _∷_}
 use native.Mathlib.Nat.{eq-zero-or-pos}
 use native.Mathlib.Omega.{arith}
 use lib.Dec.{ltb}
-use lib.ListN.{length, take, length-append}
-use borrow.Author.Tests.{lt-ltb, le-ltb, ltb-true, ltb-false}
-use Rattle.columns.specs.Checks.{Refusal, refusal, none, firstRefusal, numbersIn, Earliest, NoneApplies, Tells}
-use Rattle.columns.specs.Table.{at, table}
-use Rattle.columns.proofs.Checks.{Passes, first-none, none-first, passes-none, first-earliest, earliest-first, append-first, append-next, append-passes, append-none, earliest-append}
-use Rattle.columns.proofs.Checks.{numbers-append, numbers-wider, answer-no, answer-yes, zero-none, none-zero, number-earliest, earliest-number, refused-number}
+use lib.ListN.{length, take}
+use borrow.Author.Tests.{ltb-true, ltb-false}
+use Rattle.columns.specs.Checks.{Refusal, refusal, firstRefusal, numbersIn, Earliest, NoneApplies, Tells}
+use Rattle.columns.specs.Table.{at}
+use Rattle.columns.proofs.Checks.{first-none, earliest-first, append-none, earliest-append}
+use Rattle.columns.proofs.Checks.{numbers-append, numbers-wider, answer-no, answer-yes, zero-none, number-earliest, earliest-number, refused-number}
 use Rattle.columns.proofs.Rank.{test-or}
 use Rattle.records.specs.Buffer.{put}
 use Rattle.records.proofs.Buffer.{put-length, put-after, take-put}
-use Rattle.files.specs.Layout.{headAt, rowCount}
+use Rattle.files.specs.Layout.{rowCount}
 use Rattle.files.specs.Order.{fileOrder, fileFault, verdictOf}
-use Rattle.files.specs.Counting.{countingRow}
 use Rattle.files.specs.declared.Verdict.the-variants.{Accepted, Refused as Refuses}
-use Rattle.files.proofs.Answer.{file-numbers, accepted-of, refused-of}
-use Rattle.statement.specs.Statement.{letterL, lineWidths, lineStart, statementHeadBytes}
-use Rattle.statement.proofs.Laws.{statement-length}
-use Rattle.settle.specs.Statement.{statementHead, lineOf, statementBytes}
-use Rattle.settle.specs.Answer.{figuresOf, statementOf, settleOrder, answerOf, bufferAfter, numberOf, valueOf}
-use Rattle.settle.specs.declared.Answer.{Answer}
+use Rattle.files.proofs.Answer.{file-numbers}
+use Rattle.statement.specs.Statement.{lineStart}
+use Rattle.settle.specs.Answer.{statementOf, settleOrder, answerOf, bufferAfter, numberOf, valueOf}
 use Rattle.settle.specs.declared.Answer.the-variants.{Settled, Refused}
+use Rattle.settle.proofs.Answered.{accepted-free, files-stop, room-stop, none-stop, settled-count}
 
 tells : (c : ℕ) → Tells Refused (Settled c) numberOf valueOf
 tells c =
@@ -95,42 +91,19 @@ module _ (s k : List ℕ) (room : ℕ) where
 
   -- ---- the files first, then the buffer
 
-  files-first : fileFault s k .applies ≡ true → firstRefusal (settleOrder s k room) ≡ fileFault s k
-  unfolding settleOrder
-  files-first = append-first (fileOrder s k) last
-
-  buffer-next : fileFault s k .applies ≡ false → firstRefusal (settleOrder s k room) ≡ firstRefusal last
-  unfolding settleOrder
-  buffer-next = append-next (fileOrder s k) last
-
-  accepted-free : (n : ℕ) → verdictOf s k ≡ Accepted n → (fileFault s k .applies ≡ false) × (rowCount s ≡ n)
-  unfolding verdictOf
-  accepted-free n h =
-      accepted-of (rowCount s) n (fileFault s k) h
-
   pub files-refused : (a p : ℕ) → verdictOf s k ≡ Refuses a p → answerOf s k room ≡ Refused a p
-  unfolding verdictOf answerOf
-  files-refused a p h =
-      let is = refused-of (rowCount s) a p (fileFault s k) h in
-      answer-no Refused (Settled count) (firstRefusal (settleOrder s k room)) a p
-      (files-first (ap (λ (r : Refusal). r .applies) is) ∙ is)
+  unfolding answerOf
+  files-refused a p refused = answer-no Refused (Settled count) (firstRefusal (settleOrder s k room)) a p (files-stop s k room a p refused)
 
   pub short-refused : (n : ℕ) → verdictOf s k ≡ Accepted n → room < lineStart n → answerOf s k room ≡ Refused 11 0
-  unfolding answerOf firstRefusal
-  short-refused n h l =
-      let both = accepted-free n h in
-      let lacks : room < lineStart (rowCount s) = omega (arith, both .1) in
-      answer-no Refused (Settled count) (firstRefusal (settleOrder s k room)) 11 0
-      (buffer-next (both .0) ∙ rw (lt-ltb room (lineStart (rowCount s)) lacks))
+  unfolding answerOf
+  short-refused n ok short = answer-no Refused (Settled count) (firstRefusal (settleOrder s k room)) 11 0 (room-stop s k room n ok short)
 
   pub accepted-settled : (n : ℕ) → verdictOf s k ≡ Accepted n → lineStart n ≤ room → answerOf s k room ≡ Settled (lineStart n)
-  unfolding answerOf firstRefusal
-  accepted-settled n h l =
-      let both = accepted-free n h in
-      let fits : lineStart (rowCount s) ≤ room = omega (arith, both .1) in
-      answer-yes Refused (Settled count) (firstRefusal (settleOrder s k room))
-      (ap (λ (r : Refusal). r .applies) (buffer-next (both .0)) ∙ rw (le-ltb room (lineStart (rowCount s)) fits) refl)
-      ∙ ap (λ (m : ℕ). Settled (lineStart m)) (both .1)
+  unfolding answerOf
+  accepted-settled n ok enough =
+      answer-yes Refused (Settled count) (firstRefusal (settleOrder s k room)) (none-stop s k room n ok enough)
+      ∙ ap (λ (m : ℕ). Settled (lineStart m)) (accepted-free s k room n ok .1)
 
   pub settled-accepted : numberOf (answerOf s k room) ≡ 0 → verdictOf s k ≡ Accepted (rowCount s)
   unfolding settleOrder verdictOf
@@ -162,23 +135,9 @@ module _ (s k : List ℕ) (room : ℕ) where
 
 -- ---- the buffer
 
-pub settled-count : (s k : List ℕ) → length (statementOf s k) ≡ lineStart (rowCount s)
-unfolding statementOf statementBytes
-settled-count s k =
-    let n = rowCount s in
-    statement-length (statementHead (headAt s) n (figuresOf s k)) n (λ i. lineOf (countingRow s k i .id) (figuresOf s k) i) (λ i. refl)
-
 module _ (s k out : List ℕ) where
   abbrev size : ℕ
   size = lineStart (rowCount s)
-
-  pub refused-keeps : (a p : ℕ) → answerOf s k (length out) ≡ Refused a p → bufferAfter s k out ≡ out
-  unfolding bufferAfter answerOf
-  refused-keeps a p h =
-      let first = firstRefusal (settleOrder s k (length out)) in
-      ⊎-elim (λ (e : first .applies ≡ true). rw e)
-      (λ (e : first .applies ≡ false). absurd (tells size .differs a p (sym h ∙ answer-yes Refused (Settled size) first e)))
-      (test-or (first .applies))
 
   pub refusal-keeps : (numberOf (answerOf s k (length out)) ≡ 0 → ⊥) → bufferAfter s k out ≡ out
   unfolding bufferAfter answerOf

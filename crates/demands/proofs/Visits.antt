@@ -9,10 +9,10 @@ use lib.ListN.{length}
 use Rattle.columns.specs.Sum.{whole}
 use Rattle.duties.specs.Duties.{Duties}
 use Rattle.levy.proofs.Visits.{visits-told, visits-most, visits-least, visits-quiet}
-use Rattle.settle.specs.Settlement.{Figures, levied, figures}
+use Rattle.settle.specs.Settlement.{levied, figures}
 use Rattle.settle.specs.Answer.{figuresOf, answerOf, bufferAfter, numberOf}
-use Rattle.settle.specs.Promise.{Bytes, figuresAt, Visits}
-use Rattle.settle.proofs.Demand2.{statement-figures}
+use Rattle.demands.specs.Promise.{figuresAt, Visits}
+use Rattle.demands.proofs.Demand2.{statement-figures}
 
 pub visits-figures : (need first : ℕ) (d : Duties) → Visits (figures need first d)
 unfolding figures levied
@@ -29,5 +29,5 @@ pub accepted-visits : (s k : List ℕ) → Visits (figuresOf s k)
 unfolding figuresOf
 accepted-visits s k = visits-figures _ _ _
 
-pub statement-visits : (s k out : List ℕ) → Bytes s → numberOf (answerOf s k (length out)) ≡ 0 → Visits (figuresAt (bufferAfter s k out))
-statement-visits s k out bytes h = rw (statement-figures s k out h bytes) (accepted-visits s k)
+pub statement-visits : (s k out : List ℕ) → numberOf (answerOf s k (length out)) ≡ 0 → Visits (figuresAt (bufferAfter s k out))
+statement-visits s k out h = rw (statement-figures s k out h) (accepted-visits s k)

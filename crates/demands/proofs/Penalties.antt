@@ -36,15 +36,14 @@ use Rattle.pay.proofs.Laws.{penalty-none}
 use Rattle.share.specs.Share.{share}
 use Rattle.share.proofs.Laws.{share-more, shares-at}
 use Rattle.levy.specs.Rounds.{toCut, cuts}
 use Rattle.settle.specs.Settlement.{firstTurn, bandsOf, compensationsOf, penaltiesOf, Figures, levied, figures}
 use Rattle.settle.specs.Within.{Turn}
 use Rattle.settle.specs.Answer.{dutiesIn, figuresOf, answerOf, bufferAfter, numberOf}
-use Rattle.settle.specs.Promise.{Bytes, figuresAt, owedBy, Penalties, creditedWith, SameButPenalties, MorePenalty, LessCut}
-use Rattle.settle.proofs.Accepted.{rows-ranged}
-use Rattle.settle.proofs.Demand1.{settled-accepted}
-use Rattle.settle.proofs.Demand2.{statement-figures}
-use Rattle.settle.proofs.Demand3.{cut-is-shortfall-left}
-use Rattle.settle.proofs.Turns.{first-inside}
+use Rattle.demands.specs.Promise.{figuresAt, owedBy, Penalties, creditedWith, SameButPenalties, MorePenalty, LessCut}
+use Rattle.settle.proofs.Accepted.{first-inside, rows-ranged}
+use Rattle.demands.proofs.Demand1.{settled-accepted}
+use Rattle.demands.proofs.Demand2.{statement-figures}
+use Rattle.demands.proofs.Demand3.{cut-is-shortfall-left}
 
 -- ---- one row
 
@@ -100,9 +99,9 @@ module _ (s k : List ℕ) (n : ℕ) (h : verdictOf s k ≡ Accepted n) where
       ∙ owed-is t (row i) (rows-ranged s k n h i l) (at (made one) i) (at (made two) i) (figuresOf s k .price1) (figuresOf s k .price2)
       (omega (arith, called-within one i, w1)) (omega (arith, called-within two i, w2))
 
-pub statement-penalties : (s k out : List ℕ) → numberOf (answerOf s k (length out)) ≡ 0 → Bytes s → Penalties s k (figuresAt (bufferAfter s k out))
-statement-penalties s k out h bytes =
-    rw (statement-figures s k out h bytes) (accepted-penalties s k (rowCount s) (settled-accepted s k (length out) h))
+pub statement-penalties : (s k out : List ℕ) → numberOf (answerOf s k (length out)) ≡ 0 → Penalties s k (figuresAt (bufferAfter s k out))
+statement-penalties s k out h =
+    rw (statement-figures s k out h) (accepted-penalties s k (rowCount s) (settled-accepted s k (length out) h))
 
 -- ---- other penalties
 
@@ -175,8 +174,8 @@ accepted-less-cut s k t j =
     (duties-level (termsOf t) (headAt t .tariff .0) (rowCount t) (countingRow t j)) (first-inside (headAt t .quarter) (rowCount t))
 
 -- and of the bytes of their statements
-pub statement-less-cut : (s k out t j room : List ℕ) → Bytes s → numberOf (answerOf s k (length out)) ≡ 0 → Bytes t
-    → numberOf (answerOf t j (length room)) ≡ 0 → MorePenalty (figuresAt (bufferAfter s k out)) (figuresAt (bufferAfter t j room))
+pub statement-less-cut : (s k out t j room : List ℕ) → numberOf (answerOf s k (length out)) ≡ 0 → numberOf (answerOf t j (length room)) ≡ 0
+    → MorePenalty (figuresAt (bufferAfter s k out)) (figuresAt (bufferAfter t j room))
     → LessCut (figuresAt (bufferAfter s k out)) (figuresAt (bufferAfter t j room))
-statement-less-cut s k out t j room bytes settled bytes′ settled′ =
-    rw (statement-figures s k out settled bytes, statement-figures t j room settled′ bytes′) (accepted-less-cut s k t j)
+statement-less-cut s k out t j room settled settled′ =
+    rw (statement-figures s k out settled, statement-figures t j room settled′) (accepted-less-cut s k t j)

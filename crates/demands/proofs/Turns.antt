@@ -1,5 +1,4 @@
 -- Whose turn it is among equal remainders (02, request 2).
---   first-inside       the position that goes first is one of the rows, unless there is none
 --   first-after        the row at position i goes first after as many quarters as it stands behind whoever goes first now ..
 --   first-only         .. and at none of the other quarters before everybody has gone first
 --   each-first-once    over n quarters of a day in a row each of n rows goes first exactly once
@@ -10,28 +9,21 @@ use mathlib.Core.Path.{_≡_, sym, ap, _∙_}
 use mathlib.Core.Logic.{⊎-elim}
 use mathlib.Core.Bool.{Bool, true}
 use mathlib.Core.List.{List}
-use native.Mathlib.Nat.{mod-lt, mod-eq-of-lt, mod-eq-sub-mod, mod-add-mod, zero-mod}
+use native.Mathlib.Nat.{mod-eq-of-lt, mod-eq-sub-mod, mod-add-mod, zero-mod}
 use native.Mathlib.Omega.{arith}
 use lib.ListN.{length}
-use borrow.Author.Tests.{eqb-true, eq-eqb, ne-eqb}
+use borrow.Author.Tests.{eqb-true, eq-eqb}
 use Rattle.columns.specs.Sum.{countTo}
 use Rattle.columns.proofs.Sum.{lt-or-le, count-some}
 use Rattle.columns.proofs.Rank.{count-one}
 use Rattle.files.specs.Layout.{headAt, rowCount}
 use Rattle.share.specs.Share.{turn}
 use Rattle.share.proofs.Order.{turn-late, turn-early, turn-lt}
 use Rattle.settle.specs.Settlement.{firstTurn, figures}
-use Rattle.settle.specs.Within.{Turn}
 use Rattle.settle.specs.Answer.{dutiesIn, figuresOf, answerOf, bufferAfter, numberOf}
-use Rattle.settle.specs.Promise.{Bytes, figuresAt, goesFirst, figuresByLowerId}
-use Rattle.settle.proofs.Demand2.{statement-figures}
-
-first-is : (quarter n : ℕ) → 0 < n → firstTurn quarter n ≡ quarter % n
-unfolding firstTurn
-first-is quarter n some = rw (ne-eqb n 0 (omega arith))
-
-pub first-inside : (quarter n : ℕ) → Turn n (firstTurn quarter n)
-first-inside quarter n some = omega (arith, first-is quarter n some, mod-lt quarter some)
+use Rattle.settle.proofs.Accepted.{first-is, first-inside}
+use Rattle.demands.specs.Promise.{figuresAt, goesFirst, figuresByLowerId}
+use Rattle.demands.proofs.Demand2.{statement-figures}
 
 -- k quarters later it is the k-th position from there, going round
 first-later : (quarter n k : ℕ) → 0 < n → firstTurn (quarter + k) n ≡ (firstTurn quarter n + k) % n
@@ -110,6 +102,6 @@ accepted-quarter-0 s k e =
     ap (λ (first : ℕ). figures (headAt s .need .0) first (dutiesIn s k))
     (ap (λ (q : ℕ). firstTurn q (rowCount s)) e ∙ first-at-0 (rowCount s))
 
-pub statement-quarter-0 : (s k out : List ℕ) → Bytes s → numberOf (answerOf s k (length out)) ≡ 0 → headAt s .quarter ≡ 0
+pub statement-quarter-0 : (s k out : List ℕ) → numberOf (answerOf s k (length out)) ≡ 0 → headAt s .quarter ≡ 0
     → figuresAt (bufferAfter s k out) ≡ figuresByLowerId s k
-statement-quarter-0 s k out bytes h e = statement-figures s k out h bytes ∙ accepted-quarter-0 s k e
+statement-quarter-0 s k out h e = statement-figures s k out h ∙ accepted-quarter-0 s k e

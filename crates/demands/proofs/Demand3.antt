@@ -49,14 +49,14 @@ use Rattle.levy.proofs.Cut.{cut-le, cut-capped, cut-uncovered, cuts-total, retu
 use Rattle.levy.proofs.Unique.{closers-left, closers-beside, final-capped, capped-unique}
 use Rattle.duties.specs.Duties.{Duties, Level}
 use Rattle.duties.proofs.Laws.{duties-level}
 use Rattle.settle.specs.Settlement.{Figures, levied, figures}
 use Rattle.settle.specs.Within.{Turn}
 use Rattle.settle.specs.Answer.{dutiesIn, figuresOf, answerOf, bufferAfter, numberOf}
-use Rattle.settle.specs.Promise.{Bytes, figuresAt, capped, CappedPayer, OpenPayer, AllCapped, cappedCaps, leftOver, openEnergy, kept, Demand3}
+use Rattle.demands.specs.Promise.{figuresAt, capped, CappedPayer, OpenPayer, AllCapped, cappedCaps, leftOver, openEnergy, kept, Demand3}
+use Rattle.settle.proofs.Accepted.{first-inside}
 use Rattle.settle.proofs.Sizes.{Long, figures-long}
-use Rattle.settle.proofs.Demand1.{settled-accepted}
-use Rattle.settle.proofs.Demand2.{statement-figures}
-use Rattle.settle.proofs.Turns.{first-inside}
+use Rattle.demands.proofs.Demand1.{settled-accepted}
+use Rattle.demands.proofs.Demand2.{statement-figures}
 
 -- ---- payments and cuts after the last round
 
@@ -293,6 +293,6 @@ accepted-demand3 s k n h =
     demand3 (headAt s .need .0) _ (rowCount s) (dutiesIn s k)
     (duties-level (termsOf s) (headAt s .tariff .0) (rowCount s) (countingRow s k)) (first-inside (headAt s .quarter) (rowCount s))
 
-pub statement-demand3 : (s k out : List ℕ) → Bytes s → numberOf (answerOf s k (length out)) ≡ 0 → Demand3 (figuresAt (bufferAfter s k out))
-statement-demand3 s k out bytes h =
-    rw (statement-figures s k out h bytes) (accepted-demand3 s k (rowCount s) (settled-accepted s k (length out) h))
+pub statement-demand3 : (s k out : List ℕ) → numberOf (answerOf s k (length out)) ≡ 0 → Demand3 (figuresAt (bufferAfter s k out))
+statement-demand3 s k out h =
+    rw (statement-figures s k out h) (accepted-demand3 s k (rowCount s) (settled-accepted s k (length out) h))

@@ -1,0 +1,10 @@
+pub mod Demand1
+pub mod Fitting
+pub mod Demand2
+pub mod Turns
+pub mod Prices
+pub mod Demand3
+pub mod Penalties
+pub mod Visits
+pub mod InTurn
+pub mod Figures
