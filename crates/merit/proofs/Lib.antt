@@ -4,5 +4,6 @@ pub mod Laws
 pub mod OneTier
 pub mod Apart
 pub mod Alone
+pub mod Next
 pub mod Steps
 pub mod Walking

@@ -4,6 +4,7 @@ use mathlib.Core.Path.{_≡_}
 use lib.ListN.{length}
 use Rattle.merit.specs.OneTier.{below}
 use Rattle.merit.specs.Walk.{past}
+use Rattle.merit.proofs.Next.{next-less}
 use Rattle.merit.proofs.Walking.{Walked, walked-first, walked-room, walked-calls, walked-next}
 use Rattle.merit.proofs.Walking.{Turned, turned-first, turned-room, turned-calls, turned-next}
 use Rattle.merit.proofs.Walking.{part-small, part-fits, call-fits, turn-fits, ended-met, ended-past}
@@ -34,14 +35,17 @@ parts-in-requires c κs = (search needs, search needs, search walked-room, searc
 loop-holds : tie.Need-loop-holds Inv-loop μ-loop Inv-walk μ-walk
 loop-holds c = search turned-first
 
-mul-part : tie.Need-mul-part Inv-loop μ-loop Inv-walk μ-walk
-mul-part c = search needs
+mul-from-wide : tie.Need-mul-from-wide Inv-loop μ-loop Inv-walk μ-walk
+mul-from-wide c = search needs
 
-slice-read-part : tie.Need-slice-read-part Inv-loop μ-loop Inv-walk μ-walk
-slice-read-part c = search needs
+slice-read-from-wide : tie.Need-slice-read-from-wide Inv-loop μ-loop Inv-walk μ-walk
+slice-read-from-wide c = search needs
 
-cast-part : tie.Need-cast-part Inv-loop μ-loop Inv-walk μ-walk
-cast-part c = search part-small
+from-wide-requires : tie.Need-from-wide-requires Inv-loop μ-loop Inv-walk μ-walk
+from-wide-requires c κs = search part-small
+
+column-requires : tie.Need-column-requires Inv-loop μ-loop Inv-walk μ-walk
+column-requires c κs = search needs
 
 mul-called : tie.Need-mul-called Inv-loop μ-loop Inv-walk μ-walk
 mul-called c = search needs
@@ -50,13 +54,15 @@ slice-read-called : tie.Need-slice-read-called Inv-loop μ-loop Inv-walk μ-walk
 slice-read-called c = search turned-room
 
 add-called : tie.Need-add-called Inv-loop μ-loop Inv-walk μ-walk
-add-called c = search call-fits
+add-called c =
+    let part = c .before .before in
+    call-fits _ _ _ _ _ _ (part .before .before .before .loop .inv) _ _ (part .from-wide .ensures) (c .before .column .ensures)
 
 slice-write-called : tie.Need-slice-write-called Inv-loop μ-loop Inv-walk μ-walk
 slice-write-called c = search turned-room
 
-sub-t24 : tie.Need-sub-t24 Inv-loop μ-loop Inv-walk μ-walk
-sub-t24 c = search part-fits
+less-requires : tie.Need-less-requires Inv-loop μ-loop Inv-walk μ-walk
+less-requires c κs = search part-fits
 
 add-i : tie.Need-add-i Inv-loop μ-loop Inv-walk μ-walk
 add-i c = search turn-fits
@@ -65,24 +71,20 @@ loop-less : tie.Need-loop-less Inv-loop μ-loop Inv-walk μ-walk
 loop-less c = search needs
 
 loop-again : tie.Need-loop-again Inv-loop μ-loop Inv-walk μ-walk
-loop-again c = search turned-next
+loop-again c =
+    let left = c .before .before in
+    let part = left .before .before .before in
+    turned-next _ _ _ _ _ _ (part .before .before .before .loop .inv) _ _ (part .from-wide .ensures) (left .before .before .column .ensures) _
+    (left .less .ensures) (search needs)
 
-add-t26 : tie.Need-add-t26 Inv-loop μ-loop Inv-walk μ-walk
-add-t26 c = search needs
+next-bid-requires : tie.Need-next-bid-requires Inv-loop μ-loop Inv-walk μ-walk
+next-bid-requires c κs = search needs
 
 walk-less : tie.Need-walk-less Inv-loop μ-loop Inv-walk μ-walk
-walk-less c = search needs
+walk-less c = search next-less
 
 walk-again : tie.Need-walk-again Inv-loop μ-loop Inv-walk μ-walk
-walk-again c =
-    let turn = c .before .before in
-    let shared = turn .before .before .before .before .before in
-    let walk = shared .before .before .before .before .before in
-    let start = walk .before .before .before .before .before .before in (
-      walked-next _ _ _ _ _ _ (start .pre .0) _ _ _ _ (walk .walk .inv .0) (shared .parts-in .ensures) _ _ _ (turn .loop .inv) (search needs),
-      search needs,
-      search needs,
-    )
+walk-again c = (search walked-next, search needs, search needs)
 
 same-length : tie.Need-same-length Inv-loop μ-loop Inv-walk μ-walk
 same-length c = search walked-calls
@@ -106,7 +108,15 @@ same-length-6 : tie.Need-same-length-6 Inv-loop μ-loop Inv-walk μ-walk
 same-length-6 c = search needs
 
 returns-2 : tie.Need-returns-2 Inv-loop μ-loop Inv-walk μ-walk
-returns-2 c = search ended-met
+returns-2 c =
+    let left = c .before .before in
+    let part = left .before .before .before in
+    let turn = part .before .before .before in
+    let shared = turn .before .before .before .before .before in
+    let walk = shared .before .before .before .before .before .before in
+    let start = walk .before .before .before .before .before .before in
+    ended-met _ _ _ _ _ _ (start .pre .0) _ _ _ _ (walk .walk .inv .0) (shared .parts-in .ensures) _ _ _ (turn .loop .inv) _ _ _
+    (part .from-wide .ensures) (left .before .before .column .ensures) (left .less .ensures) (search needs) (search needs)
 
 pub walk-spec : {M : Type 1} → statement M
 walk-spec =
@@ -119,18 +129,19 @@ walk-spec =
     walk-holds
     parts-in-requires
     loop-holds
-    mul-part
-    slice-read-part
-    cast-part
+    mul-from-wide
+    slice-read-from-wide
+    from-wide-requires
+    column-requires
     mul-called
     slice-read-called
     add-called
     slice-write-called
-    sub-t24
+    less-requires
     add-i
     loop-less
     loop-again
-    add-t26
+    next-bid-requires
     walk-less
     walk-again
     same-length
