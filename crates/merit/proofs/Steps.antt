@@ -19,14 +19,13 @@ use Rattle.columns.proofs.Fill.{Reached, reached-none, reached-next, reached-al
 use Rattle.columns.proofs.Whole.{whole-table}
 use Rattle.share.specs.Share.{shares}
 use Rattle.share.specs.Split.{Splittable}
-use Rattle.share.proofs.Laws.{shares-are-weights}
+use Rattle.share.proofs.Laws.{shares-are-weights, shares-alone}
 use Rattle.merit.specs.OneTier.{under, equal, below, groupIn}
 use Rattle.merit.specs.Price.{delivers, price}
 use Rattle.merit.specs.Ready.{Columns}
 use Rattle.merit.specs.Walk.{past, Margin, cheapIn, Room, partsIn, bandsIn, Counts, alone, deliveredBid}
 use Rattle.merit.proofs.Keyed.{cond-le}
 use Rattle.merit.proofs.OneTier.{below-zero}
-use Rattle.merit.proofs.Alone.{shares-alone}
 
 pub delivered-is : (i : ℕ) (bs cs es : List ℕ) (x : ℕ) → x ≡ cond (delivers (at cs i) (at es i)) (at bs i) 0 → x ≡ deliveredBid i bs cs es
 unfolding deliveredBid
@@ -49,6 +48,9 @@ module _ (bs cs es : List ℕ) where
   pub highest-all : (i top r : ℕ) → top ≡ highest bs cs es i → i ≤ length bs → length bs ≤ i → r ≡ top → r ≡ price bs cs es
   unfolding highest price
   highest-all i top r e l m f = let s : i ≡ length bs = omega arith in f ∙ rw (← s) e
+
+pub part-called : (ps cs : List ℕ) (i v x : ℕ) → v ≡ at ps i → x ≡ v → set cs i (at cs i + x) ≡ set cs i (at cs i + at ps i)
+part-called ps cs i v x e f = ap (λ (y : ℕ). set cs i (at cs i + y)) (f ∙ e)
 
 pub copied-next : (s start now : List ℕ) (i : ℕ) → Reached 0 (at s) start now i → length start ≡ length s → i < length s
     → Reached 0 (at s) start (set now i (at s i)) (i + 1)

@@ -2,12 +2,11 @@
 --     Walked         all bands below bid k are called, and none from k up; `left` is what they leave of the need
 --     Turned         of the parts of one bid, those in rows before i are called
 --     walked-first, turned-first, turned-next, walked-next     from the start on, row by row, from bid to next bid
---     part-fits      a part is at most what is left
---     call-fits      and no call wraps
+--     callable       a part is at most what is left, and no call wraps
 --     ended-met      the walk may end as soon as nothing is left
 --     ended-past     or past every bid
 --     ended-full     and where it would begin there, nothing is left to call
-use Prim.Native.Nat.{ℕ, _+_, _-_, _≤_, _<_, _^_, min}
+use Prim.Native.Nat.{ℕ, _+_, _-_, _≤_, _<_, min}
 use mathlib.Core.Path.{_≡_, refl, ap, sym, _∙_}
 use mathlib.Core.Logic.{⊎-elim}
 use mathlib.Core.Bool.{true, false, cond}
@@ -15,7 +14,7 @@ use mathlib.Core.List.{List}
 use native.Mathlib.Nat.{le-refl}
 use native.Mathlib.Numerals.{add-one}
 use native.Mathlib.Omega.{arith}
-use mir.Syntax.{w32, w64}
+use mir.Syntax.{w64}
 use mir.Val.{Fits}
 use lib.Dec.{ltb, eqb}
 use lib.ListN.{length, set, length-set, List·getD-eq-default}
@@ -28,7 +27,7 @@ use Rattle.columns.proofs.Rank.{test-or}
 use Rattle.columns.proofs.Table.{table-length, table-at, table-past, table-is}
 use Rattle.merit.specs.OneTier.{under, below, groupIn, calledIn, tierCalls}
 use Rattle.merit.specs.Ready.{Ready, TierCalled}
-use Rattle.merit.specs.Walk.{Margin, cheapIn, Room, Begun, past, nextBid, partsIn}
+use Rattle.merit.specs.Walk.{Margin, cheapIn, Room, Begun, past, nextBid, Callable, partsIn}
 use Rattle.merit.proofs.Keyed.{cond-next, cond-skip, cond-le}
 use Rattle.merit.proofs.Next.{next-above, next-skips}
 use Rattle.merit.proofs.OneTier.{under-past, below-next, below-skip, below-rise, below-le, below-all}
@@ -58,44 +57,44 @@ module _ (start : ℕ) (cs₁ ps : List ℕ) (i left : ℕ) (cs : List ℕ) (w :
   here : at cs i ≡ at cs₁ i
   here = w .is i ∙ rw (le-ltb i i (le-refl i)) (omega arith)
 
-  pub part-small : at ps i < 2 ^ 32
-  part-small = omega (arith, w .small i)
-
   pub turn-fits : i < length ps → Fits w64 (i + 1)
   turn-fits l = omega (arith, w .few)
 
-  pub turned-room : i < length ps → i < length cs
-  turned-room l = omega (arith, w .level, w .room)
+  pub callable : i < length ps → Callable left i ps cs
+  callable l =
+      record {
+        part-at = l;
+        call-at = omega (arith, w .level, w .room);
+        covered = omega (arith, w .left-is, w .covered, sum-next i (at ps), sum-shorter (i + 1) (length ps) (at ps) (omega arith));
+        fits = omega (arith, w .small i, here);
+      }
 
-  pub part-fits : (v : ℕ) → v ≡ at ps i → i < length ps → v ≤ left
-  part-fits v e l =
-      omega (arith, w .left-is, w .covered, sum-next i (at ps), sum-shorter (i + 1) (length ps) (at ps) (omega arith))
+  -- row i is called for its part: r is left then, and the column is ds
+  module _ (r : ℕ) (ds : List ℕ) (e : r ≡ left - at ps i) (f : ds ≡ set cs i (at cs i + at ps i)) (l : i < length ps) where
+    called-room : length ds ≡ length cs₁
+    called-room = ap length f ∙ length-set cs i (at cs i + at ps i) ∙ w .room
 
-  -- the part v of row i, which is added to its call as x
-  module _ (v x : ℕ) (e : v ≡ at ps i) (f : x ≡ v) where
-    pub call-fits : Fits w32 (at cs i + x)
-    call-fits = omega (arith, w .small i, here)
-
-    pub turned-next : (r : ℕ) → r ≡ left - v → i < length ps → Turned start cs₁ ps (i + 1) r (set cs i (at cs i + x))
-    turned-next r g l =
+    pub turned-next : Turned start cs₁ ps (i + 1) r ds
+    turned-next =
         record {
           few = w .few;
           level = w .level;
           small = w .small;
           covered = w .covered;
           within = omega arith;
-          room = length-set cs i (at cs i + x) ∙ w .room;
-          left-is = omega (arith, w .left-is, part-fits v e l, sum-next i (at ps));
-          is = is;
+          room = called-room;
+          left-is = omega (arith, w .left-is, callable l .covered, sum-next i (at ps));
+          is = λ j. rw f (is j);
         }
       where
-        is : (j : ℕ) → at (set cs i (at cs i + x)) j ≡ at cs₁ j + cond (ltb j (i + 1)) (at ps j) 0
+        is : (j : ℕ) → at (set cs i (at cs i + at ps i)) j ≡ at cs₁ j + cond (ltb j (i + 1)) (at ps j) 0
         is j =
             ⊎-elim
             (λ (s : eqb j i ≡ true). let same : j ≡ i = eqb-true j i s in
-            rw (same, lt-ltb i (i + 1) (omega arith)) (getD-set-same cs i (at cs i + x) 0 (turned-room l) ∙ omega (arith, here)))
+            rw (same, lt-ltb i (i + 1) (omega arith))
+            (getD-set-same cs i (at cs i + at ps i) 0 (callable l .call-at) ∙ omega (arith, here)))
             (λ (s : eqb j i ≡ false). let apart : j ≡ i → ⊥ = eqb-false j i s in
-            getD-set-other cs i j (at cs i + x) 0 apart ∙ w .is j
+            getD-set-other cs i j (at cs i + at ps i) 0 apart ∙ w .is j
             ∙ ⊎-elim (λ (m : j < i). rw (lt-ltb j i m, lt-ltb j (i + 1) (omega arith)))
             (λ (m : i ≤ j). rw (le-ltb j i m, le-ltb j (i + 1) (omega arith))) (lt-or-le j i)) (test-or (eqb j i))
 
@@ -255,30 +254,32 @@ module _ (start : ℕ) (ws bs : List ℕ) (first k₀ : ℕ) (cs₀ : List ℕ) 
           is = λ j. rw (le-ltb j 0 (omega arith)) (omega arith);
         }
 
-    module _ (i left : ℕ) (cs : List ℕ) (t : Turned now cs₁ ps i left cs) where
-      turn-done : sumTo i (at ps) ≡ sumTo (length ps) (at ps) → Walked need ws bs first (k + 1) left cs
-      turn-done all =
-          record {
-            left-is = rw (add-one k) (omega (arith, t .left-is, all, parts-total, w .left-is, below-next ws bs k));
-            room = t .room ∙ w .room;
-            is = λ j. all-called now cs₁ ps i left cs t all j ∙ called-next j;
-          }
+    all-done : (i left : ℕ) (cs : List ℕ) → Turned now cs₁ ps i left cs → sumTo i (at ps) ≡ sumTo (length ps) (at ps)
+        → Walked need ws bs first (k + 1) left cs
+    all-done i left cs t all =
+        record {
+          left-is = rw (add-one k) (omega (arith, t .left-is, all, parts-total, w .left-is, below-next ws bs k));
+          room = t .room ∙ w .room;
+          is = λ j. all-called now cs₁ ps i left cs t all j ∙ called-next j;
+        }
 
+    module _ (i left : ℕ) (cs : List ℕ) (t : Turned now cs₁ ps i left cs) where
       pub walked-next : (n : ℕ) → k < past → length ps ≤ i → n ≡ nextBid k bs → Walked need ws bs first n left cs
       walked-next n h l f =
           let all : i ≡ length ps = omega (arith, t .within) in
-          walked-skip need ws bs first k n left cs h f (turn-done (ap (λ (m : ℕ). sumTo m (at ps)) all))
+          walked-skip need ws bs first k n left cs h f (all-done i left cs t (ap (λ (m : ℕ). sumTo m (at ps)) all))
 
-      pub turned-calls : (x : ℕ) → length (set cs i x) ≡ length cs₀
-      turned-calls x = length-set cs i x ∙ t .room ∙ w .room ∙ sym begun-long
+      -- the need is met once row i is called for its part: r is left then, and the column is ds
+      module _ (r : ℕ) (ds : List ℕ) (g : r ≡ left - at ps i) (f : ds ≡ set cs i (at cs i + at ps i)) (l : i < length ps) where
+        pub turned-calls : length ds ≡ length cs₀
+        turned-calls = called-room now cs₁ ps i left cs t r ds g f l ∙ w .room ∙ sym begun-long
 
-    pub ended-met : (i left : ℕ) (cs : List ℕ) → Turned now cs₁ ps i left cs → (v x r : ℕ) → v ≡ at ps i → x ≡ v → r ≡ left - v → i < length ps
-        → r ≡ 0 → TierCalled need ws bs first r (set cs i (at cs i + x))
-    ended-met i left cs t v x r e f g l z =
-        let next : Turned now cs₁ ps (i + 1) r (set cs i (at cs i + x)) = turned-next now cs₁ ps i left cs t v x e f r g l in
-        ended-none (k + 1) r (set cs i (at cs i + x))
-        (turn-done (i + 1) r (set cs i (at cs i + x)) next
-        (omega (arith, next .left-is, next .covered, sum-shorter (i + 1) (length ps) (at ps) (omega arith)))) z
+        pub ended-met : r ≡ 0 → TierCalled need ws bs first r ds
+        ended-met z =
+            let next : Turned now cs₁ ps (i + 1) r ds = turned-next now cs₁ ps i left cs t r ds g f l in
+            ended-none (k + 1) r ds
+            (all-done (i + 1) r ds next
+            (omega (arith, next .left-is, next .covered, sum-shorter (i + 1) (length ps) (at ps) (omega arith)))) z
 
 -- past every bid there is no walk: the bands that are called in full are all
 module _ (need : ℕ) (ws bs : List ℕ) (first k s : ℕ) (cs₀ cs : List ℕ) (r : Ready ws bs first cs₀) (is : cs ≡ cheapIn ws bs k) where

@@ -1,5 +1,5 @@
 -- What the steps of the walk come to, and those of the search for the price. No promise of a public function speaks of them.
-use Prim.Native.Nat.{ℕ, zero, suc, _+_, _≤_, _<_, min}
+use Prim.Native.Nat.{ℕ, zero, suc, _+_, _≤_, _<_, _^_, min}
 use mathlib.Core.Path.{_≡_}
 use mathlib.Core.Bool.{cond}
 use mathlib.Core.List.{List}
@@ -66,6 +66,13 @@ pub record Begun (ws bs : List ℕ) (first k : ℕ) (cs : List ℕ) : Type 0 whe
   pub columns : Columns ws bs
   pub inside : 0 < length ws → first < length ws
   pub is : cs ≡ cheapIn ws bs k
+
+-- row i, whose part is at most what is left, and whose call has room for it
+pub record Callable (left i : ℕ) (ps cs : List ℕ) : Type 0 where
+  pub part-at : i < length ps
+  pub call-at : i < length cs
+  pub covered : at ps i ≤ left
+  pub fits : at cs i + at ps i < 2 ^ 32
 
 -- the bid of row i if the row delivers, and 0 if not
 unfoldable pub deliveredBid : ℕ → List ℕ → List ℕ → List ℕ → ℕ

@@ -1,15 +1,15 @@
 // Merit order (01, Calls and prices; 02, request 1), one tier's columns at a time: the walk over its bids and bands, the calls it makes, the
 // clearing price. Columns hold bare numbers: widths, calls and energies in kWh, bids in li.
 ghost use mathlib.Core.Path.{_≡_};
-ghost use Prim.Native.Nat.{_+_, _<_, _≤_, max};
-ghost use lib.ListN.{length};
+ghost use Prim.Native.Nat.{_+_, _-_, _<_, _≤_, max};
+ghost use lib.ListN.{length, set};
 ghost use mathlib.Core.Bool.{cond};
 ghost use Rattle.columns.specs.Table.{at, table};
 ghost use Rattle.share.specs.Split.{Splittable};
 ghost use Rattle.merit.specs.OneTier.{under, equal, below, groupIn};
 ghost use Rattle.merit.specs.Price.{price};
 ghost use Rattle.merit.specs.Ready.{Columns, Ready, TierCalled, OneLength};
-ghost use Rattle.merit.specs.Walk.{past, Margin, cheapIn, Room, Begun, partsIn, Counts, alone, sooner, nextBid, deliveredBid};
+ghost use Rattle.merit.specs.Walk.{past, Margin, cheapIn, Room, Begun, partsIn, Counts, alone, sooner, nextBid, Callable, deliveredBid};
 use columns::counted;
 use units::Kwh;
 use units::Li;
@@ -217,6 +217,17 @@ fn next_bid(after: Li, bids: &[u32]) -> Li
     next
 }
 
+// Calls the band of row i for its part of what is left; answers what is left then.
+fn call_part(left: Kwh, i: usize, parts: &[u64], called: &mut [u32]) -> Kwh
+    requires { ⌜ Callable (left .0) i (now parts) (now called) ⌝ }
+    ensures { λ r. ⌜ (r .0 ≡ left .0 - at (now (parts .entry)) i)
+        × (now (called .exit) ≡ set (now (called .entry)) i (at (now (called .entry)) i + at (now (parts .entry)) i)) ⌝ }
+{
+    let part = Kwh::from_wide(parts[i]);
+    called[i] += part.column();
+    left.less(part)
+}
+
 // The walk over bids and bands, by rising bid, from a bid below which all bands are called in full; `need` is what they leave of it.
 // `group` is room for the bands of one bid, `parts` for what they are called for. It is left as soon as the need is met.
 fn walk(
@@ -240,9 +251,7 @@ fn walk(
         parts_in(bid, left, first, widths, bids, group, parts);
         let mut i = 0;
         while i < parts.len() {
-            let part = Kwh::from_wide(parts[i]);
-            called[i] += part.column();
-            left = left.less(part);
+            left = call_part(left, i, parts, called);
             if left.0 == 0 {
                 break 'walk;
             }

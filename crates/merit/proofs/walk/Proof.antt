@@ -6,8 +6,7 @@ use Rattle.merit.specs.OneTier.{below}
 use Rattle.merit.specs.Walk.{past}
 use Rattle.merit.proofs.Next.{next-less}
 use Rattle.merit.proofs.Walking.{Walked, walked-first, walked-room, walked-calls, walked-next}
-use Rattle.merit.proofs.Walking.{Turned, turned-first, turned-room, turned-calls, turned-next}
-use Rattle.merit.proofs.Walking.{part-small, part-fits, call-fits, turn-fits, ended-met, ended-past}
+use Rattle.merit.proofs.Walking.{Turned, turned-first, turned-calls, turned-next, turn-fits, callable, ended-met, ended-past}
 use borrow.Author.Needs.{needs}
 use Rattle.merit.proofs.walk.Statement.{statement}
 use Rattle.merit.proofs.walk.Tie as tie
@@ -35,34 +34,8 @@ parts-in-requires c κs = (search needs, search needs, search walked-room, searc
 loop-holds : tie.Need-loop-holds Inv-loop μ-loop Inv-walk μ-walk
 loop-holds c = search turned-first
 
-mul-from-wide : tie.Need-mul-from-wide Inv-loop μ-loop Inv-walk μ-walk
-mul-from-wide c = search needs
-
-slice-read-from-wide : tie.Need-slice-read-from-wide Inv-loop μ-loop Inv-walk μ-walk
-slice-read-from-wide c = search needs
-
-from-wide-requires : tie.Need-from-wide-requires Inv-loop μ-loop Inv-walk μ-walk
-from-wide-requires c κs = search part-small
-
-column-requires : tie.Need-column-requires Inv-loop μ-loop Inv-walk μ-walk
-column-requires c κs = search needs
-
-mul-called : tie.Need-mul-called Inv-loop μ-loop Inv-walk μ-walk
-mul-called c = search needs
-
-slice-read-called : tie.Need-slice-read-called Inv-loop μ-loop Inv-walk μ-walk
-slice-read-called c = search turned-room
-
-add-called : tie.Need-add-called Inv-loop μ-loop Inv-walk μ-walk
-add-called c =
-    let part = c .before .before in
-    call-fits _ _ _ _ _ _ (part .before .before .before .loop .inv) _ _ (part .from-wide .ensures) (c .before .column .ensures)
-
-slice-write-called : tie.Need-slice-write-called Inv-loop μ-loop Inv-walk μ-walk
-slice-write-called c = search turned-room
-
-less-requires : tie.Need-less-requires Inv-loop μ-loop Inv-walk μ-walk
-less-requires c κs = search part-fits
+call-part-requires : tie.Need-call-part-requires Inv-loop μ-loop Inv-walk μ-walk
+call-part-requires c κs = callable _ _ _ _ _ _ (c .before .before .before .loop .inv) (search needs)
 
 add-i : tie.Need-add-i Inv-loop μ-loop Inv-walk μ-walk
 add-i c = search turn-fits
@@ -71,11 +44,7 @@ loop-less : tie.Need-loop-less Inv-loop μ-loop Inv-walk μ-walk
 loop-less c = search needs
 
 loop-again : tie.Need-loop-again Inv-loop μ-loop Inv-walk μ-walk
-loop-again c =
-    let left = c .before .before in
-    let part = left .before .before .before in
-    turned-next _ _ _ _ _ _ (part .before .before .before .loop .inv) _ _ (part .from-wide .ensures) (left .before .before .column .ensures) _
-    (left .less .ensures) (search needs)
+loop-again c = search turned-next
 
 next-bid-requires : tie.Need-next-bid-requires Inv-loop μ-loop Inv-walk μ-walk
 next-bid-requires c κs = search needs
@@ -108,15 +77,7 @@ same-length-6 : tie.Need-same-length-6 Inv-loop μ-loop Inv-walk μ-walk
 same-length-6 c = search needs
 
 returns-2 : tie.Need-returns-2 Inv-loop μ-loop Inv-walk μ-walk
-returns-2 c =
-    let left = c .before .before in
-    let part = left .before .before .before in
-    let turn = part .before .before .before in
-    let shared = turn .before .before .before .before .before in
-    let walk = shared .before .before .before .before .before .before in
-    let start = walk .before .before .before .before .before .before in
-    ended-met _ _ _ _ _ _ (start .pre .0) _ _ _ _ (walk .walk .inv .0) (shared .parts-in .ensures) _ _ _ (turn .loop .inv) _ _ _
-    (part .from-wide .ensures) (left .before .before .column .ensures) (left .less .ensures) (search needs) (search needs)
+returns-2 c = search ended-met
 
 pub walk-spec : {M : Type 1} → statement M
 walk-spec =
@@ -129,15 +90,7 @@ walk-spec =
     walk-holds
     parts-in-requires
     loop-holds
-    mul-from-wide
-    slice-read-from-wide
-    from-wide-requires
-    column-requires
-    mul-called
-    slice-read-called
-    add-called
-    slice-write-called
-    less-requires
+    call-part-requires
     add-i
     loop-less
     loop-again
