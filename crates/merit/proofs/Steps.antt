@@ -49,8 +49,8 @@ module _ (bs cs es : List ℕ) where
   unfolding highest price
   highest-all i top r e l m f = let s : i ≡ length bs = omega arith in f ∙ rw (← s) e
 
-pub part-called : (ps cs : List ℕ) (i v x : ℕ) → v ≡ at ps i → x ≡ v → set cs i (at cs i + x) ≡ set cs i (at cs i + at ps i)
-part-called ps cs i v x e f = ap (λ (y : ℕ). set cs i (at cs i + y)) (f ∙ e)
+pub part-called : (ps cs : List ℕ) (i v y s x : ℕ) → v ≡ at ps i → y ≡ at cs i → s ≡ y + v → x ≡ s → set cs i x ≡ set cs i (at cs i + at ps i)
+part-called ps cs i v y s x e f g h = ap (set cs i) (omega arith)
 
 pub copied-next : (s start now : List ℕ) (i : ℕ) → Reached 0 (at s) start now i → length start ≡ length s → i < length s
     → Reached 0 (at s) start (set now i (at s i)) (i + 1)

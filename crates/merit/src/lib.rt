@@ -224,7 +224,7 @@ fn call_part(left: Kwh, i: usize, parts: &[u64], called: &mut [u32]) -> Kwh
         × (now (called .exit) ≡ set (now (called .entry)) i (at (now (called .entry)) i + at (now (parts .entry)) i)) ⌝ }
 {
     let part = Kwh::from_wide(parts[i]);
-    called[i] += part.column();
+    called[i] = Kwh::from_column(called[i]).plus(part).column();
     left.less(part)
 }
 

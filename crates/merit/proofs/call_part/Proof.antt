@@ -13,17 +13,23 @@ shared-slice-read-from-wide c = search needs
 from-wide-requires : tie.Need-from-wide-requires
 from-wide-requires c κs = search needs
 
+mul-from-column : tie.Need-mul-from-column
+mul-from-column c = search needs
+
+slice-read-from-column : tie.Need-slice-read-from-column
+slice-read-from-column c = search needs
+
+from-column-requires : tie.Need-from-column-requires
+from-column-requires c κs = search needs
+
+plus-requires : tie.Need-plus-requires
+plus-requires c κs = search needs
+
 column-requires : tie.Need-column-requires
 column-requires c κs = search needs
 
 mul-called : tie.Need-mul-called
 mul-called c = search needs
-
-slice-read-called : tie.Need-slice-read-called
-slice-read-called c = search needs
-
-add-called : tie.Need-add-called
-add-called c = search needs
 
 slice-write-called : tie.Need-slice-write-called
 slice-write-called c = search needs
@@ -44,10 +50,12 @@ call-part-spec =
     mul-from-wide
     shared-slice-read-from-wide
     from-wide-requires
+    mul-from-column
+    slice-read-from-column
+    from-column-requires
+    plus-requires
     column-requires
     mul-called
-    slice-read-called
-    add-called
     slice-write-called
     less-requires
     same-length
