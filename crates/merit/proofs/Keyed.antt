@@ -1,5 +1,5 @@
 -- Bands that stand at keys: what stands before a key, what stands at it, and the sharing of what is left at each key. Twice used: with
--- orders as keys for both tiers (proofs/Groups.antt), with bids for one (proofs/Single.antt).
+-- orders as keys for both tiers (proofs/Groups.antt), with bids for one (proofs/OneTier.antt).
 --     before-next     what stands before the next key
 --     before-rise     what stands before a key rises with it
 --     before-skip     and is the same up to the next key that a row has

@@ -1,9 +1,9 @@
 // Merit order (01, Calls and prices; 02, request 1), one tier's columns at a time: the walk over its bids and bands, the calls it makes, the
 // clearing price. Columns hold bare numbers: widths, calls and energies in kWh, bids in li.
 ghost use mathlib.Core.Path.{_≡_};
+ghost use mathlib.Core.Bool.{cond};
 ghost use Prim.Native.Nat.{_+_, _-_, _<_, _≤_, max};
 ghost use lib.ListN.{length, set};
-ghost use mathlib.Core.Bool.{cond};
 ghost use Rattle.columns.specs.Table.{at, table};
 ghost use Rattle.share.specs.Split.{Splittable};
 ghost use Rattle.merit.specs.OneTier.{under, equal, below, groupIn};
@@ -229,7 +229,8 @@ fn call_part(left: Kwh, i: usize, parts: &[u64], called: &mut [u32]) -> Kwh
 }
 
 // The walk over bids and bands, by rising bid, from a bid below which all bands are called in full; `need` is what they leave of it.
-// `group` is room for the bands of one bid, `parts` for what they are called for. It is left as soon as the need is met.
+// `group` is room for the bands of one bid, `parts` for what they are called for. It is left as soon as the need is met: from the margin,
+// where `call_tier` begins, during its first turn.
 fn walk(
     start: Li,
     need: Kwh,
