@@ -1,7 +1,8 @@
 -- Bands that stand at keys: what stands before a key, what stands at it, and the sharing of what is left at each key. Twice used: with
--- orders as keys for both tiers (proofs/Groups.antt), with bids for one (proofs/Single.antt).
+-- orders as keys for both tiers (proofs/Groups.antt), with bids for one (proofs/OneTier.antt).
 --     before-next     what stands before the next key
 --     before-rise     what stands before a key rises with it
+--     before-skip     and is the same up to the next key that a row has
 --     before-all      past every key stand all bands
 --     peers-..        the bands of one key: as many as rows; at each row its width if it is of that key, else 0
 --     shared-le       a band gets at most its width
@@ -45,6 +46,12 @@ cond-rise : (o j k w : ℕ) → j ≤ k → cond (ltb o j) w 0 ≤ cond (ltb o k
 cond-rise o j k w h =
     ⊎-elim (λ (l : o < j). rw (lt-ltb o j l, lt-ltb o k (omega arith)) (le-refl w))
     (λ (m : j ≤ o). rw (le-ltb o j m) zero-le) (lt-or-le o j)
+
+-- where no key lies between j and k, what is before k is before j
+pub cond-skip : (o j k w : ℕ) → j ≤ k → (j ≤ o → k ≤ o) → cond (ltb o j) w 0 ≡ cond (ltb o k) w 0
+cond-skip o j k w h none =
+    ⊎-elim (λ (l : o < j). rw (lt-ltb o j l, lt-ltb o k (omega arith)))
+    (λ (m : j ≤ o). rw (le-ltb o j m, le-ltb o k (none m))) (lt-or-le o j)
 
 module _ (n : ℕ) (key width : ℕ → ℕ) where
   -- the widths of the bands before key k, added up
@@ -99,6 +106,12 @@ module _ (n : ℕ) (key width : ℕ → ℕ) where
   unfolding before
   before-rise j k h =
       sum-le n (λ i. cond (ltb (key i) j) (width i) 0) (λ i. cond (ltb (key i) k) (width i) 0) (λ i l. cond-rise (key i) j k (width i) h)
+
+  pub before-skip : (j k : ℕ) → j ≤ k → ((i : ℕ) → j ≤ key i → k ≤ key i) → before j ≡ before k
+  unfolding before
+  before-skip j k h none =
+      sum-same n (λ i. cond (ltb (key i) j) (width i) 0) (λ i. cond (ltb (key i) k) (width i) 0)
+      (λ i l. cond-skip (key i) j k (width i) h (none i))
 
   pub before-zero : before 0 ≡ 0
   unfolding before

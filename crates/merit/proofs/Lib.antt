@@ -3,6 +3,6 @@ pub mod Groups
 pub mod Laws
 pub mod OneTier
 pub mod Apart
-pub mod Alone
+pub mod Next
 pub mod Steps
 pub mod Walking

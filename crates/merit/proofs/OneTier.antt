@@ -19,7 +19,7 @@ use Rattle.share.specs.Share.{share}
 use Rattle.share.proofs.Laws.{shares-at, shares-length}
 use Rattle.merit.specs.OneTier.{under, equal, below, groupIn, dueIn, calledIn, tierCalls}
 use Rattle.merit.specs.Walk.{partsIn}
-use Rattle.merit.proofs.Keyed.{before, cond-le, before-next, before-rise, before-zero, before-le, before-all}
+use Rattle.merit.proofs.Keyed.{before, cond-le, before-next, before-rise, before-skip, before-zero, before-le, before-all}
 use Rattle.merit.proofs.Keyed.{peers, portion, shared, shared-le, shared-past, shared-met, shared-full, shared-part, shared-sum}
 
 module _ (ws bs : List ℕ) where
@@ -38,6 +38,10 @@ module _ (ws bs : List ℕ) where
   pub below-rise : (j k : ℕ) → j ≤ k → below ws bs j ≤ below ws bs k
   unfolding below under before
   below-rise j k h = before-rise (length ws) (at bs) (at ws) j k h
+
+  pub below-skip : (j k : ℕ) → j ≤ k → ((i : ℕ) → j ≤ at bs i → k ≤ at bs i) → below ws bs j ≡ below ws bs k
+  unfolding below under before
+  below-skip j k h none = before-skip (length ws) (at bs) (at ws) j k h none
 
   pub below-zero : below ws bs 0 ≡ 0
   unfolding below under before

@@ -19,14 +19,13 @@ use Rattle.columns.proofs.Fill.{Reached, reached-none, reached-next, reached-al
 use Rattle.columns.proofs.Whole.{whole-table}
 use Rattle.share.specs.Share.{shares}
 use Rattle.share.specs.Split.{Splittable}
-use Rattle.share.proofs.Laws.{shares-are-weights}
+use Rattle.share.proofs.Laws.{shares-are-weights, shares-alone}
 use Rattle.merit.specs.OneTier.{under, equal, below, groupIn}
 use Rattle.merit.specs.Price.{delivers, price}
 use Rattle.merit.specs.Ready.{Columns}
 use Rattle.merit.specs.Walk.{past, Margin, cheapIn, Room, partsIn, bandsIn, Counts, alone, deliveredBid}
 use Rattle.merit.proofs.Keyed.{cond-le}
 use Rattle.merit.proofs.OneTier.{below-zero}
-use Rattle.merit.proofs.Alone.{shares-alone}
 
 pub delivered-is : (i : ℕ) (bs cs es : List ℕ) (x : ℕ) → x ≡ cond (delivers (at cs i) (at es i)) (at bs i) 0 → x ≡ deliveredBid i bs cs es
 unfolding deliveredBid
@@ -50,6 +49,9 @@ module _ (bs cs es : List ℕ) where
   unfolding highest price
   highest-all i top r e l m f = let s : i ≡ length bs = omega arith in f ∙ rw (← s) e
 
+pub part-called : (ps cs : List ℕ) (i v y s x : ℕ) → v ≡ at ps i → y ≡ at cs i → s ≡ y + v → x ≡ s → set cs i x ≡ set cs i (at cs i + at ps i)
+part-called ps cs i v y s x e f g h = ap (set cs i) (omega arith)
+
 pub copied-next : (s start now : List ℕ) (i : ℕ) → Reached 0 (at s) start now i → length start ≡ length s → i < length s
     → Reached 0 (at s) start (set now i (at s i)) (i + 1)
 copied-next s start now i r e l = reached-next 0 (at s) start now i (at s i) r (omega (arith, r .room)) refl
@@ -60,9 +62,10 @@ copied-all s start now i r e l =
 
 -- the loop over a group of one band
 module _ (left : ℕ) (g start now : List ℕ) (i : ℕ) (r : Reached 0 (alone left g) start now i) (room : length start ≡ length g) where
-  pub alone-next : (x : ℕ) → i < length g → x ≡ cond (ltb 0 (at g i)) left 0 → Reached 0 (alone left g) start (set now i x) (i + 1)
+  pub alone-next : (v x : ℕ) → i < length g → v ≡ cond (ltb 0 (at g i)) left 0 → x ≡ v
+      → Reached 0 (alone left g) start (set now i x) (i + 1)
   unfolding alone
-  alone-next x l e = reached-next 0 (alone left g) start now i x r (omega (arith, r .room)) e
+  alone-next v x l e f = reached-next 0 (alone left g) start now i x r (omega (arith, r .room)) (f ∙ e)
 
   pub alone-all : length g ≤ i → now ≡ table (length g) (alone left g)
   alone-all l =
@@ -123,8 +126,8 @@ module _ (f : ℕ → ℕ) (n : ℕ) where
   summed-none = record { within = omega arith; sum-is = refl; small = omega arith }
 
   module _ (sum i : ℕ) (r : Summed f n sum i) where
-    pub summed-next : (v : ℕ) → i < n → v ≡ f i → v ≤ 250000 → Summed f n (sum + v) (i + 1)
-    summed-next v l e h =
+    pub summed-next : (v s : ℕ) → i < n → v ≡ f i → v ≤ 250000 → s ≡ sum + v → Summed f n s (i + 1)
+    summed-next v s l e h t =
         record { within = omega arith; sum-is = omega (arith, r .sum-is, e, sum-next i f); small = omega (arith, r .small) }
 
     pub summed-all : n ≤ i → sum ≡ sumTo n f
@@ -140,11 +143,11 @@ module _ (f : ℕ → ℕ) (n : ℕ) (start : List ℕ) where
   grouped-none = record { reached = reached-none 0 f start; summed = summed-none f n }
 
   module _ (now : List ℕ) (sum i : ℕ) (r : Grouped f n start now sum i) (room : length start ≡ n) where
-    pub grouped-next : (v : ℕ) → i < n → v ≡ f i → v ≤ 250000 → Grouped f n start (set now i v) (sum + v) (i + 1)
-    grouped-next v l e h =
+    pub grouped-next : (v x s : ℕ) → i < n → v ≡ f i → v ≤ 250000 → x ≡ v → s ≡ sum + v → Grouped f n start (set now i x) s (i + 1)
+    grouped-next v x s l e h w t =
         record {
-          reached = reached-next 0 f start now i v (r .reached) (omega (arith, r .reached .room)) e;
-          summed = summed-next f n sum i (r .summed) v l e h;
+          reached = reached-next 0 f start now i x (r .reached) (omega (arith, r .reached .room)) (w ∙ e);
+          summed = summed-next f n sum i (r .summed) v s l e h t;
         }
 
     pub grouped-all : n ≤ i → now ≡ table n f
@@ -165,12 +168,12 @@ module _ (f : ℕ → ℕ) (n : ℕ) (start : List ℕ) where
   banded-none = record { grouped = grouped-none f n start; bands-are = refl; few = omega arith }
 
   module _ (now : List ℕ) (sum bands i : ℕ) (r : Banded f n start now sum bands i) (room : length start ≡ n) where
-    pub banded-next : (v x : ℕ) → i < n → v ≡ f i → v ≤ 250000 → x ≡ cond (ltb 0 v) 1 0
-        → Banded f n start (set now i v) (sum + v) (bands + x) (i + 1)
-    banded-next v x l e h b =
-        let here : x ≡ bit (ltb 0 (f i)) = b ∙ cond-bit (ltb 0 v) ∙ ap (λ (w : ℕ). bit (ltb 0 w)) e in
+    pub banded-next : (v x s c : ℕ) → i < n → v ≡ f i → v ≤ 250000 → x ≡ v → s ≡ sum + v → c ≡ cond (ltb 0 v) 1 0
+        → Banded f n start (set now i x) s (bands + c) (i + 1)
+    banded-next v x s c l e h w t b =
+        let here : c ≡ bit (ltb 0 (f i)) = b ∙ cond-bit (ltb 0 v) ∙ ap (λ (y : ℕ). bit (ltb 0 y)) e in
         record {
-          grouped = grouped-next f n start now sum i (r .grouped) room v l e h;
+          grouped = grouped-next f n start now sum i (r .grouped) room v x s l e h w t;
           bands-are = omega (arith, r .bands-are, here, count-next i (λ j. ltb 0 (f j)));
           few = omega (arith, r .few, here, bit-le (ltb 0 (f i)));
         }
@@ -240,14 +243,14 @@ module _ (left sum bands : ℕ) (g out : List ℕ) (first : ℕ) (c : Counts g s
       let m : min left (whole g) ≡ whole g = omega (arith, c .sum-is) in
       rw m (e ∙ sym (shares-are-weights (whole g) g first refl))
 
-  pub called-in-part : left < sum → out ≡ shares left g first → out ≡ partsIn left g first
+  pub called-in-part : (a : ℕ) → a ≡ left → left < sum → out ≡ shares a g first → out ≡ partsIn left g first
   unfolding partsIn
-  called-in-part l e = let m : min left (whole g) ≡ left = omega (arith, c .sum-is) in rw m e
+  called-in-part a f l e = let m : min left (whole g) ≡ a = omega (arith, c .sum-is) in rw m e
 
   pub called-alone : (old : List ℕ) → Splittable g old first → left < sum → bands ≡ 1 → out ≡ table (length g) (alone left g)
       → out ≡ partsIn left g first
   unfolding bandsIn alone
-  called-alone old s l b e = called-in-part l (e ∙ sym (shares-alone left g first (sym (c .bands-are) ∙ b) (s .inside)))
+  called-alone old s l b e = called-in-part left refl l (e ∙ sym (shares-alone left g first (sym (c .bands-are) ∙ b) (s .inside)))
 
 pub parts-of : (left : ℕ) (g h out : List ℕ) (first : ℕ) → out ≡ partsIn left g first → g ≡ h → out ≡ partsIn left h first
 parts-of left g h out first e f = rw (← f) e

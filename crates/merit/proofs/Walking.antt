@@ -1,9 +1,8 @@
 -- The walk: what it has done before a bid, and before a row of a bid; each lemma in the shape of one need.
 --     Walked         all bands below bid k are called, and none from k up; `left` is what they leave of the need
 --     Turned         of the parts of one bid, those in rows before i are called
---     walked-first, turned-first, turned-next, walked-next     from the start on, row by row, bid by bid
---     part-fits      a part is at most what is left
---     call-fits      and no call wraps
+--     walked-first, turned-first, turned-next, walked-next     from the start on, row by row, from bid to next bid
+--     callable       a part is at most what is left, and no call wraps
 --     ended-met      the walk may end as soon as nothing is left
 --     ended-past     or past every bid
 --     ended-full     and where it would begin there, nothing is left to call
@@ -15,7 +14,7 @@ use mathlib.Core.List.{List}
 use native.Mathlib.Nat.{le-refl}
 use native.Mathlib.Numerals.{add-one}
 use native.Mathlib.Omega.{arith}
-use mir.Syntax.{w32, w64}
+use mir.Syntax.{w64}
 use mir.Val.{Fits}
 use lib.Dec.{ltb, eqb}
 use lib.ListN.{length, set, length-set, List·getD-eq-default}
@@ -28,9 +27,10 @@ use Rattle.columns.proofs.Rank.{test-or}
 use Rattle.columns.proofs.Table.{table-length, table-at, table-past, table-is}
 use Rattle.merit.specs.OneTier.{under, below, groupIn, calledIn, tierCalls}
 use Rattle.merit.specs.Ready.{Ready, TierCalled}
-use Rattle.merit.specs.Walk.{Margin, cheapIn, Room, Begun, past, partsIn}
-use Rattle.merit.proofs.Keyed.{cond-next, cond-le}
-use Rattle.merit.proofs.OneTier.{under-past, below-next, below-rise, below-le, below-all}
+use Rattle.merit.specs.Walk.{Margin, cheapIn, Room, Begun, past, nextBid, Callable, partsIn}
+use Rattle.merit.proofs.Keyed.{cond-next, cond-skip, cond-le}
+use Rattle.merit.proofs.Next.{next-above, next-skips}
+use Rattle.merit.proofs.OneTier.{under-past, below-next, below-skip, below-rise, below-le, below-all}
 use Rattle.merit.proofs.OneTier.{called-le, called-full, called-met, partsOf, parts-length, parts-at, parts-sum}
 
 -- what row j is called for by the bands below bid k
@@ -57,43 +57,46 @@ module _ (start : ℕ) (cs₁ ps : List ℕ) (i left : ℕ) (cs : List ℕ) (w :
   here : at cs i ≡ at cs₁ i
   here = w .is i ∙ rw (le-ltb i i (le-refl i)) (omega arith)
 
-  pub part-small : Fits w32 (at ps i)
-  part-small = omega (arith, w .small i)
-
-  pub part-fits : i < length ps → at ps i ≤ left
-  part-fits l = omega (arith, w .left-is, w .covered, sum-next i (at ps), sum-shorter (i + 1) (length ps) (at ps) (omega arith))
-
-  pub call-fits : Fits w32 (at cs i + at ps i)
-  call-fits = omega (arith, w .small i, here)
-
   pub turn-fits : i < length ps → Fits w64 (i + 1)
   turn-fits l = omega (arith, w .few)
 
-  pub turned-room : i < length ps → i < length cs
-  turned-room l = omega (arith, w .level, w .room)
-
-  pub turned-next : i < length ps → Turned start cs₁ ps (i + 1) (left - at ps i) (set cs i (at cs i + at ps i))
-  turned-next l =
+  pub callable : i < length ps → Callable left i ps cs
+  callable l =
       record {
-        few = w .few;
-        level = w .level;
-        small = w .small;
-        covered = w .covered;
-        within = omega arith;
-        room = length-set cs i (at cs i + at ps i) ∙ w .room;
-        left-is = omega (arith, w .left-is, part-fits l, sum-next i (at ps));
-        is = is;
+        part-at = l;
+        call-at = omega (arith, w .level, w .room);
+        covered = omega (arith, w .left-is, w .covered, sum-next i (at ps), sum-shorter (i + 1) (length ps) (at ps) (omega arith));
+        fits = omega (arith, w .small i, here);
       }
-    where
-      is : (j : ℕ) → at (set cs i (at cs i + at ps i)) j ≡ at cs₁ j + cond (ltb j (i + 1)) (at ps j) 0
-      is j =
-          ⊎-elim
-          (λ (s : eqb j i ≡ true). let same : j ≡ i = eqb-true j i s in
-          rw (same, lt-ltb i (i + 1) (omega arith)) (getD-set-same cs i (at cs i + at ps i) 0 (turned-room l) ∙ omega (arith, here)))
-          (λ (s : eqb j i ≡ false). let apart : j ≡ i → ⊥ = eqb-false j i s in
-          getD-set-other cs i j (at cs i + at ps i) 0 apart ∙ w .is j
-          ∙ ⊎-elim (λ (m : j < i). rw (lt-ltb j i m, lt-ltb j (i + 1) (omega arith)))
-          (λ (m : i ≤ j). rw (le-ltb j i m, le-ltb j (i + 1) (omega arith))) (lt-or-le j i)) (test-or (eqb j i))
+
+  -- row i is called for its part: r is left then, and the column is ds
+  module _ (r : ℕ) (ds : List ℕ) (e : r ≡ left - at ps i) (f : ds ≡ set cs i (at cs i + at ps i)) (l : i < length ps) where
+    called-room : length ds ≡ length cs₁
+    called-room = ap length f ∙ length-set cs i (at cs i + at ps i) ∙ w .room
+
+    pub turned-next : Turned start cs₁ ps (i + 1) r ds
+    turned-next =
+        record {
+          few = w .few;
+          level = w .level;
+          small = w .small;
+          covered = w .covered;
+          within = omega arith;
+          room = called-room;
+          left-is = omega (arith, w .left-is, callable l .covered, sum-next i (at ps));
+          is = λ j. rw f (is j);
+        }
+      where
+        is : (j : ℕ) → at (set cs i (at cs i + at ps i)) j ≡ at cs₁ j + cond (ltb j (i + 1)) (at ps j) 0
+        is j =
+            ⊎-elim
+            (λ (s : eqb j i ≡ true). let same : j ≡ i = eqb-true j i s in
+            rw (same, lt-ltb i (i + 1) (omega arith))
+            (getD-set-same cs i (at cs i + at ps i) 0 (callable l .call-at) ∙ omega (arith, here)))
+            (λ (s : eqb j i ≡ false). let apart : j ≡ i → ⊥ = eqb-false j i s in
+            getD-set-other cs i j (at cs i + at ps i) 0 apart ∙ w .is j
+            ∙ ⊎-elim (λ (m : j < i). rw (lt-ltb j i m, lt-ltb j (i + 1) (omega arith)))
+            (λ (m : i ≤ j). rw (le-ltb j i m, le-ltb j (i + 1) (omega arith))) (lt-or-le j i)) (test-or (eqb j i))
 
   -- where the parts from row i on are 0, all parts are called
   all-called : sumTo i (at ps) ≡ sumTo (length ps) (at ps) → (j : ℕ) → at cs j ≡ at cs₁ j + at ps j
@@ -118,6 +121,22 @@ module _ (need : ℕ) (ws bs : List ℕ) (first : ℕ) where
       ≡ done need ws bs first k j + cond (eqb (at bs j) k) (calledIn need ws bs first j) 0
   unfolding done
   done-next k j = rw (add-one k) (cond-next (at bs j) k (calledIn need ws bs first j))
+
+  -- no row has a bid between this and the next, so nothing more is to be done below the next
+  walked-skip : (k n left : ℕ) (cs : List ℕ) → k < past → n ≡ nextBid k bs → Walked need ws bs first (k + 1) left cs
+      → Walked need ws bs first n left cs
+  walked-skip k n left cs h e w =
+      record {
+        left-is = w .left-is ∙ ap (λ (x : ℕ). need - x) (below-skip ws bs (k + 1) n from skips);
+        room = w .room;
+        is = λ j. w .is j ∙ unfold done in cond-skip (at bs j) (k + 1) n (calledIn need ws bs first j) from (skips j);
+      }
+    where
+      from : k + 1 ≤ n
+      from = omega (arith, next-above k bs h)
+
+      skips : (j : ℕ) → k + 1 ≤ at bs j → n ≤ at bs j
+      skips j l = rw e (next-skips k bs j (omega arith))
 
   -- where lower bids do not pass the need, bands below k are called in full
   done-full : (k j : ℕ) → below ws bs k ≤ need → done need ws bs first k j ≡ under ws bs k j
@@ -153,10 +172,10 @@ ended-unneeded need ws bs first cs r z =
     }
 
 -- what lower bids leave, with what they took, is the need
-pub ended-whole : (need : ℕ) (ws bs : List ℕ) (first k s r : ℕ) (cs : List ℕ) → Margin need ws bs k → s ≡ below ws bs k
-    → TierCalled (need - s + below ws bs k) ws bs first r cs → TierCalled need ws bs first r cs
-ended-whole need ws bs first k s r cs m e t =
-    let all : need - s + below ws bs k ≡ need = omega (arith, m .reached) in rw (← all) t
+pub ended-whole : (need : ℕ) (ws bs : List ℕ) (first k s left r : ℕ) (cs : List ℕ) → Margin need ws bs k → s ≡ below ws bs k → left ≡ need - s
+    → TierCalled (left + below ws bs k) ws bs first r cs → TierCalled need ws bs first r cs
+ended-whole need ws bs first k s left r cs m e f t =
+    let all : left + below ws bs k ≡ need = omega (arith, m .reached) in rw (← all) t
 
 -- the walk from bid k₀ on, with `start` left by the bands below it
 module _ (start : ℕ) (ws bs : List ℕ) (first k₀ : ℕ) (cs₀ : List ℕ) (good : Begun ws bs first k₀ cs₀) where
@@ -235,35 +254,39 @@ module _ (start : ℕ) (ws bs : List ℕ) (first k₀ : ℕ) (cs₀ : List ℕ) 
           is = λ j. rw (le-ltb j 0 (omega arith)) (omega arith);
         }
 
+    all-done : (i left : ℕ) (cs : List ℕ) → Turned now cs₁ ps i left cs → sumTo i (at ps) ≡ sumTo (length ps) (at ps)
+        → Walked need ws bs first (k + 1) left cs
+    all-done i left cs t all =
+        record {
+          left-is = rw (add-one k) (omega (arith, t .left-is, all, parts-total, w .left-is, below-next ws bs k));
+          room = t .room ∙ w .room;
+          is = λ j. all-called now cs₁ ps i left cs t all j ∙ called-next j;
+        }
+
     module _ (i left : ℕ) (cs : List ℕ) (t : Turned now cs₁ ps i left cs) where
-      turn-done : sumTo i (at ps) ≡ sumTo (length ps) (at ps) → Walked need ws bs first (k + 1) left cs
-      turn-done all =
-          record {
-            left-is = rw (add-one k) (omega (arith, t .left-is, all, parts-total, w .left-is, below-next ws bs k));
-            room = t .room ∙ w .room;
-            is = λ j. all-called now cs₁ ps i left cs t all j ∙ called-next j;
-          }
+      pub walked-next : (n : ℕ) → k < past → length ps ≤ i → n ≡ nextBid k bs → Walked need ws bs first n left cs
+      walked-next n h l f =
+          let all : i ≡ length ps = omega (arith, t .within) in
+          walked-skip need ws bs first k n left cs h f (all-done i left cs t (ap (λ (m : ℕ). sumTo m (at ps)) all))
 
-      pub walked-next : length ps ≤ i → Walked need ws bs first (k + 1) left cs
-      walked-next l = let all : i ≡ length ps = omega (arith, t .within) in turn-done (ap (λ (m : ℕ). sumTo m (at ps)) all)
+      -- the need is met once row i is called for its part: r is left then, and the column is ds
+      module _ (r : ℕ) (ds : List ℕ) (g : r ≡ left - at ps i) (f : ds ≡ set cs i (at cs i + at ps i)) (l : i < length ps) where
+        pub turned-calls : length ds ≡ length cs₀
+        turned-calls = called-room now cs₁ ps i left cs t r ds g f l ∙ w .room ∙ sym begun-long
 
-      pub turned-calls : (x : ℕ) → length (set cs i x) ≡ length cs₀
-      turned-calls x = length-set cs i x ∙ t .room ∙ w .room ∙ sym begun-long
-
-    pub ended-met : (i left : ℕ) (cs : List ℕ) → Turned now cs₁ ps i left cs → i < length ps → left - at ps i ≡ 0
-        → TierCalled need ws bs first (left - at ps i) (set cs i (at cs i + at ps i))
-    ended-met i left cs t l z =
-        let next : Turned now cs₁ ps (i + 1) (left - at ps i) (set cs i (at cs i + at ps i)) = turned-next now cs₁ ps i left cs t l in
-        ended-none (k + 1) (left - at ps i) (set cs i (at cs i + at ps i))
-        (turn-done (i + 1) (left - at ps i) (set cs i (at cs i + at ps i)) next
-        (omega (arith, next .left-is, next .covered, sum-shorter (i + 1) (length ps) (at ps) (omega arith)))) z
+        pub ended-met : r ≡ 0 → TierCalled need ws bs first r ds
+        ended-met z =
+            let next : Turned now cs₁ ps (i + 1) r ds = turned-next now cs₁ ps i left cs t r ds g f l in
+            ended-none (k + 1) r ds
+            (all-done (i + 1) r ds next
+            (omega (arith, next .left-is, next .covered, sum-shorter (i + 1) (length ps) (at ps) (omega arith)))) z
 
 -- past every bid there is no walk: the bands that are called in full are all
 module _ (need : ℕ) (ws bs : List ℕ) (first k s : ℕ) (cs₀ cs : List ℕ) (r : Ready ws bs first cs₀) (is : cs ≡ cheapIn ws bs k) where
   begun : Begun ws bs first k cs
   begun = record { columns = r .columns; inside = r .inside; is = is }
 
-  pub ended-full : Margin need ws bs k → s ≡ below ws bs k → past ≤ k → TierCalled need ws bs first (need - s) cs
-  ended-full m e h =
-      ended-whole need ws bs first k s (need - s) cs m e
-      (ended-past (need - s) ws bs first k cs begun k (need - s) cs (walked-first (need - s) ws bs first k cs begun) h)
+  pub ended-full : (left : ℕ) → Margin need ws bs k → s ≡ below ws bs k → left ≡ need - s → past ≤ k → TierCalled need ws bs first left cs
+  ended-full left m e f h =
+      ended-whole need ws bs first k s left left cs m e f
+      (ended-past left ws bs first k cs begun k left cs (walked-first left ws bs first k cs begun) h)

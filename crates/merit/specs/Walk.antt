@@ -1,5 +1,5 @@
 -- What the steps of the walk come to, and those of the search for the price. No promise of a public function speaks of them.
-use Prim.Native.Nat.{ℕ, _+_, _≤_, _<_, min}
+use Prim.Native.Nat.{ℕ, zero, suc, _+_, _≤_, _<_, _^_, min}
 use mathlib.Core.Path.{_≡_}
 use mathlib.Core.Bool.{cond}
 use mathlib.Core.List.{List}
@@ -21,6 +21,19 @@ pub record Margin (need : ℕ) (ws bs : List ℕ) (k : ℕ) : Type 0 where
   pub reached : below ws bs k ≤ need
   pub inside : k ≤ past
   pub passed : k < past → need < below ws bs (k + 1)
+
+-- the lower of two bids, of which the second counts only if it is above k
+unfoldable pub sooner : ℕ → ℕ → ℕ → ℕ
+sooner k best bid = cond (ltb k bid) (min best bid) best
+
+-- the lowest bid above k among the first n rows, and `past` if there is none
+unfoldable pub nextIn : ℕ → List ℕ → ℕ → ℕ
+nextIn k bs zero = past
+nextIn k bs (suc n) = sooner k (nextIn k bs n) (at bs n)
+
+-- the bid at which the walk goes on: the same among all rows
+unfoldable pub nextBid : ℕ → List ℕ → ℕ
+nextBid k bs = nextIn k bs (length bs)
 
 -- the bands that are bid below k: their widths, and 0 for every other row
 unfoldable pub cheapIn : List ℕ → List ℕ → ℕ → List ℕ
@@ -53,6 +66,13 @@ pub record Begun (ws bs : List ℕ) (first k : ℕ) (cs : List ℕ) : Type 0 whe
   pub columns : Columns ws bs
   pub inside : 0 < length ws → first < length ws
   pub is : cs ≡ cheapIn ws bs k
+
+-- row i, whose part is at most what is left, and whose call has room for it
+pub record Callable (left i : ℕ) (ps cs : List ℕ) : Type 0 where
+  pub part-at : i < length ps
+  pub call-at : i < length cs
+  pub covered : at ps i ≤ left
+  pub fits : at cs i + at ps i < 2 ^ 32
 
 -- the bid of row i if the row delivers, and 0 if not
 unfoldable pub deliveredBid : ℕ → List ℕ → List ℕ → List ℕ → ℕ

@@ -1,30 +1,39 @@
 // Merit order (01, Calls and prices; 02, request 1), one tier's columns at a time: the walk over its bids and bands, the calls it makes, the
 // clearing price. Columns hold bare numbers: widths, calls and energies in kWh, bids in li.
 ghost use mathlib.Core.Path.{_≡_};
-ghost use Prim.Native.Nat.{_+_, _<_, _≤_, max};
-ghost use lib.ListN.{length};
-ghost use Rattle.columns.specs.Table.{table};
+ghost use mathlib.Core.Bool.{cond};
+ghost use Prim.Native.Nat.{_+_, _-_, _<_, _≤_, max};
+ghost use lib.ListN.{length, set};
+ghost use Rattle.columns.specs.Table.{at, table};
 ghost use Rattle.share.specs.Split.{Splittable};
 ghost use Rattle.merit.specs.OneTier.{under, equal, below, groupIn};
 ghost use Rattle.merit.specs.Price.{price};
 ghost use Rattle.merit.specs.Ready.{Columns, Ready, TierCalled, OneLength};
-ghost use Rattle.merit.specs.Walk.{past, Margin, cheapIn, Room, Begun, partsIn, Counts, alone, deliveredBid};
+ghost use Rattle.merit.specs.Walk.{past, Margin, cheapIn, Room, Begun, partsIn, Counts, alone, sooner, nextBid, Callable, deliveredBid};
 use columns::counted;
 use units::Kwh;
 use units::Li;
 
 // Past every bid: they are below 65,536.
-const PAST: u64 = 65536;
+const PAST: Li = Li(65536);
 
 // Above the bids of all terms so far. It decides nothing: the search looks there first.
-const HIGH: u64 = 1024;
+const HIGH: Li = Li(1024);
 
-// The width of band i if its bid is below k, and 0 if not.
+// The width of band i if a test passed, and 0 if not.
+fn width_if(passed: bool, i: usize, widths: &[u32]) -> Kwh
+    requires { ⌜ i < length (now widths) ⌝ }
+    ensures { λ r. ⌜ r .0 ≡ cond passed (at (now (widths .entry)) i) 0 ⌝ }
+{
+    Kwh::from_column(counted(passed, widths[i]))
+}
+
+// Its width if its bid is below k.
 fn cheaper(k: u32, i: usize, widths: &[u32], bids: &[u32]) -> Kwh
     requires { ⌜ Columns (now widths) (now bids) × (i < length (now widths)) ⌝ }
     ensures { λ r. ⌜ (r .0 ≡ under (now (widths .entry)) (now (bids .entry)) k i) × (r .0 ≤ 250000) ⌝ }
 {
-    Kwh(counted(bids[i] < k, widths[i]))
+    width_if(bids[i] < k, i, widths)
 }
 
 // Its width if its bid is k.
@@ -32,7 +41,7 @@ fn member(k: u32, i: usize, widths: &[u32], bids: &[u32]) -> Kwh
     requires { ⌜ Columns (now widths) (now bids) × (i < length (now widths)) ⌝ }
     ensures { λ r. ⌜ (r .0 ≡ equal (now (widths .entry)) (now (bids .entry)) k i) × (r .0 ≤ 250000) ⌝ }
 {
-    Kwh(counted(bids[i] == k, widths[i]))
+    width_if(bids[i] == k, i, widths)
 }
 
 // The widths of the bands that are bid below a bid, added up.
@@ -44,21 +53,21 @@ fn below(bid: Li, widths: &[u32], bids: &[u32]) -> Kwh
     let mut sum = Kwh(0);
     let mut i = 0;
     while i < widths.len() {
-        sum = Kwh(sum.0 + cheaper(k, i, widths, bids).0);
+        sum = sum.plus(cheaper(k, i, widths, bids));
         i += 1;
     }
     sum
 }
 
 // Where the search looks next.
-fn middle(lo: u64, hi: u64) -> Li
-    requires { ⌜ lo + 1 < hi ⌝ }
-    ensures { λ r. ⌜ (lo < r .0) × (r .0 < hi) ⌝ }
+fn middle(lo: Li, hi: Li) -> Li
+    requires { ⌜ lo .0 + 1 < hi .0 ⌝ }
+    ensures { λ r. ⌜ (lo .0 < r .0) × (r .0 < hi .0) ⌝ }
 {
-    if (lo < HIGH) & (HIGH < hi) {
-        return Li(HIGH);
+    if (lo.0 < HIGH.0) & (HIGH.0 < hi.0) {
+        return HIGH;
     }
-    Li(columns::middle(lo, hi))
+    Li(columns::middle(lo.0, hi.0))
 }
 
 // The bid at which the need is passed, found by halving; past every bid if all bands do not pass it.
@@ -66,20 +75,20 @@ fn margin(need: Kwh, widths: &[u32], bids: &[u32]) -> Li
     requires { ⌜ Columns (now widths) (now bids) ⌝ }
     ensures { λ r. ⌜ Margin (need .0) (now (widths .entry)) (now (bids .entry)) (r .0) ⌝ }
 {
-    if below(Li(PAST), widths, bids).0 <= need.0 {
-        return Li(PAST);
+    if below(PAST, widths, bids).0 <= need.0 {
+        return PAST;
     }
-    let mut lo: u64 = 0;
-    let mut hi: u64 = PAST;
-    while 1 < hi - lo {
+    let mut lo = Li(0);
+    let mut hi = PAST;
+    while 1 < hi.0 - lo.0 {
         let mid = middle(lo, hi);
         if below(mid, widths, bids).0 <= need.0 {
-            lo = mid.0;
+            lo = mid;
         } else {
-            hi = mid.0;
+            hi = mid;
         }
     }
-    Li(lo)
+    lo
 }
 
 // Calls the bands that are bid below a bid, in full; answers the sum of their widths.
@@ -93,8 +102,8 @@ fn call_below(bid: Li, widths: &[u32], bids: &[u32], called: &mut [u32]) -> Kwh
     let mut i = 0;
     while i < widths.len() {
         let width = cheaper(k, i, widths, bids);
-        called[i] = width.0;
-        sum = Kwh(sum.0 + width.0);
+        called[i] = width.column();
+        sum = sum.plus(width);
         i += 1;
     }
     sum
@@ -118,8 +127,8 @@ fn group_of(bid: Li, widths: &[u32], bids: &[u32], out: &mut [u64]) -> Group
     let mut i = 0;
     while i < widths.len() {
         let width = member(k, i, widths, bids);
-        out[i] = width.0 as u64;
-        sum = Kwh(sum.0 + width.0);
+        out[i] = width.wide();
+        sum = sum.plus(width);
         bands += counted(0 < width.0, 1);
         i += 1;
     }
@@ -144,7 +153,7 @@ fn call_one(left: Kwh, group: &[u64], out: &mut [u64])
 {
     let mut i = 0;
     while i < group.len() {
-        out[i] = counted(0 < group[i], left.0) as u64;
+        out[i] = left.when(0 < group[i]).wide();
         i += 1;
     }
 }
@@ -162,7 +171,7 @@ fn share_group(left: Kwh, all: Group, group: &[u64], first: usize, out: &mut [u6
         call_one(left, group, out);
         return;
     }
-    share::split(left.0 as u64, group, first, out);
+    share::split(left.wide(), group, first, out);
 }
 
 // The same for the bands of one bid, for which `group` is room.
@@ -182,8 +191,46 @@ fn parts_in(
     share_group(left, all, group, first, out);
 }
 
+// The lower of two bids, of which the second counts only if it is above `after`.
+fn sooner(after: Li, best: Li, bid: Li) -> Li
+    ensures { λ r. ⌜ r .0 ≡ sooner (after .0) (best .0) (bid .0) ⌝ }
+{
+    if bid.0 <= after.0 {
+        return best;
+    }
+    if bid.0 < best.0 {
+        return bid;
+    }
+    best
+}
+
+// The bid at which the walk goes on: the lowest above `after` that the rows have, and PAST if they have none.
+fn next_bid(after: Li, bids: &[u32]) -> Li
+    ensures { λ r. ⌜ r .0 ≡ nextBid (after .0) (now (bids .entry)) ⌝ }
+{
+    let mut next = PAST;
+    let mut i = 0;
+    while i < bids.len() {
+        next = sooner(after, next, Li::from_column(bids[i]));
+        i += 1;
+    }
+    next
+}
+
+// Calls the band of row i for its part of what is left; answers what is left then.
+fn call_part(left: Kwh, i: usize, parts: &[u64], called: &mut [u32]) -> Kwh
+    requires { ⌜ Callable (left .0) i (now parts) (now called) ⌝ }
+    ensures { λ r. ⌜ (r .0 ≡ left .0 - at (now (parts .entry)) i)
+        × (now (called .exit) ≡ set (now (called .entry)) i (at (now (called .entry)) i + at (now (parts .entry)) i)) ⌝ }
+{
+    let part = Kwh::from_wide(parts[i]);
+    called[i] = Kwh::from_column(called[i]).plus(part).column();
+    left.less(part)
+}
+
 // The walk over bids and bands, by rising bid, from a bid below which all bands are called in full; `need` is what they leave of it.
-// `group` is room for the bands of one bid, `parts` for what they are called for. It is left as soon as the need is met.
+// `group` is room for the bands of one bid, `parts` for what they are called for. It is left as soon as the need is met: from the margin,
+// where `call_tier` begins, during its first turn.
 fn walk(
     start: Li,
     need: Kwh,
@@ -201,19 +248,17 @@ fn walk(
 {
     let mut left = need;
     let mut bid = start;
-    'walk: while bid.0 < PAST {
+    'walk: while bid.0 < PAST.0 {
         parts_in(bid, left, first, widths, bids, group, parts);
         let mut i = 0;
         while i < parts.len() {
-            let part = parts[i] as u32;
-            called[i] += part;
-            left = Kwh(left.0 - part);
+            left = call_part(left, i, parts, called);
             if left.0 == 0 {
                 break 'walk;
             }
             i += 1;
         }
-        bid = Li(bid.0 + 1);
+        bid = next_bid(bid, bids);
     }
     left
 }
@@ -257,8 +302,8 @@ pub fn call_tier(need: Kwh, first: usize, widths: &[u32], bids: &[u32], called: 
     }
     let start = margin(need, widths, bids);
     let sum = call_below(start, widths, bids, called);
-    let left = Kwh(need.0 - sum.0);
-    if PAST <= start.0 {
+    let left = need.less(sum);
+    if PAST.0 <= start.0 {
         return left;
     }
     walk_from(start, left, first, widths, bids, called)

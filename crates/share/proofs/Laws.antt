@@ -14,6 +14,7 @@
 --     share-le-weight    the amount is at most the sum of the weights: a share is at most its weight
 --     share-is-weight    the amount is just that sum: each share is its weight
 --     shares-are-weights     the same of the whole column
+--     shares-alone       who alone has weight gets all
 --     share-more         a larger amount gives nobody less, but for one: of fen that are rounded more cannot be said
 --     share-alike        of two equal weights the one whose turn comes first gets as much as the other, or one more
 --     share-none, share-sum      shares-none and shares-sum of the share itself
@@ -24,15 +25,16 @@
 use Prim.Native.Nat.{ℕ, _+_, _-_, _*_, _/_, _%_, _≤_, _<_}
 use mathlib.Core.Path.{_≡_, ap, sym, _∙_}
 use mathlib.Core.Logic.{⊎-elim}
+use mathlib.Core.Bool.{Bool, true, false, cond}
 use mathlib.Core.List.{List}
 use native.Mathlib.Nat.{eq-zero-or-pos, mul-le-mul-left, mul-le-mul-right, lt-of-mul-lt-mul-right}
 use native.Mathlib.Omega.{arith}
 use lib.Dec.{ltb}
 use lib.ListN.{length, List·getD-eq-default}
 use borrow.Author.Tests.{lt-ltb, le-ltb, eq-eqb}
-use Rattle.columns.specs.Sum.{bit, sumTo}
-use Rattle.columns.specs.Table.{at, SameOrOneMore}
-use Rattle.columns.proofs.Sum.{lt-or-le, bit-le}
+use Rattle.columns.specs.Sum.{bit, sumTo, countTo}
+use Rattle.columns.specs.Table.{at, table, SameOrOneMore}
+use Rattle.columns.proofs.Sum.{lt-or-le, bit-le, sum-same, sum-mul, sum-same-le, count-none}
 use Rattle.columns.proofs.Table.{table-length, table-at, table-past, table-same, table-list}
 use Rattle.columns.proofs.Whole.{whole-table}
 use Rattle.columns.specs.Sum.{whole}
@@ -134,6 +136,44 @@ module _ (a : ℕ) (ws : List ℕ) (first : ℕ) where
       ⊎-elim
       (λ (e : whole ws ≡ 0). ap whole (shares-are-weights (omega arith)) ∙ omega arith)
       (λ (some : 0 < whole ws). shares-sum some inside) (eq-zero-or-pos (whole ws))
+
+-- who alone has weight gets all
+module _ (a : ℕ) (ws : List ℕ) (first : ℕ) where
+  abbrev weighs : ℕ → Bool
+  weighs i = ltb 0 (at ws i)
+
+  -- the amount for whoever has weight
+  abbrev all : ℕ → ℕ
+  all i = cond (ltb 0 (at ws i)) a 0
+
+  -- nobody gets more than that
+  share-le-all : (i : ℕ) → share a ws first i ≤ all i
+  share-le-all i =
+      ⊎-elim (λ (l : 0 < at ws i). rw (lt-ltb 0 (at ws i) l) (share-le-amount a ws first i))
+      (λ (l : at ws i ≤ 0). rw (le-ltb 0 (at ws i) l) (omega (arith, share-zero a ws first i (omega arith)))) (lt-or-le 0 (at ws i))
+
+  module _ (one : countTo (length ws) (λ i. ltb 0 (at ws i)) ≡ 1) where
+    some : 0 < whole ws
+    some =
+        ⊎-elim
+        (λ (z : whole ws ≡ 0). absurd (omega (arith, count-none (length ws) weighs (λ i l. le-ltb 0 (at ws i) (omega (arith, weight-le ws i))))))
+        (λ (l : 0 < whole ws). l) (eq-zero-or-pos (whole ws))
+
+    all-sum : sumTo (length ws) all ≡ a
+    unfolding countTo
+    all-sum =
+        sum-same (length ws) all (λ i. a * bit (weighs i)) (λ i l. times (weighs i)) ∙ sum-mul (length ws) a (λ i. bit (weighs i))
+        ∙ rw one (omega arith)
+      where
+        times : (t : Bool) → cond t a 0 ≡ a * bit t
+        times true = omega arith
+        times false = omega arith
+
+    pub shares-alone : (0 < length ws → first < length ws) → shares a ws first ≡ table (length ws) (λ i. cond (ltb 0 (at ws i)) a 0)
+    unfolding shares
+    shares-alone inside =
+        table-same (length ws) (share a ws first) all
+        (sum-same-le (length ws) (share a ws first) all (λ i l. share-le-all i) (share-sum a ws first some inside ∙ sym all-sum))
 
 pub share-more : (a b : ℕ) (ws : List ℕ) (first second i : ℕ) → a ≤ b → share a ws first i ≤ share b ws second i + 1
 share-more a b ws first second i h =

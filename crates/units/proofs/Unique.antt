@@ -11,14 +11,16 @@ use Rattle.units.proofs.Kwh.when.Reads as when
 use Rattle.units.proofs.Kwh.or.Reads as or
 use Rattle.units.proofs.Kwh.priced.Reads as priced
 use Rattle.units.proofs.Kwh.thermal_cap.Reads as thermal-cap
-use Rattle.units.proofs.Li.plus.Reads as plus
+use Rattle.units.proofs.Kwh.plus.Reads as kwh-plus
+use Rattle.units.proofs.Kwh.less.Reads as less
+use Rattle.units.proofs.Li.plus.Reads as li-plus
 use Rattle.units.proofs.Li.to_fen.Reads as to-fen
 use Rattle.units.proofs.Kwh.from_column.Reads as kwh-from-column
 use Rattle.units.proofs.Kwh.column.Reads as kwh-column
 use Rattle.units.proofs.Li.from_column.Reads as li-from-column
 use Rattle.units.proofs.Li.column.Reads as li-column
-use Rattle.units.proofs.Fen.from_column.Reads as fen-from-column
-use Rattle.units.proofs.Fen.column.Reads as fen-column
+use Rattle.units.proofs.Kwh.from_wide.Reads as from-wide
+use Rattle.units.proofs.Kwh.wide.Reads as wide
 
 pub load-unique : One-result load.Learnt
 load-unique κs a x y e f p q = ap (λ (m : ℕ). record { 0 = m }) (p ∙ sym q)
@@ -47,8 +49,14 @@ priced-unique κs a x y e f p q = ap (λ (m : ℕ). record { 0 = m }) (p ∙ sym
 pub thermal-cap-unique : One-result thermal-cap.Learnt
 thermal-cap-unique κs a x y e f p q = ap (λ (m : ℕ). record { 0 = m }) (p ∙ sym q)
 
-pub plus-unique : One-result plus.Learnt
-plus-unique κs a x y e f p q = ap (λ (m : ℕ). record { 0 = m }) (p ∙ sym q)
+pub kwh-plus-unique : One-result kwh-plus.Learnt
+kwh-plus-unique κs a x y e f p q = ap (λ (m : ℕ). record { 0 = m }) (p ∙ sym q)
+
+pub less-unique : One-result less.Learnt
+less-unique κs a x y e f p q = ap (λ (m : ℕ). record { 0 = m }) (p ∙ sym q)
+
+pub li-plus-unique : One-result li-plus.Learnt
+li-plus-unique κs a x y e f p q = ap (λ (m : ℕ). record { 0 = m }) (p ∙ sym q)
 
 pub to-fen-unique : One-result to-fen.Learnt
 to-fen-unique κs a x y e f p q = ap (λ (m : ℕ). record { 0 = m }) (p ∙ sym q)
@@ -65,8 +73,8 @@ li-from-column-unique κs a x y e f p q = ap (λ (m : ℕ). record { 0 = m }) (p
 pub li-column-unique : One-result li-column.Learnt
 li-column-unique κs a x y e f p q = p ∙ sym q
 
-pub fen-from-column-unique : One-result fen-from-column.Learnt
-fen-from-column-unique κs a x y e f p q = ap (λ (m : ℕ). record { 0 = m }) (p ∙ sym q)
+pub from-wide-unique : One-result from-wide.Learnt
+from-wide-unique κs a x y e f p q = ap (λ (m : ℕ). record { 0 = m }) (p ∙ sym q)
 
-pub fen-column-unique : One-result fen-column.Learnt
-fen-column-unique κs a x y e f p q = p ∙ sym q
+pub wide-unique : One-result wide.Learnt
+wide-unique κs a x y e f p q = p ∙ sym q

@@ -2,7 +2,7 @@
 // 1,000 li = 10,000 hao. Bids and tariffs are per kWh. A figure changes its measure by one of these functions only.
 ghost use mathlib.Core.Path.{_≡_};
 ghost use mathlib.Core.Bool.{cond};
-ghost use Prim.Native.Nat.{_+_, _-_, _*_, _/_, _^_, _<_, min, max};
+ghost use Prim.Native.Nat.{_+_, _-_, _*_, _/_, _^_, _<_, _≤_, min, max};
 ghost use Rattle.units.specs.Measure.{toFen, priced, thermalCap};
 ghost use Rattle.units.specs.Load.{load, most};
 use columns::counted;
@@ -27,6 +27,36 @@ impl Kwh {
         ensures { λ r. ⌜ r ≡ self .0 ⌝ }
     {
         self.0
+    }
+
+    // Into and out of the sharing rule's columns, which have 64 bits.
+    pub fn from_wide(x: u64) -> Kwh
+        requires { ⌜ x < 2 ^ 32 ⌝ }
+        ensures { λ r. ⌜ r .0 ≡ x ⌝ }
+    {
+        Kwh(x as u32)
+    }
+
+    pub fn wide(self) -> u64
+        ensures { λ r. ⌜ r ≡ self .0 ⌝ }
+    {
+        self.0 as u64
+    }
+
+    // Two energies together.
+    pub fn plus(self, other: Kwh) -> Kwh
+        requires { ⌜ self .0 + other .0 < 2 ^ 32 ⌝ }
+        ensures { λ r. ⌜ r .0 ≡ self .0 + other .0 ⌝ }
+    {
+        Kwh(self.0 + other.0)
+    }
+
+    // What is left of this energy without a part of it.
+    pub fn less(self, part: Kwh) -> Kwh
+        requires { ⌜ part .0 ≤ self .0 ⌝ }
+        ensures { λ r. ⌜ r .0 ≡ self .0 - part .0 ⌝ }
+    {
+        Kwh(self.0 - part.0)
     }
 
     // The smaller of two energies.
@@ -117,22 +147,6 @@ impl Li {
         ensures { λ r. ⌜ r .0 ≡ toFen (self .0) ⌝ }
     {
         Fen((self.0 + 5) / 10)
-    }
-}
-
-impl Fen {
-    // Into and out of a column of money.
-    pub fn from_column(x: u32) -> Fen
-        ensures { λ r. ⌜ r .0 ≡ x ⌝ }
-    {
-        Fen(x as u64)
-    }
-
-    pub fn column(self) -> u32
-        requires { ⌜ self .0 < 2 ^ 32 ⌝ }
-        ensures { λ r. ⌜ r ≡ self .0 ⌝ }
-    {
-        self.0 as u32
     }
 }
 

@@ -22,8 +22,8 @@ loop-holds c = search summed-none
 cheaper-requires : tie.Need-cheaper-requires Inv-loop μ-loop
 cheaper-requires c κs = search needs
 
-add-t10 : tie.Need-add-t10 Inv-loop μ-loop
-add-t10 c = search needs
+plus-requires : tie.Need-plus-requires Inv-loop μ-loop
+plus-requires c κs = search needs
 
 add-i : tie.Need-add-i Inv-loop μ-loop
 add-i c = search needs
@@ -46,7 +46,7 @@ below-spec =
     column-requires
     loop-holds
     cheaper-requires
-    add-t10
+    plus-requires
     add-i
     loop-less
     loop-again

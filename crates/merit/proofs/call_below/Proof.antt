@@ -22,14 +22,17 @@ loop-holds c = search grouped-none
 cheaper-requires : tie.Need-cheaper-requires Inv-loop μ-loop
 cheaper-requires c κs = search needs
 
+column-requires-2 : tie.Need-column-requires-2 Inv-loop μ-loop
+column-requires-2 c κs = search needs
+
 mul-called : tie.Need-mul-called Inv-loop μ-loop
 mul-called c = search needs
 
 slice-write-called : tie.Need-slice-write-called Inv-loop μ-loop
 slice-write-called c = search needs
 
-add-t12 : tie.Need-add-t12 Inv-loop μ-loop
-add-t12 c = search needs
+plus-requires : tie.Need-plus-requires Inv-loop μ-loop
+plus-requires c κs = search needs
 
 add-i : tie.Need-add-i Inv-loop μ-loop
 add-i c = search needs
@@ -55,9 +58,10 @@ call-below-spec =
     column-requires
     loop-holds
     cheaper-requires
+    column-requires-2
     mul-called
     slice-write-called
-    add-t12
+    plus-requires
     add-i
     loop-less
     loop-again

@@ -1,10 +1,10 @@
 -- `merit::call_one` meets its contract: the bands passed are called for all that is left.
 use Prim.Native.Nat.{_-_, _≤_}
 use lib.ListN.{length}
-use borrow.Author.Needs.{needs}
 use Rattle.columns.proofs.Fill.{Reached, reached-none}
 use Rattle.merit.specs.Walk.{alone}
 use Rattle.merit.proofs.Steps.{alone-next, alone-all}
+use borrow.Author.Needs.{needs}
 use Rattle.merit.proofs.call_one.Statement.{statement}
 use Rattle.merit.proofs.call_one.Tie as tie
 
@@ -17,17 +17,17 @@ abbrev μ-loop : tie.MeasureT-loop
 loop-holds : tie.Need-loop-holds Inv-loop μ-loop
 loop-holds c = (search needs, search reached-none)
 
-mul-counted : tie.Need-mul-counted Inv-loop μ-loop
-mul-counted c = search needs
+mul-when : tie.Need-mul-when Inv-loop μ-loop
+mul-when c = search needs
 
-shared-slice-read-counted : tie.Need-shared-slice-read-counted Inv-loop μ-loop
-shared-slice-read-counted c = search needs
+shared-slice-read-when : tie.Need-shared-slice-read-when Inv-loop μ-loop
+shared-slice-read-when c = search needs
 
-counted-requires : tie.Need-counted-requires Inv-loop μ-loop
-counted-requires c κs = search needs
+when-requires : tie.Need-when-requires Inv-loop μ-loop
+when-requires c κs = search needs
 
-cast-out : tie.Need-cast-out Inv-loop μ-loop
-cast-out c = search needs
+wide-requires : tie.Need-wide-requires Inv-loop μ-loop
+wide-requires c κs = search needs
 
 mul-out : tie.Need-mul-out Inv-loop μ-loop
 mul-out c = search needs
@@ -57,10 +57,10 @@ call-one-spec =
     Inv-loop
     μ-loop
     loop-holds
-    mul-counted
-    shared-slice-read-counted
-    counted-requires
-    cast-out
+    mul-when
+    shared-slice-read-when
+    when-requires
+    wide-requires
     mul-out
     slice-write-out
     add-i

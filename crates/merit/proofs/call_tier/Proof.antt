@@ -14,8 +14,8 @@ margin-requires c κs = search needs
 call-below-requires : tie.Need-call-below-requires
 call-below-requires c κs = search needs
 
-sub-t12 : tie.Need-sub-t12
-sub-t12 c = search needs
+less-requires : tie.Need-less-requires
+less-requires c κs = search needs
 
 same-length : tie.Need-same-length
 same-length c = search needs
@@ -39,7 +39,7 @@ call-tier-spec =
     returns
     margin-requires
     call-below-requires
-    sub-t12
+    less-requires
     same-length
     returns-2
     walk-from-requires

@@ -22,8 +22,8 @@ loop-holds c = search banded-none
 member-requires : tie.Need-member-requires Inv-loop μ-loop
 member-requires c κs = search needs
 
-cast-out : tie.Need-cast-out Inv-loop μ-loop
-cast-out c = search needs
+wide-requires : tie.Need-wide-requires Inv-loop μ-loop
+wide-requires c κs = search needs
 
 mul-out : tie.Need-mul-out Inv-loop μ-loop
 mul-out c = search needs
@@ -31,14 +31,14 @@ mul-out c = search needs
 slice-write-out : tie.Need-slice-write-out Inv-loop μ-loop
 slice-write-out c = search needs
 
-add-bands : tie.Need-add-bands Inv-loop μ-loop
-add-bands c = search needs
+plus-requires : tie.Need-plus-requires Inv-loop μ-loop
+plus-requires c κs = search needs
 
 counted-requires : tie.Need-counted-requires Inv-loop μ-loop
 counted-requires c κs = search needs
 
-add-bands-2 : tie.Need-add-bands-2 Inv-loop μ-loop
-add-bands-2 c = search banded-fits
+add-bands : tie.Need-add-bands Inv-loop μ-loop
+add-bands c = search banded-fits
 
 add-i : tie.Need-add-i Inv-loop μ-loop
 add-i c = search needs
@@ -64,12 +64,12 @@ group-of-spec =
     column-requires
     loop-holds
     member-requires
-    cast-out
+    wide-requires
     mul-out
     slice-write-out
-    add-bands
+    plus-requires
     counted-requires
-    add-bands-2
+    add-bands
     add-i
     loop-less
     loop-again

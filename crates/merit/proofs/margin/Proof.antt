@@ -6,10 +6,10 @@ use Rattle.merit.proofs.margin.Statement.{statement}
 use Rattle.merit.proofs.margin.Tie as tie
 
 abbrev Inv-loop : tie.InvT-loop
-Inv-loop need widths bids lo₀ hi₀ lo hi = Bracket (need .0) widths bids lo hi
+Inv-loop need widths bids lo₀ hi₀ lo hi = Bracket (need .0) widths bids (lo .0) (hi .0)
 
 abbrev μ-loop : tie.MeasureT-loop
-μ-loop need widths bids lo₀ hi₀ lo hi = hi - lo
+μ-loop need widths bids lo₀ hi₀ lo hi = hi .0 - lo .0
 
 below-requires : tie.Need-below-requires Inv-loop μ-loop
 below-requires c κs = search needs
@@ -20,8 +20,8 @@ returns c = search margin-past
 loop-holds : tie.Need-loop-holds Inv-loop μ-loop
 loop-holds c = search bracket-none
 
-sub-loop : tie.Need-sub-loop Inv-loop μ-loop
-sub-loop c = search needs
+sub-if2 : tie.Need-sub-if2 Inv-loop μ-loop
+sub-if2 c = search needs
 
 middle-requires : tie.Need-middle-requires Inv-loop μ-loop
 middle-requires c κs = search needs
@@ -53,7 +53,7 @@ margin-spec =
     below-requires
     returns
     loop-holds
-    sub-loop
+    sub-if2
     middle-requires
     below-requires-2
     loop-less

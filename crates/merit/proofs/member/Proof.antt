@@ -4,31 +4,18 @@ use borrow.Author.Needs.{needs}
 use Rattle.merit.proofs.member.Statement.{statement}
 use Rattle.merit.proofs.member.Tie as tie
 
-mul-counted : tie.Need-mul-counted
-mul-counted c = search needs
+mul-width-if : tie.Need-mul-width-if
+mul-width-if c = search needs
 
-shared-slice-read-counted : tie.Need-shared-slice-read-counted
-shared-slice-read-counted c = search needs
+shared-slice-read-width-if : tie.Need-shared-slice-read-width-if
+shared-slice-read-width-if c = search needs
 
-mul-counted-2 : tie.Need-mul-counted-2
-mul-counted-2 c = search needs
-
-shared-slice-read-counted-2 : tie.Need-shared-slice-read-counted-2
-shared-slice-read-counted-2 c = search needs
-
-counted-requires : tie.Need-counted-requires
-counted-requires c κs = search needs
+width-if-requires : tie.Need-width-if-requires
+width-if-requires c κs = search needs
 
 returns : tie.Need-returns
 returns c = (search member-is, search width-small)
 
 pub member-spec : {M : Type 1} → statement M
 member-spec =
-    tie.close
-    (tie.spec
-    mul-counted
-    shared-slice-read-counted
-    mul-counted-2
-    shared-slice-read-counted-2
-    counted-requires
-    returns)
+    tie.close (tie.spec mul-width-if shared-slice-read-width-if width-if-requires returns)

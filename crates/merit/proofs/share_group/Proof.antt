@@ -22,8 +22,8 @@ same-length-2 c = search needs
 returns-2 : tie.Need-returns-2
 returns-2 c = search called-alone
 
-cast-split : tie.Need-cast-split
-cast-split c = search needs
+wide-requires : tie.Need-wide-requires
+wide-requires c κs = search needs
 
 split-requires : tie.Need-split-requires
 split-requires c κs = search needs
@@ -44,7 +44,7 @@ share-group-spec =
     call-one-requires
     same-length-2
     returns-2
-    cast-split
+    wide-requires
     split-requires
     same-length-3
     returns-3)

@@ -4,9 +4,9 @@ use mathlib.Core.Path.{_≡_}
 use lib.ListN.{length}
 use Rattle.merit.specs.OneTier.{below}
 use Rattle.merit.specs.Walk.{past}
+use Rattle.merit.proofs.Next.{next-less}
 use Rattle.merit.proofs.Walking.{Walked, walked-first, walked-room, walked-calls, walked-next}
-use Rattle.merit.proofs.Walking.{Turned, turned-first, turned-room, turned-calls, turned-next}
-use Rattle.merit.proofs.Walking.{part-small, part-fits, call-fits, turn-fits, ended-met, ended-past}
+use Rattle.merit.proofs.Walking.{Turned, turned-first, turned-calls, turned-next, turn-fits, callable, ended-met, ended-past}
 use borrow.Author.Needs.{needs}
 use Rattle.merit.proofs.walk.Statement.{statement}
 use Rattle.merit.proofs.walk.Tie as tie
@@ -34,29 +34,8 @@ parts-in-requires c κs = (search needs, search needs, search walked-room, searc
 loop-holds : tie.Need-loop-holds Inv-loop μ-loop Inv-walk μ-walk
 loop-holds c = search turned-first
 
-mul-part : tie.Need-mul-part Inv-loop μ-loop Inv-walk μ-walk
-mul-part c = search needs
-
-slice-read-part : tie.Need-slice-read-part Inv-loop μ-loop Inv-walk μ-walk
-slice-read-part c = search needs
-
-cast-part : tie.Need-cast-part Inv-loop μ-loop Inv-walk μ-walk
-cast-part c = search part-small
-
-mul-called : tie.Need-mul-called Inv-loop μ-loop Inv-walk μ-walk
-mul-called c = search needs
-
-slice-read-called : tie.Need-slice-read-called Inv-loop μ-loop Inv-walk μ-walk
-slice-read-called c = search turned-room
-
-add-called : tie.Need-add-called Inv-loop μ-loop Inv-walk μ-walk
-add-called c = search call-fits
-
-slice-write-called : tie.Need-slice-write-called Inv-loop μ-loop Inv-walk μ-walk
-slice-write-called c = search turned-room
-
-sub-t24 : tie.Need-sub-t24 Inv-loop μ-loop Inv-walk μ-walk
-sub-t24 c = search part-fits
+call-part-requires : tie.Need-call-part-requires Inv-loop μ-loop Inv-walk μ-walk
+call-part-requires c κs = callable _ _ _ _ _ _ (c .before .before .before .loop .inv) (search needs)
 
 add-i : tie.Need-add-i Inv-loop μ-loop Inv-walk μ-walk
 add-i c = search turn-fits
@@ -67,22 +46,14 @@ loop-less c = search needs
 loop-again : tie.Need-loop-again Inv-loop μ-loop Inv-walk μ-walk
 loop-again c = search turned-next
 
-add-t26 : tie.Need-add-t26 Inv-loop μ-loop Inv-walk μ-walk
-add-t26 c = search needs
+next-bid-requires : tie.Need-next-bid-requires Inv-loop μ-loop Inv-walk μ-walk
+next-bid-requires c κs = search needs
 
 walk-less : tie.Need-walk-less Inv-loop μ-loop Inv-walk μ-walk
-walk-less c = search needs
+walk-less c = search next-less
 
 walk-again : tie.Need-walk-again Inv-loop μ-loop Inv-walk μ-walk
-walk-again c =
-    let turn = c .before .before in
-    let shared = turn .before .before .before .before .before in
-    let walk = shared .before .before .before .before .before in
-    let start = walk .before .before .before .before .before .before in (
-      walked-next _ _ _ _ _ _ (start .pre .0) _ _ _ _ (walk .walk .inv .0) (shared .parts-in .ensures) _ _ _ (turn .loop .inv) (search needs),
-      search needs,
-      search needs,
-    )
+walk-again c = (search walked-next, search needs, search needs)
 
 same-length : tie.Need-same-length Inv-loop μ-loop Inv-walk μ-walk
 same-length c = search walked-calls
@@ -119,18 +90,11 @@ walk-spec =
     walk-holds
     parts-in-requires
     loop-holds
-    mul-part
-    slice-read-part
-    cast-part
-    mul-called
-    slice-read-called
-    add-called
-    slice-write-called
-    sub-t24
+    call-part-requires
     add-i
     loop-less
     loop-again
-    add-t26
+    next-bid-requires
     walk-less
     walk-again
     same-length
