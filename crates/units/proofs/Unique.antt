@@ -19,6 +19,8 @@ use Rattle.units.proofs.Li.from_column.Reads as li-from-column
 use Rattle.units.proofs.Li.column.Reads as li-column
 use Rattle.units.proofs.Fen.from_column.Reads as fen-from-column
 use Rattle.units.proofs.Fen.column.Reads as fen-column
+use Rattle.units.proofs.Fen.smaller.Reads as fen-smaller
+use Rattle.units.proofs.Fen.less.Reads as fen-less
 
 pub load-unique : One-result load.Learnt
 load-unique κs a x y e f p q = ap (λ (m : ℕ). record { 0 = m }) (p ∙ sym q)
@@ -70,3 +72,9 @@ fen-from-column-unique κs a x y e f p q = ap (λ (m : ℕ). record { 0 = m }) (
 
 pub fen-column-unique : One-result fen-column.Learnt
 fen-column-unique κs a x y e f p q = p ∙ sym q
+
+pub fen-smaller-unique : One-result fen-smaller.Learnt
+fen-smaller-unique κs a x y e f p q = ap (λ (m : ℕ). record { 0 = m }) (p ∙ sym q)
+
+pub fen-less-unique : One-result fen-less.Learnt
+fen-less-unique κs a x y e f p q = ap (λ (m : ℕ). record { 0 = m }) (p ∙ sym q)

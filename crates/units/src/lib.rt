@@ -5,6 +5,7 @@ ghost use mathlib.Core.Bool.{cond};
 ghost use Prim.Native.Nat.{_+_, _-_, _*_, _/_, _^_, _<_, min, max};
 ghost use Rattle.units.specs.Measure.{toFen, priced, thermalCap};
 ghost use Rattle.units.specs.Load.{load, most};
+ghost use Prim.Native.Nat.{_≤_};
 use columns::counted;
 
 pub struct Kwh(pub u32);
@@ -133,6 +134,24 @@ impl Fen {
         ensures { λ r. ⌜ r ≡ self .0 ⌝ }
     {
         self.0 as u32
+    }
+
+    // The smaller of two sums of money.
+    pub fn smaller(self, other: Fen) -> Fen
+        ensures { λ r. ⌜ r .0 ≡ min (self .0) (other .0) ⌝ }
+    {
+        if self.0 < other.0 {
+            return self;
+        }
+        other
+    }
+
+    // What is left once another sum is taken off, which must be no more than this one.
+    pub fn less(self, other: Fen) -> Fen
+        requires { ⌜ other .0 ≤ self .0 ⌝ }
+        ensures { λ r. ⌜ r .0 ≡ self .0 - other .0 ⌝ }
+    {
+        Fen(self.0 - other.0)
     }
 }
 
