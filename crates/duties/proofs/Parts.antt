@@ -7,7 +7,7 @@
 use Prim.Native.Nat.{ℕ, _+_, _-_, _*_, _^_, _≤_, min}
 use mathlib.Core.Path.{_≡_, refl}
 use mathlib.Core.Bool.{Bool, true, false, cond, not, _&&_, _||_}
-use native.Mathlib.Nat.{mul-le-mul-left}
+use native.Mathlib.Nat.{mul-le-mul}
 use native.Mathlib.Omega.{arith}
 use lib.Dec.{leb, eqb}
 use mir.Syntax.{w32}
@@ -65,9 +65,9 @@ steps base c e low high one two three b l h f g i =
     rw (f, g, i, ← l, ← h)
     (thrice (e - base) (e - low) (e - high) (min e low - base) (min e high - low) (parted e base low under) (parted e low high rising))
 
--- a baseline of up to 60 percent
-pub low-base : (c percent base : ℕ) → percent ≤ 60 → base ≡ load c percent → base ≤ load c 60
-low-base c percent base l is = omega (arith, is, mul-le-mul-left (c * 250) l)
+-- a baseline of up to 60 percent, of this capacity or a smaller one
+pub low-base : (c d percent base : ℕ) → d ≤ c → percent ≤ 60 → base ≡ load d percent → base ≤ load c 60
+low-base c d percent base h l is = let wide : d * 250 ≤ c * 250 = omega arith in omega (arith, is, mul-le-mul wide l)
 
 module _ (t : Terms) (r : Row) (e : ℕ) (is : e ≡ cond (payer t r) (r .metered .0) 0) where
   pub weight-of : (base w x : ℕ) → base ≡ baseline t (r .capacity) → w ≡ thermalWeight base (r .capacity) e

@@ -1,6 +1,12 @@
 -- Two results that one contract allows are equal, for each public function: theorems of the contract itself (`Learnt`).
+use Prim.Native.Nat.{ℕ, _≤_, _<_}
 use mathlib.Core.Path.{_≡_, sym, _∙_}
+use mathlib.Core.Logic.{⊎-elim}
+use mathlib.Core.List.{List}
+use native.Mathlib.Omega.{arith}
+use Rattle.columns.proofs.Sum.{lt-or-le}
 use Rattle.columns.proofs.Unique.{Leaves-one, One-result}
+use Rattle.files.specs.Walk.{Sought}
 use Rattle.files.proofs.read.head_at.Reads as head-at
 use Rattle.files.proofs.read.row_at.Reads as row-at
 use Rattle.files.proofs.read.correction_head_at.Reads as correction-head-at
@@ -15,6 +21,9 @@ use Rattle.files.proofs.refusal.check.Reads as check
 use Rattle.files.proofs.counts.counting.Reads as counting
 use Rattle.files.proofs.counts.sources.Reads as sources
 use Rattle.files.proofs.counts.counting_row.Reads as counting-row
+use Rattle.files.proofs.refusal.row_count.Reads as row-count
+use Rattle.files.proofs.refusal.correction_count.Reads as correction-count
+use Rattle.files.proofs.refusal.seek.Reads as seek
 
 pub head-at-unique : One-result head-at.Learnt
 head-at-unique κs a x y e f p q = p ∙ sym q
@@ -57,3 +66,17 @@ sources-unique κs a x y e f p q = p ∙ sym q
 
 pub counting-row-unique : One-result counting-row.Learnt
 counting-row-unique κs a x y e f p q = p ∙ sym q
+
+pub row-count-unique : One-result row-count.Learnt
+row-count-unique κs a x y e f p q = p .0 ∙ sym (q .0)
+
+pub correction-count-unique : One-result correction-count.Learnt
+correction-count-unique κs a x y e f p q = p .0 ∙ sym (q .0)
+
+-- no row that is sought comes after another
+not-later : (s : List ℕ) (start n id r q : ℕ) → Sought s start n id r → Sought s start n id q → r ≤ q
+not-later s start n id r q w v =
+    ⊎-elim (λ (l : q < r). absurd (omega (arith, w .under q l, v .reached (omega (arith, w .short))))) (λ (l : r ≤ q). l) (lt-or-le q r)
+
+pub seek-unique : One-result seek.Learnt
+seek-unique κs a x y e f p q = omega (arith, not-later _ _ _ _ _ _ p q, not-later _ _ _ _ _ _ q p)

@@ -135,9 +135,8 @@ module _ (n : ℕ) (weights caps marks : List ℕ) (money weight rounds : ℕ) (
       pub count-in : rounds + 1 < 2 ^ 32
       count-in = omega (arith, asked .early)
 
-      -- whatever the money falls by
-      pub ready-again : (by : ℕ) → Ready n weights caps after (money - by) (weight - r .weights) (rounds + 1) kept (r .left)
-      ready-again by =
+      pub ready-again : (left : ℕ) → left ≡ money - r .caps .0 → Ready n weights caps after left (weight - r .weights) (rounds + 1) kept (r .left)
+      ready-again left is =
           record {
             held =
                 record {
@@ -147,7 +146,7 @@ module _ (n : ℕ) (weights caps marks : List ℕ) (money weight rounds : ℕ) (
                   marks-long = shut .long;
                   light = asked .held .light;
                   low = asked .held .low;
-                  rich = omega (arith, asked .held .rich);
+                  rich = omega (arith, is, asked .held .rich);
                 };
             weight-is = after-sound .weight-is;
             marks-le = after-sound .marks-le;
@@ -156,13 +155,13 @@ module _ (n : ℕ) (weights caps marks : List ℕ) (money weight rounds : ℕ) (
             listed = shut .listed;
           }
 
-      pub went-on : (end rest : List ℕ)
-          → Ended n weights caps after (standing n after (money - r .caps .0) (weight - r .weights) (rounds + 1)) end rest
+      pub went-on : (left : ℕ) → left ≡ money - r .caps .0 → (end rest : List ℕ)
+          → Ended n weights caps after (standing n after left (weight - r .weights) (rounds + 1)) end rest
           → Ended n weights caps marks (standing n marks money weight rounds) end rest
-      went-on end rest ended =
+      went-on left is end rest ended =
           record {
             is = run-again ws cs st (standing n end (at rest 0) (at rest 1) (at rest 2)) closing
-                (λ f l. ap (run f ws cs) (sym step-is) ∙ ended .is f (rw (shut .marks-are) l));
+                (λ f l. ap (run f ws cs) (sym step-is) ∙ (rw is at (ended .is f (rw (shut .marks-are) l))));
             past = ended .past ∙ shut .past;
             long = ended .long;
             early = ended .early;

@@ -3,10 +3,14 @@
 --     shortfall-unique
 --     cover-unique           what is left of a shortfall and of penalties
 --     payments-unique, apportion-unique      the columns
+--     counted-unique, list-payers-unique, count-visits-unique      of functions that only this crate calls; of the list its entries below
+--                            the count, since those past it are free
 use Prim.Native.Nat.{ℕ}
 use mathlib.Core.Path.{_≡_, ap, sym, _∙_}
 use mathlib.Core.List.{[]}
 use lib.ListN.{take-append-drop}
+use Rattle.columns.specs.Table.{at, Below}
+use Rattle.columns.proofs.Listed.{found}
 use Rattle.columns.proofs.Unique.{Leaves-one, One-result}
 use Rattle.levy.specs.Rounds.{Standing}
 use Rattle.levy.specs.Asked.{standingOf}
@@ -15,6 +19,9 @@ use Rattle.levy.proofs.closing.shortfall.Reads as shortfall-reads
 use Rattle.levy.proofs.paying.payments.Reads as payments-reads
 use Rattle.levy.proofs.filling.apportion.Reads as apportion-reads
 use Rattle.levy.proofs.filling.cover.Reads as cover-reads
+use Rattle.levy.proofs.listing.counted.Reads as counted-reads
+use Rattle.levy.proofs.listing.list_payers.Reads as list-payers-reads
+use Rattle.levy.proofs.visiting.count_visits.Reads as count-visits-reads
 
 pub rounds-unique : Leaves-one rounds-reads.Learnt (λ κs x y e f. (x ≡ y) × (e .1 .1 .1 .1 .0 .now ≡ f .1 .1 .1 .1 .0 .now))
 rounds-unique κs a x y e f p q =
@@ -41,3 +48,16 @@ cover-unique κs a x y e f p q =
 
 pub apportion-unique : Leaves-one apportion-reads.Learnt (λ κs x y e f. e .1 .1 .1 .0 .now ≡ f .1 .1 .1 .0 .now)
 apportion-unique κs a x y e f p q = p ∙ sym q
+
+pub counted-unique : One-result counted-reads.Learnt
+counted-unique κs a x y e f p q = p .0 ∙ sym (q .0)
+
+pub list-payers-unique : Leaves-one list-payers-reads.Learnt
+    (λ κs x y e f. (x ≡ y) × Below x (λ j. at (e .1 .1 .0 .now) j ≡ at (f .1 .1 .0 .now) j))
+list-payers-unique κs a x y e f p q = (
+  p .many ∙ sym (q .many),
+  λ j l. let s = found _ _ _ _ j p l in sym (ap (at (f .1 .1 .0 .now)) (sym (s .place)) ∙ q .places _ (s .inside) (s .passes)),
+)
+
+pub count-visits-unique : One-result count-visits-reads.Learnt
+count-visits-unique κs a x y e f p q = p ∙ sym q

@@ -85,7 +85,7 @@ fn redistribute(
         return;
     }
     redistribute(
-        Fen(money.0 - shut.caps.0),
+        money.less(shut.caps),
         weight - shut.weights,
         rounds + 1,
         n,

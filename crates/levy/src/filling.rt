@@ -6,29 +6,16 @@ use units::Fen;
 ghost use mathlib.Core.Path.{_≡_};
 ghost use lib.ListN.{length};
 ghost use Rattle.share.specs.Share.{shares};
-ghost use Rattle.levy.specs.Rounds.{filled};
 ghost use Rattle.levy.specs.Asked.{Small, Room, Covered, Apportionable};
-
-// The smaller of the two.
-fn filled(penalties: Fen, shortfall: Fen) -> Fen
-    ensures { λ r. ⌜ r .0 ≡ filled (penalties .0) (shortfall .0) ⌝ }
-{
-    if penalties.0 < shortfall.0 {
-        return penalties;
-    }
-    shortfall
-}
 
 // Penalties fill a shortfall before anybody is cut; what is not needed goes back.
 pub fn cover(penalties: Fen, shortfall: Fen) -> Left
     ensures { λ r. ⌜ Covered (penalties .0) (shortfall .0) r ⌝ }
 {
-    let used = filled(penalties, shortfall);
-    let cut = shortfall.0 - used.0;
-    let returned = penalties.0 - used.0;
+    let used = penalties.smaller(shortfall);
     Left {
-        cut: Fen(cut),
-        returned: Fen(returned),
+        cut: shortfall.less(used),
+        returned: penalties.less(used),
     }
 }
 

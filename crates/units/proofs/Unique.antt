@@ -21,6 +21,9 @@ use Rattle.units.proofs.Li.from_column.Reads as li-from-column
 use Rattle.units.proofs.Li.column.Reads as li-column
 use Rattle.units.proofs.Kwh.from_wide.Reads as from-wide
 use Rattle.units.proofs.Kwh.wide.Reads as wide
+use Rattle.units.proofs.Fen.smaller.Reads as fen-smaller
+use Rattle.units.proofs.Fen.plus.Reads as fen-plus
+use Rattle.units.proofs.Fen.less.Reads as fen-less
 
 pub load-unique : One-result load.Learnt
 load-unique κs a x y e f p q = ap (λ (m : ℕ). record { 0 = m }) (p ∙ sym q)
@@ -78,3 +81,12 @@ from-wide-unique κs a x y e f p q = ap (λ (m : ℕ). record { 0 = m }) (p ∙ 
 
 pub wide-unique : One-result wide.Learnt
 wide-unique κs a x y e f p q = p ∙ sym q
+
+pub fen-smaller-unique : One-result fen-smaller.Learnt
+fen-smaller-unique κs a x y e f p q = ap (λ (m : ℕ). record { 0 = m }) (p ∙ sym q)
+
+pub fen-plus-unique : One-result fen-plus.Learnt
+fen-plus-unique κs a x y e f p q = ap (λ (m : ℕ). record { 0 = m }) (p ∙ sym q)
+
+pub fen-less-unique : One-result fen-less.Learnt
+fen-less-unique κs a x y e f p q = ap (λ (m : ℕ). record { 0 = m }) (p ∙ sym q)

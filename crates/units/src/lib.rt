@@ -150,6 +150,34 @@ impl Li {
     }
 }
 
+impl Fen {
+    // The smaller of two sums of money.
+    pub fn smaller(self, other: Fen) -> Fen
+        ensures { λ r. ⌜ r .0 ≡ min (self .0) (other .0) ⌝ }
+    {
+        if self.0 < other.0 {
+            return self;
+        }
+        other
+    }
+
+    // Two sums of money together.
+    pub fn plus(self, other: Fen) -> Fen
+        requires { ⌜ self .0 + other .0 < 2 ^ 64 ⌝ }
+        ensures { λ r. ⌜ r .0 ≡ self .0 + other .0 ⌝ }
+    {
+        Fen(self.0 + other.0)
+    }
+
+    // What is left of this sum without a part of it.
+    pub fn less(self, part: Fen) -> Fen
+        requires { ⌜ part .0 ≤ self .0 ⌝ }
+        ensures { λ r. ⌜ r .0 ≡ self .0 - part .0 ⌝ }
+    {
+        Fen(self.0 - part.0)
+    }
+}
+
 // So many percent of a capacity in MW over a quarter hour, cut to whole kWh.
 pub fn load(capacity: u16, percent: u8) -> Kwh
     ensures { λ r. ⌜ r .0 ≡ load capacity percent ⌝ }

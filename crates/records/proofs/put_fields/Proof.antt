@@ -40,7 +40,11 @@ loop-less : tie.Need-loop-less Inv-loop μ-loop
 loop-less c = search needs
 
 loop-again : tie.Need-loop-again Inv-loop μ-loop
-loop-again c = search owed-next
+loop-again c =
+    let put = c .before .before in
+    let width = put .before .before .before in
+    let loop = width .before .before .before in
+    owed-next _ _ _ _ _ _ _ (loop .loop .inv) _ _ (width .wide .ensures .0) (put .put-number .ensures) (search needs) (search needs) (search needs)
 
 same-length : tie.Need-same-length Inv-loop μ-loop
 same-length c = search needs

@@ -11,7 +11,7 @@ baseline-requires : tie.Need-baseline-requires
 baseline-requires c κs = search needs
 
 thermal-weight-requires : tie.Need-thermal-weight-requires
-thermal-weight-requires c κs = (search counted-le, search low-base)
+thermal-weight-requires c κs = (search counted-le, search (low-base, needs))
 
 or-requires : tie.Need-or-requires
 or-requires c κs = search needs

@@ -8,6 +8,7 @@ use Rattle.levy.proofs.closing.redistribute.Reads as redistribute
 use Rattle.levy.proofs.closing.redistribute.Kinds as redistribute-kinds
 use Rattle.levy.proofs.closing.+redistribute.Lts-redistribute as redistribute-lts
 use Rattle.levy.proofs.closing.close_round.Reads as close-round-reads
+use Rattle.units.proofs.Fen.less.Reads as less-reads
 use Rattle.levy.proofs.closing.+redistribute.{statement}
 use Rattle.levy.proofs.closing.+redistribute.Tie.{close}
 
@@ -29,6 +30,8 @@ redistribute-below t =
 redistribute-close-round-requires : (t : ℕ) → redistribute-lts.Need-close-round-requires (
   close-round-reads.Asked,
   close-round-reads.Learnt,
+  less-reads.Asked,
+  less-reads.Learnt,
   redistribute-below t,
   redistribute.Post,
 ) (redistribute-at t) redistribute.Post
@@ -37,22 +40,28 @@ redistribute-close-round-requires t c κs = search round-asked
 redistribute-returns : (t : ℕ) → redistribute-lts.Need-returns (
   close-round-reads.Asked,
   close-round-reads.Learnt,
+  less-reads.Asked,
+  less-reads.Learnt,
   redistribute-below t,
   redistribute.Post,
 ) (redistribute-at t) redistribute.Post
 redistribute-returns t c = search stopped
 
-redistribute-sub-t17 : (t : ℕ) → redistribute-lts.Need-sub-t17 (
+redistribute-less-requires : (t : ℕ) → redistribute-lts.Need-less-requires (
   close-round-reads.Asked,
   close-round-reads.Learnt,
+  less-reads.Asked,
+  less-reads.Learnt,
   redistribute-below t,
   redistribute.Post,
 ) (redistribute-at t) redistribute.Post
-redistribute-sub-t17 t c = search (caps-in, needs)
+redistribute-less-requires t c κs = search (caps-in, needs)
 
 redistribute-sub-redistribute : (t : ℕ) → redistribute-lts.Need-sub-redistribute (
   close-round-reads.Asked,
   close-round-reads.Learnt,
+  less-reads.Asked,
+  less-reads.Learnt,
   redistribute-below t,
   redistribute.Post,
 ) (redistribute-at t) redistribute.Post
@@ -61,6 +70,8 @@ redistribute-sub-redistribute t c = search (weights-in, needs)
 redistribute-add-redistribute : (t : ℕ) → redistribute-lts.Need-add-redistribute (
   close-round-reads.Asked,
   close-round-reads.Learnt,
+  less-reads.Asked,
+  less-reads.Learnt,
   redistribute-below t,
   redistribute.Post,
 ) (redistribute-at t) redistribute.Post
@@ -69,6 +80,8 @@ redistribute-add-redistribute t c = record { fits = search count-in }
 redistribute-redistribute-requires : (t : ℕ) → redistribute-lts.Need-redistribute-requires (
   close-round-reads.Asked,
   close-round-reads.Learnt,
+  less-reads.Asked,
+  less-reads.Learnt,
   redistribute-below t,
   redistribute.Post,
 ) (redistribute-at t) redistribute.Post
@@ -77,6 +90,8 @@ redistribute-redistribute-requires t c κs = (search left-less, search ready-aga
 redistribute-returns-2 : (t : ℕ) → redistribute-lts.Need-returns-2 (
   close-round-reads.Asked,
   close-round-reads.Learnt,
+  less-reads.Asked,
+  less-reads.Learnt,
   redistribute-below t,
   redistribute.Post,
 ) (redistribute-at t) redistribute.Post
@@ -86,6 +101,8 @@ pub +redistribute-spec : {M : Type 1} → statement M
 +redistribute-spec = close μ-redistribute λ t. redistribute-lts.spec (
   close-round-reads.Asked,
   close-round-reads.Learnt,
+  less-reads.Asked,
+  less-reads.Learnt,
   redistribute-below t,
   redistribute.Post,
 )
@@ -93,7 +110,7 @@ pub +redistribute-spec : {M : Type 1} → statement M
     redistribute.Post
     (redistribute-close-round-requires t)
     (redistribute-returns t)
-    (redistribute-sub-t17 t)
+    (redistribute-less-requires t)
     (redistribute-sub-redistribute t)
     (redistribute-add-redistribute t)
     (redistribute-redistribute-requires t)

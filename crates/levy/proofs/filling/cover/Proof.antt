@@ -3,17 +3,17 @@ use borrow.Author.Needs.{needs}
 use Rattle.levy.proofs.filling.cover.Statement.{statement}
 use Rattle.levy.proofs.filling.cover.Tie as tie
 
-filled-requires : tie.Need-filled-requires
-filled-requires c κs = search needs
+smaller-requires : tie.Need-smaller-requires
+smaller-requires c κs = search needs
 
-sub-cut : tie.Need-sub-cut
-sub-cut c = search needs
+less-requires : tie.Need-less-requires
+less-requires c κs = search needs
 
-sub-returned : tie.Need-sub-returned
-sub-returned c = search needs
+less-requires-2 : tie.Need-less-requires-2
+less-requires-2 c κs = search needs
 
 returns : tie.Need-returns
 returns c = search needs
 
 pub cover-spec : {M : Type 1} → statement M
-cover-spec = tie.close (tie.spec filled-requires sub-cut sub-returned returns)
+cover-spec = tie.close (tie.spec smaller-requires less-requires less-requires-2 returns)
