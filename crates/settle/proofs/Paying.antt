@@ -110,8 +110,8 @@ module _ (n p1 p2 : ℕ) (s₀ : List ℕ) (asked : Accountable n p1 p2 s₀) wh
         penalties-fit = omega (arith, owed-is, same-figure owing, asked .owed-small i l, sofar .penalties-small, asked .few)
 
         pub sofar-more : (t : List ℕ) → t ≡ withCell line.pay i (pay .0) s → (u : List ℕ) → u ≡ withCell line.owed i (owed .0) t
-            → Sofar n p1 p2 s₀ u (total + pay .0) (penalties + owed .0) (i + 1)
-        sofar-more t put-pay u put-owed =
+            → (more : ℕ) → more ≡ total + pay .0 → (most : ℕ) → most ≡ penalties + owed .0 → Sofar n p1 p2 s₀ u more most (i + 1)
+        sofar-more t put-pay u put-owed more total-now most penalties-now =
             let paid-now = pay-is ∙ same-figure paying in
             let owed-now = owed-is ∙ same-figure owing in
             record {

@@ -207,20 +207,17 @@ pub fn account(n: usize, price1: Li, price2: Li, sheet: &mut [u8]) -> Accounts
     requires { ⌜ Accountable n (price1 .0) (price2 .0) (now sheet) ⌝ }
     ensures { λ r. ⌜ Accounted n (price1 .0) (price2 .0) (now (sheet .entry)) (now (sheet .exit)) r ⌝ }
 {
-    let mut total: u64 = 0;
-    let mut penalties: u64 = 0;
+    let mut total = Fen(0);
+    let mut penalties = Fen(0);
     let mut i = 0;
     while i < n {
         let pay = pay_at(sheet, i, price1, price2);
         let owed = owed_at(sheet, i, price1, price2);
         put_cell(sheet, PAY, i, pay.0);
         put_cell(sheet, OWED, i, owed.0);
-        total += pay.0;
-        penalties += owed.0;
+        total = total.plus(pay);
+        penalties = penalties.plus(owed);
         i += 1;
     }
-    Accounts {
-        total: Fen(total),
-        penalties: Fen(penalties),
-    }
+    Accounts { total, penalties }
 }

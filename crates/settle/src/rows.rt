@@ -11,7 +11,6 @@ use statement::LINE;
 use statement::LINE_LETTER;
 use statement::LINE_WIDTHS;
 use units::Hao;
-use units::Kwh;
 ghost use mathlib.Core.Path.{_≡_};
 ghost use Prim.Native.Nat.{_+_, _<_, _≤_};
 ghost use lib.ListN.{length};
@@ -23,13 +22,6 @@ ghost use Rattle.files.specs.Counting.{sourceOf};
 ghost use Rattle.statement.specs.Statement.{letterL, lineWidths, lineStart};
 ghost use Rattle.settle.specs.Work.{lined, dutyLine, rowLine};
 
-// An energy as a field of a line.
-fn field(energy: Kwh) -> u64
-    ensures { λ r. ⌜ r ≡ energy .0 ⌝ }
-{
-    energy.0 as u64
-}
-
 // Puts one row's line: its id and its duties.
 fn put_duty(sheet: &mut [u8], i: usize, id: u16, d: Duty)
     requires { ⌜ (i < 256) × (lineStart (i + 1) ≤ length (now sheet)) ⌝ }
@@ -37,16 +29,16 @@ fn put_duty(sheet: &mut [u8], i: usize, id: u16, d: Duty)
 {
     let fields = [
         id as u64,
-        field(d.width1),
-        field(d.width2),
-        field(d.energy1),
-        field(d.energy2),
-        field(d.weight),
+        d.width1.wide(),
+        d.width2.wide(),
+        d.energy1.wide(),
+        d.energy2.wide(),
+        d.weight.wide(),
         d.cap.0,
         d.bid2.0,
         d.bid1.0,
-        field(d.credit1),
-        field(d.credit2),
+        d.credit1.wide(),
+        d.credit2.wide(),
     ];
     put_record(sheet, HEAD + i * LINE, LINE_LETTER, &LINE_WIDTHS, &fields);
 }

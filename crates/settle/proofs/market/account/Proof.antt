@@ -6,7 +6,7 @@ use Rattle.settle.proofs.market.account.Statement.{statement}
 use Rattle.settle.proofs.market.account.Tie as tie
 
 abbrev Inv-loop : tie.InvT-loop
-Inv-loop n price1 price2 sheet₀ total₀ penalties₀ i₀ sheet total penalties i = Sofar n (price1 .0) (price2 .0) sheet₀ sheet total penalties i
+Inv-loop n price1 price2 sheet₀ total₀ penalties₀ i₀ sheet total penalties i = Sofar n (price1 .0) (price2 .0) sheet₀ sheet (total .0) (penalties .0) i
 
 abbrev μ-loop : tie.MeasureT-loop
 μ-loop n price1 price2 sheet₀ total₀ penalties₀ i₀ sheet total penalties i = n - i
@@ -29,11 +29,11 @@ put-cell-requires-2 c κs =
     let test = put .before .before .before .before .before .before in
     owed-there _ _ _ _ (test .before .before .before .pre) _ _ _ _ (test .before .loop .inv) (test .loop-test .taken) _ _ (put .put-cell .ensures)
 
-add-total : tie.Need-add-total Inv-loop μ-loop
-add-total c = record { fits = search total-fits }
+plus-requires : tie.Need-plus-requires Inv-loop μ-loop
+plus-requires c κs = search total-fits
 
-add-penalties : tie.Need-add-penalties Inv-loop μ-loop
-add-penalties c = record { fits = search penalties-fit }
+plus-requires-2 : tie.Need-plus-requires-2 Inv-loop μ-loop
+plus-requires-2 c κs = search penalties-fit
 
 add-i : tie.Need-add-i Inv-loop μ-loop
 add-i c = search needs
@@ -49,7 +49,8 @@ loop-again c =
     let pay = owed .before .before in
     let test = pay .before .before in
     sofar-more _ _ _ _ (test .before .before .before .pre) _ _ _ _ (test .before .loop .inv) (test .loop-test .taken) _ _ (pay .pay-at .ensures)
-    (owed .owed-at .ensures) _ (put .put-cell .ensures) _ (put2 .put-cell2 .ensures)
+    (owed .owed-at .ensures) _ (put .put-cell .ensures) _ (put2 .put-cell2 .ensures) _ (c .before .plus .ensures)
+    _ (c .plus2 .ensures)
 
 same-length : tie.Need-same-length Inv-loop μ-loop
 same-length c = search sofar-long
@@ -68,8 +69,8 @@ account-spec =
     owed-at-requires
     put-cell-requires
     put-cell-requires-2
-    add-total
-    add-penalties
+    plus-requires
+    plus-requires-2
     add-i
     loop-less
     loop-again

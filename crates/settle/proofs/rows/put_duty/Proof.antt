@@ -4,26 +4,26 @@ use borrow.Author.Needs.{needs}
 use Rattle.settle.proofs.rows.put_duty.Statement.{statement}
 use Rattle.settle.proofs.rows.put_duty.Tie as tie
 
-field-requires : tie.Need-field-requires
-field-requires c κs = search needs
+wide-requires : tie.Need-wide-requires
+wide-requires c κs = search needs
 
-field-requires-2 : tie.Need-field-requires-2
-field-requires-2 c κs = search needs
+wide-requires-2 : tie.Need-wide-requires-2
+wide-requires-2 c κs = search needs
 
-field-requires-3 : tie.Need-field-requires-3
-field-requires-3 c κs = search needs
+wide-requires-3 : tie.Need-wide-requires-3
+wide-requires-3 c κs = search needs
 
-field-requires-4 : tie.Need-field-requires-4
-field-requires-4 c κs = search needs
+wide-requires-4 : tie.Need-wide-requires-4
+wide-requires-4 c κs = search needs
 
-field-requires-5 : tie.Need-field-requires-5
-field-requires-5 c κs = search needs
+wide-requires-5 : tie.Need-wide-requires-5
+wide-requires-5 c κs = search needs
 
-field-requires-6 : tie.Need-field-requires-6
-field-requires-6 c κs = search needs
+wide-requires-6 : tie.Need-wide-requires-6
+wide-requires-6 c κs = search needs
 
-field-requires-7 : tie.Need-field-requires-7
-field-requires-7 c κs = search needs
+wide-requires-7 : tie.Need-wide-requires-7
+wide-requires-7 c κs = search needs
 
 mul-put-record : tie.Need-mul-put-record
 mul-put-record c = search needs
@@ -50,13 +50,13 @@ pub put-duty-spec : {M : Type 1} → statement M
 put-duty-spec =
     tie.close
     (tie.spec
-    field-requires
-    field-requires-2
-    field-requires-3
-    field-requires-4
-    field-requires-5
-    field-requires-6
-    field-requires-7
+    wide-requires
+    wide-requires-2
+    wide-requires-3
+    wide-requires-4
+    wide-requires-5
+    wide-requires-6
+    wide-requires-7
     mul-put-record
     add-put-record
     slice-aggregate-put-record
