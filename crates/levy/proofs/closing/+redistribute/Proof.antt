@@ -1,5 +1,7 @@
 -- `levy::redistribute` meets its contract: each round leaves fewer open, and the rest is the same function of what it left.
 use Prim.Native.Nat.{ℕ, _<_}
+use mathlib.Core.Path.{_≡_}
+use native.Mathlib.Omega.{arith}
 use borrow.Author.Needs.{needs}
 use borrow.Fn.Kinds.{In}
 use borrow.Fn.PlainCycle.{Measures, is, falls, and}
@@ -75,8 +77,9 @@ redistribute-add-redistribute : (t : ℕ) → redistribute-lts.Need-add-redistri
   redistribute-below t,
   redistribute.Post,
 ) (redistribute-at t) redistribute.Post
-redistribute-add-redistribute t c = record { fits = search count-in }
+redistribute-add-redistribute t c = record { fits = search (count-in, needs) }
 
+-- the test left says that somebody closed, here and below
 redistribute-redistribute-requires : (t : ℕ) → redistribute-lts.Need-redistribute-requires (
   close-round-reads.Asked,
   close-round-reads.Learnt,
@@ -85,7 +88,10 @@ redistribute-redistribute-requires : (t : ℕ) → redistribute-lts.Need-redistr
   redistribute-below t,
   redistribute.Post,
 ) (redistribute-at t) redistribute.Post
-redistribute-redistribute-requires t c κs = (search left-less, search ready-again)
+redistribute-redistribute-requires t c κs =
+    let test = c .before .before .before .before .before in
+    let some : test .before .before .close-round .result .weights ≡ 0 → ⊥ = λ e. omega (arith, e, test .if1 .left) in
+    (search left-less, search ready-again)
 
 redistribute-returns-2 : (t : ℕ) → redistribute-lts.Need-returns-2 (
   close-round-reads.Asked,
@@ -95,7 +101,10 @@ redistribute-returns-2 : (t : ℕ) → redistribute-lts.Need-returns-2 (
   redistribute-below t,
   redistribute.Post,
 ) (redistribute-at t) redistribute.Post
-redistribute-returns-2 t c = search went-on
+redistribute-returns-2 t c =
+    let test = c .before .before .before .before .before .before in
+    let some : test .before .before .close-round .result .weights ≡ 0 → ⊥ = λ e. omega (arith, e, test .if1 .left) in
+    search went-on
 
 pub +redistribute-spec : {M : Type 1} → statement M
 +redistribute-spec = close μ-redistribute λ t. redistribute-lts.spec (
