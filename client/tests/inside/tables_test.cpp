@@ -18,6 +18,7 @@
 
 #include <algorithm>
 #include <filesystem>
+#include <optional>
 #include <set>
 
 using namespace client;
@@ -63,6 +64,17 @@ void lay_out_large(Desk &desk) {
 void settle(Desk &desk, QSize size) {
     desk.window().resize(size);
     QTest::qWait(30);
+}
+
+// The example day as one of its wind farms sees it, and one of its quarters.
+void open_example(Desk &desk, QSize size, std::optional<Quarter> quarter = std::nullopt) {
+    lay_out_example(desk);
+    desk.open();
+    settle(desk, size);
+    desk.window().choose_plant({101});
+    if (quarter) {
+        desk.window().choose_quarter(*quarter);
+    }
 }
 
 QTableView *table_of(Desk &desk, const QString &name) {
@@ -312,11 +324,7 @@ void TablesTest::the_sums_are_always_in_sight() {
 
 void TablesTest::keys_reach_the_sums() {
     Desk desk;
-    lay_out_example(desk);
-    desk.open();
-    settle(desk, usual);
-    desk.window().choose_plant({101});
-    desk.window().choose_quarter({0});
+    open_example(desk, usual, Quarter{0});
     QTableView &table = *day_table(desk);
     table.setFocus();
     const int sums = row_of(table, "Sum");
@@ -353,11 +361,7 @@ void TablesTest::keys_reach_the_sums() {
 
 void TablesTest::the_pointer_reaches_what_stays_in_sight() {
     Desk desk;
-    lay_out_example(desk);
-    desk.open();
-    settle(desk, usual);
-    desk.window().choose_plant({101});
-    desk.window().choose_quarter({0});
+    open_example(desk, usual, Quarter{0});
     QTableView &table = *day_table(desk);
     table.verticalScrollBar()->setValue(0);
     const QModelIndex net = table.model()->index(2, column_of(table, "Net"));
@@ -370,11 +374,7 @@ void TablesTest::the_pointer_reaches_what_stays_in_sight() {
 
 void TablesTest::rows_stay_where_they_are() {
     Desk desk({.by_events = false, .glance_ms = 0});
-    lay_out_example(desk);
-    desk.open();
-    settle(desk, small);
-    desk.window().choose_plant({101});
-    desk.window().choose_quarter({12});
+    open_example(desk, small, Quarter{12});
     press(desk.window(), Qt::Key_3, Qt::ControlModifier);
     QTest::qWait(30);
     QTableView &table = *rows_table(desk);
@@ -403,10 +403,7 @@ void TablesTest::rows_stay_where_they_are() {
 
 void TablesTest::another_quarter_is_brought_into_sight() {
     Desk desk({.by_events = false, .glance_ms = 0});
-    lay_out_example(desk);
-    desk.open();
-    settle(desk, small);
-    desk.window().choose_plant({101});
+    open_example(desk, small);
     press(desk.window(), Qt::Key_3, Qt::ControlModifier);
     QTableView &table = *rows_table(desk);
     for (const unsigned quarter : {90u, 3u}) {
@@ -419,11 +416,7 @@ void TablesTest::another_quarter_is_brought_into_sight() {
 
 void TablesTest::rows_have_sums() {
     Desk desk;
-    lay_out_example(desk);
-    desk.open();
-    settle(desk, small);
-    desk.window().choose_plant({101});
-    desk.window().choose_quarter({12});
+    open_example(desk, small, Quarter{12});
     press(desk.window(), Qt::Key_3, Qt::ControlModifier);
     QTest::qWait(30);
     QTableView &table = *rows_table(desk);
@@ -483,10 +476,7 @@ void TablesTest::rows_have_sums() {
 
 void TablesTest::a_quarter_without_a_statement_is_marked() {
     Desk desk;
-    lay_out_example(desk);
-    desk.open();
-    settle(desk, usual);
-    desk.window().choose_plant({101});
+    open_example(desk, usual);
     press(desk.window(), Qt::Key_3, Qt::ControlModifier);
     QTableView &table = *rows_table(desk);
     constexpr int refused = 18, missing = 71;
