@@ -1,5 +1,5 @@
 -- Lists by position: a column is a list of numbers with 0 past its end.
-use Prim.Native.Nat.{ℕ, zero, suc, _+_, _≤_, _<_}
+use Prim.Native.Nat.{ℕ, zero, suc, _<_}
 use mathlib.Core.List.{List, [], _∷_, _++_}
 use lib.ListN.{getD}
 
@@ -11,10 +11,6 @@ at xs k = getD xs k 0
 unfoldable pub table : {A : Type 0} → ℕ → (ℕ → A) → List A
 table zero f = []
 table (suc n) f = table n f ++ (f n ∷ [])
-
--- x is y, or one more
-abbrev pub SameOrOneMore : ℕ → ℕ → Type 0
-SameOrOneMore x y = (y ≤ x) × (x ≤ y + 1)
 
 -- P holds of every position below n
 abbrev pub Below : ℕ → (ℕ → Type 0) → Type 0

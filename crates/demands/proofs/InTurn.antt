@@ -7,13 +7,13 @@ use mathlib.Core.List.{List}
 use native.Mathlib.Omega.{arith}
 use lib.ListN.{length}
 use Rattle.columns.specs.Sum.{whole}
-use Rattle.columns.specs.Table.{at, SameOrOneMore}
+use Rattle.columns.specs.Table.{at}
 use Rattle.files.specs.Layout.{headAt, rowCount}
 use Rattle.files.specs.Terms.{termsOf}
 use Rattle.files.specs.Counting.{countingRow}
 use Rattle.duties.specs.Duties.{Duties, Level}
 use Rattle.duties.proofs.Laws.{duties-level}
-use Rattle.share.specs.Share.{turn}
+use Rattle.share.specs.Share.{turn, SameOrOneMore}
 use Rattle.merit.specs.Band.{Tier, one, two, widths, bids}
 use Rattle.merit.specs.Call.{calls}
 use Rattle.merit.proofs.Laws.{calls-at, called-alike}

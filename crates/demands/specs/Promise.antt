@@ -7,7 +7,7 @@ use mathlib.Core.List.{List}
 use lib.Dec.{eqb}
 use lib.ListN.{length}
 use Rattle.columns.specs.Sum.{sumTo, sumWhere, maxTo}
-use Rattle.columns.specs.Table.{at, SameOrOneMore}
+use Rattle.columns.specs.Table.{at}
 use Rattle.columns.specs.Sum.{whole}
 use Rattle.files.specs.Layout.{headAt, rowCount}
 use Rattle.files.specs.Terms.{termsOf}
@@ -17,7 +17,7 @@ use Rattle.files.specs.declared.Terms.{Terms}
 use Rattle.duties.specs.Duty.{normal, reduced, meterEnergy1, meterEnergy2}
 use Rattle.duties.specs.Duties.{Duties}
 use Rattle.pay.specs.Pay.{penalty}
-use Rattle.share.specs.Share.{turn}
+use Rattle.share.specs.Share.{turn, SameOrOneMore}
 use Rattle.levy.specs.Rounds.{payers, visitsTold}
 use Rattle.levy.specs.Capped.{hasClosed, outside, payersInside, capsInside, leftBy, weightsBeside, Capped}
 use Rattle.records.specs.Sheet.{columnOf}

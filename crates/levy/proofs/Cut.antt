@@ -20,10 +20,10 @@ use mathlib.Core.List.{List}
 use native.Mathlib.Omega.{arith}
 use lib.ListN.{length}
 use Rattle.columns.specs.Sum.{sumTo}
-use Rattle.columns.specs.Table.{at, SameOrOneMore}
+use Rattle.columns.specs.Table.{at}
 use Rattle.columns.proofs.Sum.{sum-same, sum-add}
 use Rattle.columns.specs.Sum.{whole}
-use Rattle.share.specs.Share.{turn, share}
+use Rattle.share.specs.Share.{turn, share, SameOrOneMore}
 use Rattle.share.proofs.Laws.{share-alike, share-le-amount, share-le-weight, shares-within, shares-length, shares-at, shares-are-weights}
 use Rattle.levy.specs.Rounds.{final, payments, shortfall, toCut, toReturn, cuts, returned}
 use Rattle.levy.proofs.Payment.{paid-total, shortfall-none, shortfall-all, shortfall-le}

@@ -28,10 +28,10 @@ use lib.Dec.{eqb}
 use lib.ListN.{length, List·getD-eq-default}
 use borrow.Author.Tests.{eq-eqb, ne-eqb}
 use Rattle.columns.specs.Sum.{sumTo, whole, sumWhere}
-use Rattle.columns.specs.Table.{at, SameOrOneMore}
+use Rattle.columns.specs.Table.{at}
 use Rattle.columns.proofs.Sum.{lt-or-le, sum-same, sum-add, sum-zero}
 use Rattle.columns.proofs.Table.{table-length, table-at, table-past}
-use Rattle.share.specs.Share.{turn, share, shares}
+use Rattle.share.specs.Share.{turn, share, shares, SameOrOneMore}
 use Rattle.share.proofs.Laws.{share-alike, share-zero, share-under, share-near-over, share-near-short, shares-sum, shares-none, shares-length, shares-at}
 use Rattle.levy.specs.Rounds.{Standing, final, openWeights, paid, payments, shortfall}
 use Rattle.levy.specs.Capped.{hasClosed, capsInside}

@@ -21,12 +21,12 @@ use lib.Dec.{ltb, eqb}
 use lib.ListN.{length}
 use borrow.Author.Tests.{lt-ltb, le-ltb, eq-eqb, ne-eqb, eqb-true, eqb-false}
 use Rattle.columns.specs.Sum.{sumTo, whole}
-use Rattle.columns.specs.Table.{at, table, Below, SameOrOneMore}
+use Rattle.columns.specs.Table.{at, table, Below}
 use Rattle.columns.proofs.Sum.{lt-or-le, sum-same, sum-add, sum-le, sum-zero}
 use Rattle.columns.proofs.Rank.{test-or}
 use Rattle.columns.proofs.Table.{table-length, table-at, table-past}
 use Rattle.columns.proofs.Whole.{whole-table}
-use Rattle.share.specs.Share.{turn, share}
+use Rattle.share.specs.Share.{turn, share, SameOrOneMore}
 use Rattle.share.proofs.Laws.{share-alike, share-zero, share-le-amount, share-le-weight, share-is-weight, share-sum}
 
 -- what is before the next key is before this one, or at it

@@ -31,13 +31,13 @@ use lib.Dec.{ltb, eqb}
 use lib.ListN.{length}
 use borrow.Author.Tests.{lt-ltb, ltb-true}
 use Rattle.columns.specs.Sum.{sumTo, whole}
-use Rattle.columns.specs.Table.{at, Below, SameOrOneMore}
+use Rattle.columns.specs.Table.{at, Below}
 use Rattle.columns.proofs.Sum.{lt-or-le, term-le, max-where-term, max-where-bound, max-where-reached, max-where-fewer}
 use Rattle.columns.proofs.First.{left-true, right-true}
 use Rattle.columns.proofs.Table.{table-length, table-at, table-past}
 use Rattle.columns.proofs.Whole.{whole-table}
 use Rattle.columns.proofs.Unique.{Leaves-one, One-result}
-use Rattle.share.specs.Share.{turn}
+use Rattle.share.specs.Share.{turn, SameOrOneMore}
 use Rattle.merit.specs.Band.{Tier, one, two, Bands, widths, bids, rows, orderOf, orderAt}
 use Rattle.merit.specs.Call.{cheaper, group, due, called, calls, uncovered}
 use Rattle.merit.specs.Price.{delivers, price, calledPrice}

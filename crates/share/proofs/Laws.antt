@@ -33,13 +33,13 @@ use lib.Dec.{ltb}
 use lib.ListN.{length, List·getD-eq-default}
 use borrow.Author.Tests.{lt-ltb, le-ltb, eq-eqb}
 use Rattle.columns.specs.Sum.{bit, sumTo, countTo}
-use Rattle.columns.specs.Table.{at, table, SameOrOneMore}
+use Rattle.columns.specs.Table.{at, table}
 use Rattle.columns.proofs.Sum.{lt-or-le, bit-le, sum-same, sum-mul, sum-same-le, count-none}
 use Rattle.columns.proofs.Table.{table-length, table-at, table-past, table-same, table-list}
 use Rattle.columns.proofs.Whole.{whole-table}
 use Rattle.columns.specs.Sum.{whole}
 use Rattle.columns.proofs.Unique.{Leaves-one}
-use Rattle.share.specs.Share.{quota, rest, turn, rank, left, share, shares}
+use Rattle.share.specs.Share.{quota, rest, turn, rank, left, share, shares, SameOrOneMore}
 pub use Rattle.share.proofs.Rests.{weight-le}
 use Rattle.share.proofs.split.Reads as split
 use Rattle.share.proofs.Order.{rank-turn}

@@ -1,7 +1,7 @@
 -- The sharing rule (01, Sharing a whole amount): an amount a is divided over the column ws of weights.
 -- `shares` is the rule; `rank` orders the leftovers. `first` is the position whose turn comes first among equal
 -- remainders: where it is 0, that is the lower id.
-use Prim.Native.Nat.{ℕ, _+_, _-_, _*_, _/_, _%_}
+use Prim.Native.Nat.{ℕ, _+_, _-_, _*_, _/_, _%_, _≤_}
 use mathlib.Core.Bool.{Bool, cond, _&&_, _||_}
 use mathlib.Core.List.{List}
 use lib.Dec.{ltb, eqb}
@@ -42,3 +42,7 @@ share a ws first i = cond (eqb (whole ws) 0) 0 (quota a ws i + bit (ltb (rank a 
 -- the whole column
 unfoldable pub shares : ℕ → List ℕ → ℕ → List ℕ
 shares a ws first = table (length ws) (share a ws first)
+
+-- x is y, or one more: what of two alike the one has whose turn comes first
+abbrev pub SameOrOneMore : ℕ → ℕ → Type 0
+SameOrOneMore x y = (y ≤ x) × (x ≤ y + 1)
