@@ -182,7 +182,7 @@ void ScreensTest::a_correction_says_before_and_now() {
     QVERIFY(text.contains("Meter reading of row 3 replaced: 5,000 → 6,000 kWh"));
     // 900.00 by 15,000 and 6,000 kWh: row 2 owes 642.85 and is no longer at its cap of 650.00.
     QVERIFY(text.contains("257.14"));
-    QVERIFY(text.contains("No longer valid: pays 250.00 yuan. Book: pays 257.14 yuan."));
+    QVERIFY(text.contains("No longer valid: pays 250.00 yuan. Now: pays 257.14 yuan."));
 }
 
 void ScreensTest::a_moved_fen_leaves_no_steps() {
