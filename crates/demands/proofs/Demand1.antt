@@ -1,5 +1,5 @@
 -- Demand 1: every pair of files and every buffer is answered, by a statement or by one numbered refusal, in the order of the
--- checks; a refusal changes nothing. The answer is told by its number and value (`numberOf`, `valueOf`, specs/Answer.antt).
+-- checks; a refusal changes nothing. The answer is told by its number and value (`numberOf`, `valueOf` of `settle`).
 --   zero-free, free-zero     the number is 0 exactly if no check applies
 --   refused-first, first-refused     a number a above 0 and a place p are given exactly if the first check that applies has them
 --   answered           the number is 0 and the value the statement's count, or the number is from 1 to 11
