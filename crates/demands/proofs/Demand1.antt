@@ -17,14 +17,13 @@
 use Prim.Native.Nat.{ℕ, _+_, _≤_, _<_}
 use mathlib.Core.Path.{_≡_, refl, ap, _∙_}
 use mathlib.Core.Logic.{_⊎_, inl, inr, ⊎-elim}
-use mathlib.Core.Bool.{Bool, true, false}
-use mathlib.Core.List.{List, [], _∷_}
+use mathlib.Core.Bool.{true, false}
+use mathlib.Core.List.{List}
 use native.Mathlib.Nat.{eq-zero-or-pos}
 use native.Mathlib.Omega.{arith}
-use lib.Dec.{ltb}
 use lib.ListN.{length, take}
 use borrow.Author.Tests.{ltb-true, ltb-false}
-use Rattle.columns.specs.Checks.{Refusal, refusal, firstRefusal, numbersIn, Earliest, NoneApplies, Tells}
+use Rattle.columns.specs.Checks.{Refusal, firstRefusal, numbersIn, Earliest, NoneApplies, Tells}
 use Rattle.columns.specs.Table.{at}
 use Rattle.columns.proofs.Checks.{first-none, earliest-first, append-none, earliest-append}
 use Rattle.columns.proofs.Checks.{numbers-append, numbers-wider, answer-no, answer-yes, zero-none, number-earliest, earliest-number, refused-number}
@@ -36,7 +35,7 @@ use Rattle.files.specs.Order.{fileOrder, fileFault, verdictOf}
 use Rattle.files.specs.declared.Verdict.the-variants.{Accepted, Refused as Refuses}
 use Rattle.files.proofs.Answer.{file-numbers}
 use Rattle.statement.specs.Statement.{lineStart}
-use Rattle.settle.specs.Answer.{statementOf, settleOrder, answerOf, bufferAfter, numberOf, valueOf}
+use Rattle.settle.specs.Answer.{statementOf, roomOrder, settleOrder, answerOf, bufferAfter, numberOf, valueOf}
 use Rattle.settle.specs.declared.Answer.the-variants.{Settled, Refused}
 use Rattle.settle.proofs.Answered.{accepted-free, files-stop, room-stop, none-stop, settled-count}
 
@@ -50,19 +49,12 @@ tells c =
     }
 
 module _ (s k : List ℕ) (room : ℕ) where
-  -- the buffer's own check
-  abbrev short : Bool
-  short = ltb room (lineStart (rowCount s))
-
-  abbrev last : List Refusal
-  last = refusal short 11 0 ∷ []
-
   abbrev count : ℕ
   count = lineStart (rowCount s)
 
   numbers : numbersIn 1 11 (settleOrder s k room) ≡ true
   unfolding settleOrder
-  numbers = numbers-append 1 11 (fileOrder s k) last (numbers-wider 1 10 11 (fileOrder s k) (omega arith) (file-numbers s k)) refl
+  numbers = numbers-append 1 11 (fileOrder s k) (roomOrder s room) (numbers-wider 1 10 11 (fileOrder s k) (omega arith) (file-numbers s k)) refl
 
   pub zero-free : numberOf (answerOf s k room) ≡ 0 → NoneApplies (settleOrder s k room)
   unfolding answerOf
@@ -109,11 +101,11 @@ module _ (s k : List ℕ) (room : ℕ) where
   unfolding settleOrder verdictOf
   settled-accepted h =
       answer-yes Refuses (Accepted (rowCount s)) (fileFault s k)
-      (ap (λ (r : Refusal). r .applies) (first-none (fileOrder s k) (append-none (fileOrder s k) last (zero-free h) .0)))
+      (ap (λ (r : Refusal). r .applies) (first-none (fileOrder s k) (append-none (fileOrder s k) (roomOrder s room) (zero-free h) .0)))
 
   pub settled-room : numberOf (answerOf s k room) ≡ 0 → lineStart (rowCount s) ≤ room
   unfolding settleOrder
-  settled-room h = ltb-false room (lineStart (rowCount s)) (append-none (fileOrder s k) last (zero-free h) .1 0 (omega arith))
+  settled-room h = ltb-false room (lineStart (rowCount s)) (append-none (fileOrder s k) (roomOrder s room) (zero-free h) .1 0 (omega arith))
 
   -- and there is no other refusal
   pub refused-by : (a p : ℕ) → (a ≡ 0 → ⊥) → numberOf (answerOf s k room) ≡ a → valueOf (answerOf s k room) ≡ p
@@ -122,7 +114,7 @@ module _ (s k : List ℕ) (room : ℕ) where
   refused-by a p z n v =
       ⊎-elim
       (λ (e : Earliest (fileOrder s k) a p). inl (answer-no Refuses (Accepted (rowCount s)) (fileFault s k) a p (earliest-first (fileOrder s k) a p e)))
-      (λ (w : NoneApplies (fileOrder s k) × Earliest last a p).
+      (λ (w : NoneApplies (fileOrder s k) × Earliest (roomOrder s room) a p).
       let free = ap (λ (r : Refusal). r .applies) (first-none (fileOrder s k) (w .0)) in
       let only : w .1 .at ≡ 0 = omega (arith, w .1 .inside) in
       inr (
@@ -131,7 +123,7 @@ module _ (s k : List ℕ) (room : ℕ) where
         rw only at (w .1 .number),
         rw only at (w .1 .place),
       ))
-      (earliest-append (fileOrder s k) last a p (refused-first a p z n v))
+      (earliest-append (fileOrder s k) (roomOrder s room) a p (refused-first a p z n v))
 
 -- ---- the buffer
 

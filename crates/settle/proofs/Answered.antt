@@ -11,9 +11,8 @@
 use Prim.Native.Nat.{ℕ, _≤_, _<_}
 use mathlib.Core.Path.{_≡_, refl, sym, ap, _∙_}
 use mathlib.Core.Bool.{true, false}
-use mathlib.Core.List.{List, [], _∷_}
+use mathlib.Core.List.{List}
 use native.Mathlib.Omega.{arith}
-use lib.Dec.{ltb}
 use lib.ListN.{length}
 use borrow.Author.Tests.{lt-ltb, le-ltb}
 use Rattle.columns.specs.Checks.{Refusal, refusal, firstRefusal}
@@ -30,19 +29,15 @@ use Rattle.files.proofs.Laws.{accepted-few, accepted-length, accepted-count}
 use Rattle.statement.specs.Statement.{lineStart}
 use Rattle.statement.proofs.Laws.{statement-length}
 use Rattle.settle.specs.Statement.{statementHead, lineOf, statementBytes}
-use Rattle.settle.specs.Answer.{figuresOf, statementOf, settleOrder, answerOf, bufferAfter}
+use Rattle.settle.specs.Answer.{figuresOf, statementOf, roomOrder, settleOrder, answerOf, bufferAfter}
 use Rattle.settle.specs.declared.Answer.the-variants.{Settled, Refused}
 
 -- ---- the files first, then the buffer
 
 module _ (s k : List ℕ) (room : ℕ) where
-  -- the buffer's own check
-  abbrev last : List Refusal
-  last = refusal (ltb room (lineStart (rowCount s))) 11 0 ∷ []
-
-  buffer-next : fileFault s k .applies ≡ false → firstRefusal (settleOrder s k room) ≡ firstRefusal last
+  buffer-next : fileFault s k .applies ≡ false → firstRefusal (settleOrder s k room) ≡ firstRefusal (roomOrder s room)
   unfolding settleOrder
-  buffer-next = append-next (fileOrder s k) last
+  buffer-next = append-next (fileOrder s k) (roomOrder s room)
 
   pub accepted-free : (n : ℕ) → verdictOf s k ≡ verdicts.Accepted n → (fileFault s k .applies ≡ false) × (rowCount s ≡ n)
   unfolding verdictOf
@@ -52,7 +47,7 @@ module _ (s k : List ℕ) (room : ℕ) where
   unfolding verdictOf settleOrder
   files-stop a p refused =
       let is = refused-of (rowCount s) a p (fileFault s k) refused in
-      append-first (fileOrder s k) last (ap (λ (r : Refusal). r .applies) is) ∙ is
+      append-first (fileOrder s k) (roomOrder s room) (ap (λ (r : Refusal). r .applies) is) ∙ is
 
   pub room-stop : (n : ℕ) → verdictOf s k ≡ verdicts.Accepted n → room < lineStart n → firstRefusal (settleOrder s k room) ≡ refusal true 11 0
   unfolding firstRefusal

@@ -29,9 +29,13 @@ figuresOf s k = figures (headAt s .need .0) (firstTurn (headAt s .quarter) (rowC
 unfoldable pub statementOf : List ℕ → List ℕ → List ℕ
 statementOf s k = statementBytes (headAt s) (rowCount s) (λ i. countingRow s k i .id) (figuresOf s k)
 
--- 1 to 10 of the files in their order, then 11: a buffer shorter than the statement
+-- 11: a buffer shorter than the statement
+abbrev pub roomOrder : List ℕ → ℕ → List Refusal
+roomOrder s room = refusal (ltb room (lineStart (rowCount s))) 11 0 ∷ []
+
+-- 1 to 10 of the files in their order, then 11
 unfoldable pub settleOrder : List ℕ → List ℕ → ℕ → List Refusal
-settleOrder s k room = fileOrder s k ++ (refusal (ltb room (lineStart (rowCount s))) 11 0 ∷ [])
+settleOrder s k room = fileOrder s k ++ roomOrder s room
 
 -- the first of them that applies decides: settled with the count of bytes written, or the refusal's number and place
 unfoldable pub answerOf : List ℕ → List ℕ → ℕ → Answer
