@@ -12,8 +12,14 @@ static void print_head(const uint8_t *s)
     printf("%" PRIu32 " %u %u %u", wheatrudder_statement_day(s), wheatrudder_statement_quarter(s),
            wheatrudder_statement_price1(s), wheatrudder_statement_price2(s));
     printf(" %" PRIu64 " %" PRIu64, wheatrudder_statement_total(s), wheatrudder_statement_shortfall(s));
-    printf(" %u %" PRIu32 " %u %" PRIu32 "\n", wheatrudder_statement_rounds(s), wheatrudder_statement_uncovered(s),
-           wheatrudder_statement_rows(s), wheatrudder_statement_visits(s));
+    printf(" %u %" PRIu32 " %u", wheatrudder_statement_rounds(s), wheatrudder_statement_uncovered(s),
+           wheatrudder_statement_rows(s));
+    if (wheatrudder_statement_terms_stated(s)) {
+        printf(" %u", wheatrudder_statement_percent(s));
+        for (size_t k = 0; k < 4; k++)
+            printf(" %u", wheatrudder_statement_limit(s, k));
+    }
+    printf(" %" PRIu32 "\n", wheatrudder_statement_visits(s));
 }
 
 static void print_line(const uint8_t *s, size_t i)
@@ -28,8 +34,8 @@ static void print_line(const uint8_t *s, size_t i)
 int main(void)
 {
     /* A byte past the longest file: a longer one is refused all the same. */
-    static uint8_t interval[WHEATRUDDER_INTERVAL_LENGTH(WHEATRUDDER_MOST_ROWS) + 1];
-    static uint8_t statement[WHEATRUDDER_STATEMENT_LENGTH(WHEATRUDDER_MOST_ROWS)];
+    static uint8_t interval[WHEATRUDDER_INTERVAL_LENGTH_PG(WHEATRUDDER_MOST_ROWS) + 1];
+    static uint8_t statement[WHEATRUDDER_STATEMENT_ROOM(WHEATRUDDER_MOST_ROWS)];
     size_t length = fread(interval, 1, sizeof interval, stdin);
     uint64_t answer = wheatrudder_settle(interval, length, NULL, 0, statement, sizeof statement);
     if (wheatrudder_number(answer) != 0) {

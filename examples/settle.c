@@ -9,7 +9,7 @@
 #include <stdio.h>
 
 /* A byte past the longest file: a longer one is refused all the same. */
-#define MOST_BYTES (WHEATRUDDER_INTERVAL_LENGTH(WHEATRUDDER_MOST_ROWS) + 1)
+#define MOST_BYTES (WHEATRUDDER_INTERVAL_LENGTH_PG(WHEATRUDDER_MOST_ROWS) + 1)
 
 /* How many bytes the file has, cut at MOST_BYTES; -1 if it cannot be read. */
 static long read_file(const char *name, uint8_t *bytes)
@@ -36,8 +36,19 @@ static uint32_t due_to(const uint8_t *statement, size_t i)
            wheatrudder_line_returned(statement, i);
 }
 
+/* The terms of a PG file; a PH file has those of document 01 and says nothing. */
+static void print_terms(const uint8_t *statement)
+{
+    if (!wheatrudder_statement_terms_stated(statement))
+        return;
+    printf("baseline %u percent, bids %u to %u and %u to %u li\n", wheatrudder_statement_percent(statement),
+           wheatrudder_statement_limit(statement, 0), wheatrudder_statement_limit(statement, 1),
+           wheatrudder_statement_limit(statement, 2), wheatrudder_statement_limit(statement, 3));
+}
+
 static void print_statement(const uint8_t *statement)
 {
+    print_terms(statement);
     printf("total %" PRIu64 " fen, %" PRIu64 " of it not covered by payers, %u rounds\n",
            wheatrudder_statement_total(statement), wheatrudder_statement_shortfall(statement),
            wheatrudder_statement_rounds(statement));
@@ -49,7 +60,7 @@ static void print_statement(const uint8_t *statement)
 int main(int count, char **words)
 {
     static uint8_t interval[MOST_BYTES], correction[MOST_BYTES];
-    static uint8_t statement[WHEATRUDDER_STATEMENT_LENGTH(WHEATRUDDER_MOST_ROWS)];
+    static uint8_t statement[WHEATRUDDER_STATEMENT_ROOM(WHEATRUDDER_MOST_ROWS)];
     if (count != 2 && count != 3) {
         fprintf(stderr, "usage: settle INTERVAL [CORRECTION]\n");
         return 2;

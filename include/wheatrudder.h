@@ -2,7 +2,7 @@
  *
  * Every function answers one word, number x 2^32 + value:
  *   number 0    done; the value is how many bytes were written from the front of the buffer
- *   number 1..  a refusal by that number (1 to 11); the value is its place, a row counted from 1, or 0
+ *   number 1..  a refusal by that number (1 to 11, and 14); the value is its place, a row counted from 1, or 0
  * A refusal changes no byte of the buffer. A success changes none past the bytes that it counts.
  *
  * Any bytes of any length are answered. Every function is thread-safe: nothing is kept between calls, no memory is allocated,
@@ -10,9 +10,23 @@
  * (docs/GATEWAY.md). A pointer may be null where its length is 0; otherwise it has to point to that many bytes, and the bytes of
  * the buffer must not overlap those of the files. A length is below 2^63.
  *
- *   interval file    15 bytes and 21 for each row; at most 256 rows
- *   correction        9 bytes and 21 for each row; length 0 stands for none
- *   statement        39 bytes and 42 for each row
+ * Files are a head and at most 256 rows or lines. Numbers are little-endian; widths in bytes stand in brackets.
+ *
+ *   interval head PH  15   "PH", day [4], quarter [1], tariff [2], need [4], rows [2]
+ *   interval head PG  24   "PG", the fields of PH, baseline percent [1], four bid limits [2 each]: tier 1 lowest, tier 1 highest,
+ *                          tier 2 lowest, tier 2 highest
+ *   correction head    9   "PK", day [4], quarter [1], rows [2]; a correction of length 0 stands for none
+ *   row               21   "PR", id [2], kind [1], capacity [2], metered [4], status [1], offered [1], minimum [4],
+ *                          tier 1 bid [2], tier 2 bid [2]
+ *   statement head PS 39   "PS", day [4], quarter [1], tier 1 price [2], tier 2 price [2], total [8], shortfall [8], rounds [2],
+ *                          uncovered [4], rows [2], visits [4]
+ *   statement head PT 48   "PT", the fields of PS up to rows, percent [1] and limits [2 each] as in PG, visits [4]
+ *   line              42   "PL", id [2], called in tier 1 [4], called in tier 2 [4], compensation [4], cut [4], weight [4],
+ *                          cap [4], paid [4], closing round [2], penalty [4], returned [4]
+ *
+ * A PG file states its terms: the baseline in percent of full load, 41 to 50, and the limits of the bids, 1 <= l1 < l2 <= l3 < l4
+ * <= 1000. A PH file has the terms of document 01: 50 percent; 100, 320, 320, 750. A correction is held to the terms of its
+ * interval. The statement of a PH file is PS, that of a PG file PT.
  */
 #ifndef WHEATRUDDER_H
 #define WHEATRUDDER_H
@@ -26,17 +40,32 @@ extern "C" {
 
 #define WHEATRUDDER_MOST_ROWS 256
 #define WHEATRUDDER_ROW_LENGTH 21
-#define WHEATRUDDER_HEAD_LENGTH 39
 #define WHEATRUDDER_LINE_LENGTH 42
-#define WHEATRUDDER_INTERVAL_LENGTH(rows) (15 + WHEATRUDDER_ROW_LENGTH * (size_t)(rows))
+#define WHEATRUDDER_INTERVAL_LENGTH_PH(rows) (15 + WHEATRUDDER_ROW_LENGTH * (size_t)(rows))
+#define WHEATRUDDER_INTERVAL_LENGTH_PG(rows) (24 + WHEATRUDDER_ROW_LENGTH * (size_t)(rows))
 #define WHEATRUDDER_CORRECTION_LENGTH(rows) (9 + WHEATRUDDER_ROW_LENGTH * (size_t)(rows))
-#define WHEATRUDDER_STATEMENT_LENGTH(rows) (WHEATRUDDER_HEAD_LENGTH + WHEATRUDDER_LINE_LENGTH * (size_t)(rows))
+#define WHEATRUDDER_STATEMENT_LENGTH_PS(rows) (39 + WHEATRUDDER_LINE_LENGTH * (size_t)(rows))
+#define WHEATRUDDER_STATEMENT_LENGTH_PT(rows) (48 + WHEATRUDDER_LINE_LENGTH * (size_t)(rows))
+/* Enough for a statement of either form. */
+#define WHEATRUDDER_STATEMENT_ROOM(rows) WHEATRUDDER_STATEMENT_LENGTH_PT(rows)
 
 /* The two halves of an answer. */
 static inline uint32_t wheatrudder_number(uint64_t answer) { return (uint32_t)(answer >> 32); }
 static inline uint32_t wheatrudder_value(uint64_t answer) { return (uint32_t)answer; }
 
-/* Settles an interval file with its correction into a statement. Refusals 1 to 11; 11 is a buffer that is too short. */
+/* Settles an interval file with its correction into a statement. Refusals 1 to 11, and 14; in the order in which they are checked:
+ *    1  an interval file shorter than 15 bytes
+ *    2  its mark is neither PH nor PG
+ *    1  a PG file shorter than 24 bytes
+ *    3  a field of its head out of range, of those that PH has
+ *   14  the terms of a PG file out of range or not rising
+ *    4  its length is not that of its form and count of rows
+ *    5  a row's mark is wrong; 6 a field of it out of range under the file's terms; 7 its id not above the one before: row by row
+ *    8  the correction's length, mark, ranges or order of ids are wrong
+ *    9  the correction is of another day or quarter
+ *   10  a row of the correction names no row of the interval, or differs in more than metered and status
+ *   11  the buffer is shorter than the statement: 39 + 42 for each row of a PH file, 48 + 42 of a PG file
+ * The place is a row for 5, 6, 7 and 10 and for 8 where a row is at fault, else 0. */
 uint64_t wheatrudder_settle(const uint8_t *interval, size_t interval_length,
                             const uint8_t *correction, size_t correction_length,
                             uint8_t *statement, size_t statement_length);
@@ -47,14 +76,15 @@ uint64_t wheatrudder_row(const uint8_t *interval, size_t interval_length,
                          const uint8_t *correction, size_t correction_length,
                          uint16_t id, uint8_t *out, size_t out_length);
 
-/* Reads an interval file and writes its contents out again. Refusals 1 to 7, and 11. */
+/* Reads an interval file of either form and writes its contents out again: the same bytes. Refusals 1 to 7, and 14; 11 where the
+ * buffer is shorter than the file. */
 uint64_t wheatrudder_rewrite(const uint8_t *interval, size_t interval_length,
                              uint8_t *out, size_t out_length);
 
 /* Reading a statement. Energy is in kWh, prices in li for each kWh, money in fen. The readers ask only that the bytes are
  * there: a statement that wheatrudder_settle has written, and a line i below its wheatrudder_statement_rows. */
 
-/* Where each field of the head stands in the statement. */
+/* Where each field of the head stands in the statement; terms and visits by the head's mark. */
 #define WHEATRUDDER_HEAD_DAY 2
 #define WHEATRUDDER_HEAD_QUARTER 6
 #define WHEATRUDDER_HEAD_PRICE1 7
@@ -64,7 +94,10 @@ uint64_t wheatrudder_rewrite(const uint8_t *interval, size_t interval_length,
 #define WHEATRUDDER_HEAD_ROUNDS 27
 #define WHEATRUDDER_HEAD_UNCOVERED 29
 #define WHEATRUDDER_HEAD_ROWS 33
-#define WHEATRUDDER_HEAD_VISITS 35
+#define WHEATRUDDER_HEAD_VISITS_PS 35
+#define WHEATRUDDER_HEAD_PERCENT_PT 35
+#define WHEATRUDDER_HEAD_LIMITS_PT 36
+#define WHEATRUDDER_HEAD_VISITS_PT 44
 
 /* Where each field of a line stands in the line. */
 #define WHEATRUDDER_LINE_ID 2
@@ -91,6 +124,17 @@ static inline uint64_t wheatrudder_u64(const uint8_t *at)
     return wheatrudder_u32(at) | (uint64_t)wheatrudder_u32(at + 4) << 32;
 }
 
+/* Whether the head states its terms: 1 where its mark is PT, else 0. */
+static inline int wheatrudder_statement_terms_stated(const uint8_t *statement)
+{
+    return statement[0] == 'P' && statement[1] == 'T';
+}
+/* How many bytes stand before the lines: 48 where the mark is PT, else 39. */
+static inline size_t wheatrudder_statement_head_length(const uint8_t *statement)
+{
+    return wheatrudder_statement_terms_stated(statement) ? WHEATRUDDER_STATEMENT_LENGTH_PT(0)
+                                                         : WHEATRUDDER_STATEMENT_LENGTH_PS(0);
+}
 /* Day, counted from 2000-01-01, and quarter hour of the day, 0 to 95. */
 static inline uint32_t wheatrudder_statement_day(const uint8_t *statement)
 {
@@ -133,17 +177,30 @@ static inline uint16_t wheatrudder_statement_rows(const uint8_t *statement)
 {
     return wheatrudder_u16(statement + WHEATRUDDER_HEAD_ROWS);
 }
+/* The terms: the baseline in percent of full load, and bid limit k, 0 to 3: tier 1 lowest and highest, tier 2 lowest and highest.
+ * Those that the head states, or else those of document 01. */
+static inline uint8_t wheatrudder_statement_percent(const uint8_t *statement)
+{
+    return wheatrudder_statement_terms_stated(statement) ? wheatrudder_u8(statement + WHEATRUDDER_HEAD_PERCENT_PT) : 50;
+}
+static inline uint16_t wheatrudder_statement_limit(const uint8_t *statement, size_t k)
+{
+    static const uint16_t of_document_01[4] = {100, 320, 320, 750};
+    return wheatrudder_statement_terms_stated(statement) ? wheatrudder_u16(statement + WHEATRUDDER_HEAD_LIMITS_PT + 2 * k)
+                                                         : of_document_01[k];
+}
 /* Payer visits: in each round one for each payer of weight above 0 that has not reached its cap in an earlier one, also in the last
  * round, in which nobody does. With m payers of weight above 0 at most m(m + 1)/2. */
 static inline uint32_t wheatrudder_statement_visits(const uint8_t *statement)
 {
-    return wheatrudder_u32(statement + WHEATRUDDER_HEAD_VISITS);
+    return wheatrudder_u32(statement + (wheatrudder_statement_terms_stated(statement) ? WHEATRUDDER_HEAD_VISITS_PT
+                                                                                      : WHEATRUDDER_HEAD_VISITS_PS));
 }
 
 /* Line i of a statement, counted from 0; the lines are in the order of the file's rows. */
 static inline const uint8_t *wheatrudder_line(const uint8_t *statement, size_t i)
 {
-    return statement + WHEATRUDDER_STATEMENT_LENGTH(i);
+    return statement + wheatrudder_statement_head_length(statement) + WHEATRUDDER_LINE_LENGTH * i;
 }
 /* The row's id. */
 static inline uint16_t wheatrudder_line_id(const uint8_t *statement, size_t i)

@@ -1,6 +1,6 @@
 //! What every statement owes its readers, checked on its bytes alone.
 
-use crate::file::{LINE, STATEMENT_HEAD};
+use crate::file::{LINE, STATEMENT_HEAD_PT, Terms, statement_head};
 
 struct Line {
     called: [u128; 2],
@@ -38,9 +38,9 @@ fn demand(holds: bool, what: &str) -> Result<(), String> {
 
 /// Checks a whole statement; the answer names the first demand it fails.
 pub fn check(statement: &[u8]) -> Result<(), String> {
-    demand(statement.len() >= STATEMENT_HEAD, "the statement has a head")?;
-    let (head, body) = statement.split_at(STATEMENT_HEAD);
-    demand(head.starts_with(b"PS"), "the head has its mark")?;
+    let length = statement_head(statement).ok_or("not so: the head has its mark")?;
+    let (head, body) = statement.split_at_checked(length).ok_or("not so: the statement has a whole head")?;
+    let terms = terms(head)?;
     let (total, shortfall) = (number(&head[11..19]), number(&head[19..27]));
     let (rounds, rows) = (number(&head[27..29]), number(&head[33..35]));
     demand(body.len() as u128 == LINE as u128 * rows, "there are as many lines as the head says")?;
@@ -50,11 +50,11 @@ pub fn check(statement: &[u8]) -> Result<(), String> {
     let lines: Vec<Line> = body.chunks_exact(LINE).map(line).collect();
     demand(total == sum(&lines, |line| line.compensation), "the total is the sum of the compensations")?;
     let clearing = [number(&head[7..9]), number(&head[9..11])];
-    prices(&lines, clearing)?;
+    prices(&lines, clearing, terms)?;
     penalties(&lines, clearing)?;
     books(&lines)?;
     numbering(&lines, rounds)?;
-    visits(&lines, rounds, number(&head[35..39]))?;
+    visits(&lines, rounds, number(&head[length - 4..]))?;
     penalty_money_first(&lines, shortfall)?;
     let (closed, open): (Vec<&Line>, Vec<&Line>) =
         lines.iter().filter(|line| line.weight > 0).partition(|line| line.closing > 0);
@@ -67,6 +67,19 @@ pub fn check(statement: &[u8]) -> Result<(), String> {
         demand(shortfall == 0, "there is a shortfall only if all payers are capped")?;
         common_rate(&open, &closed, total - caps)
     }
+}
+
+/// The terms of a statement: those that its head states have to be such as may be stated.
+fn terms(head: &[u8]) -> Result<Terms, String> {
+    if head.len() < STATEMENT_HEAD_PT {
+        return Ok(Terms::OF_01);
+    }
+    let limits = [36, 38, 40, 42].map(|at| number(&head[at..at + 2]) as u16);
+    demand((41..=50).contains(&head[35]), "the baseline is 41 to 50 percent")?;
+    let [first, second, third, fourth] = limits;
+    let rising = 0 < first && first < second && second <= third && third < fourth && fourth <= 1_000;
+    demand(rising, "the limits rise from above 0 to 1,000 at most")?;
+    Ok(Terms { percent: head[35], limits })
 }
 
 fn sum(lines: &[Line], field: impl Fn(&Line) -> u128) -> u128 {
@@ -88,12 +101,17 @@ fn priced(line: &Line, prices: [u128; 2]) -> bool {
     (0..2).any(|tier| line.called[tier] > 0 && prices[tier] > 0)
 }
 
-/// Who delivered sets the price and is paid by it: a kWh at the lowest bid, 100 li, already comes to 10 fen.
-fn prices(lines: &[Line], prices: [u128; 2]) -> Result<(), String> {
+/// Who delivered sets the price and is paid by it: a kWh already comes to a fen where the price is 5 li or more.
+fn prices(lines: &[Line], prices: [u128; 2], terms: Terms) -> Result<(), String> {
+    let [lowest_1, highest_1, lowest_2, highest_2] = terms.limits.map(u128::from);
+    let within = |price: u128, lowest, highest| price == 0 || (lowest..=highest).contains(&price);
+    let both = within(prices[0], lowest_1, highest_1) && within(prices[1], lowest_2, highest_2);
+    demand(both, "a price is 0 or within the limits of its tier's bids")?;
     let due = |line: &Line| line.compensation == 0 || priced(line, prices);
     demand(lines.iter().all(due), "nobody is paid where there is no price")?;
     let paid = |tier: usize| lines.iter().any(|line| line.called[tier] > 0 && line.compensation > 0);
-    demand((0..2).all(|tier| prices[tier] == 0 || paid(tier)), "a tier has a price only if a row called there is paid")
+    let set = |tier: usize| prices[tier] >= 5;
+    demand((0..2).all(|tier| !set(tier) || paid(tier)), "a tier has a price only if a row called there is paid")
 }
 
 /// Who owes a penalty was called, and did not deliver all of it.

@@ -1,14 +1,41 @@
 //! The files as plain figures that may be right or wrong, and their bytes.
 
-pub const INTERVAL_HEAD: usize = 15;
+pub const INTERVAL_HEAD_PH: usize = 15;
+pub const INTERVAL_HEAD_PG: usize = 24;
 pub const CORRECTION_HEAD: usize = 9;
 pub const ROW: usize = 21;
-pub const STATEMENT_HEAD: usize = 39;
+pub const STATEMENT_HEAD_PS: usize = 39;
+pub const STATEMENT_HEAD_PT: usize = 48;
 pub const LINE: usize = 42;
+/// Enough for the longest statement of either form.
+pub const STATEMENT_ROOM: usize = STATEMENT_HEAD_PT + 256 * LINE;
 
 pub const THERMAL: u8 = 1;
 pub const WIND: u8 = 2;
 pub const SOLAR: u8 = 3;
+
+/// The baseline in percent of full load, and the limits of the bids: tier 1 lowest and highest, tier 2 lowest and highest.
+#[derive(Clone, Copy, Debug, PartialEq, Eq)]
+pub struct Terms {
+    pub percent: u8,
+    pub limits: [u16; 4],
+}
+
+impl Terms {
+    /// What a file has that states none.
+    pub const OF_01: Terms = Terms { percent: 50, limits: [100, 320, 320, 750] };
+
+    /// The baseline of so many MW in kWh, cut to a whole number; full load is 250 kWh for each MW.
+    pub fn baseline(&self, capacity: u16) -> u32 {
+        250 * u32::from(capacity) * u32::from(self.percent) / 100
+    }
+
+    fn bytes(&self) -> Vec<u8> {
+        let mut bytes = vec![self.percent];
+        bytes.extend(self.limits.into_iter().flat_map(u16::to_le_bytes));
+        bytes
+    }
+}
 
 #[derive(Clone, Debug)]
 pub struct Interval {
@@ -19,6 +46,8 @@ pub struct Interval {
     pub need: u32,
     /// The count in the head where it is to differ from the rows that follow.
     pub count: Option<u16>,
+    /// The terms that the head of a PG file states behind its other fields; a PH file has none.
+    pub stated: Option<Terms>,
     pub rows: Vec<Row>,
 }
 
@@ -46,7 +75,17 @@ pub struct Row {
 
 impl Interval {
     pub fn new(tariff: u16, need: u32, rows: Vec<Row>) -> Interval {
-        Interval { mark: *b"PH", day: 0, quarter: 0, tariff, need, count: None, rows }
+        Interval { mark: *b"PH", day: 0, quarter: 0, tariff, need, count: None, stated: None, rows }
+    }
+
+    /// The same rows in a PG file of these terms.
+    pub fn stating(self, terms: Terms) -> Interval {
+        Interval { mark: *b"PG", stated: Some(terms), ..self }
+    }
+
+    /// The terms that the rows are held to.
+    pub fn terms(&self) -> Terms {
+        self.stated.unwrap_or(Terms::OF_01)
     }
 
     /// The base interval of document 01's figures.
@@ -66,19 +105,45 @@ impl Interval {
         bytes.extend(self.tariff.to_le_bytes());
         bytes.extend(self.need.to_le_bytes());
         bytes.extend(self.count.unwrap_or(self.rows.len() as u16).to_le_bytes());
+        bytes.extend(self.stated.iter().flat_map(Terms::bytes));
         bytes.extend(self.rows.iter().flat_map(Row::bytes));
         bytes
     }
 
     /// Length of the statement of this interval.
     pub fn statement_length(&self) -> usize {
-        STATEMENT_HEAD + LINE * self.rows.len()
+        let head = if self.stated.is_some() { STATEMENT_HEAD_PT } else { STATEMENT_HEAD_PS };
+        head + LINE * self.rows.len()
     }
 
     /// A correction of this interval that repeats the rows at the given places.
     pub fn correcting(&self, places: &[usize]) -> Correction {
         let rows = places.iter().map(|&place| self.rows[place]).collect();
         Correction { mark: *b"PK", day: self.day, quarter: self.quarter, count: None, rows }
+    }
+}
+
+/// The length of an interval file's head by its mark, and of its statement's: those of PH where the mark is another.
+pub fn heads(interval: &[u8]) -> (usize, usize) {
+    if interval.starts_with(b"PG") {
+        (INTERVAL_HEAD_PG, STATEMENT_HEAD_PT)
+    } else {
+        (INTERVAL_HEAD_PH, STATEMENT_HEAD_PS)
+    }
+}
+
+/// The length of a statement of as many lines as an interval file has room for rows.
+pub fn statement_length(interval: &[u8]) -> usize {
+    let (before_rows, before_lines) = heads(interval);
+    before_lines + LINE * (interval.len().saturating_sub(before_rows) / ROW)
+}
+
+/// The length of a statement's head by its mark; nothing where it has neither.
+pub fn statement_head(statement: &[u8]) -> Option<usize> {
+    match statement.get(..2)? {
+        b"PS" => Some(STATEMENT_HEAD_PS),
+        b"PT" => Some(STATEMENT_HEAD_PT),
+        _ => None,
     }
 }
 

@@ -3,7 +3,7 @@
 //! The table was found by a search from the last round backwards (docs/TRIALS.md). The caps of the groups that are in make up
 //! the total exactly, so leaving out groups from the front leaves out their rounds: the rest close as before, one round earlier.
 
-use crate::file::{Interval, LINE, Row, STATEMENT_HEAD, THERMAL, WIND};
+use crate::file::{Interval, LINE, Row, THERMAL, WIND, statement_head};
 use crate::many_rounds::receivers;
 use crate::random::Random;
 
@@ -88,7 +88,8 @@ pub fn filled(mut interval: Interval, rows: usize) -> Interval {
 /// What a statement says: the rounds, the visits, and each line's closing round.
 pub fn told(statement: &[u8]) -> (u16, u32, Vec<u16>) {
     let number = |bytes: &[u8], at: usize| u16::from_le_bytes([bytes[at], bytes[at + 1]]);
-    let (head, lines) = statement.split_at(STATEMENT_HEAD);
-    let visits = u32::from(number(head, 35)) | u32::from(number(head, 37)) << 16;
+    let (head, lines) = statement.split_at(statement_head(statement).expect("a statement has its mark"));
+    // The visits are the head's last field.
+    let visits = u32::from(number(head, head.len() - 4)) | u32::from(number(head, head.len() - 2)) << 16;
     (number(head, 27), visits, lines.chunks_exact(LINE).map(|line| number(line, 32)).collect())
 }

@@ -11,7 +11,7 @@ mod many_rounds;
 pub mod random;
 pub mod refused;
 
-use file::{LINE, STATEMENT_HEAD};
+use file::{LINE, STATEMENT_HEAD_PS, STATEMENT_HEAD_PT};
 
 /// The answer of an engine: bytes written, or a refusal's number and place.
 pub type Answer = Result<usize, (u8, u16)>;
@@ -60,6 +60,6 @@ const NEAR: usize = LINE + 2;
 /// Lengths of buffer worth trying where a number of bytes is needed: none, few, and all near the edge.
 pub fn lengths_near(needed: usize) -> impl Iterator<Item = usize> {
     let near = needed.saturating_sub(NEAR)..=needed + NEAR;
-    let few = [0, 1, STATEMENT_HEAD - 1, STATEMENT_HEAD, STATEMENT_HEAD + 1];
-    few.into_iter().filter(move |length| *length + NEAR < needed).chain(near)
+    let few = [STATEMENT_HEAD_PS, STATEMENT_HEAD_PT].into_iter().flat_map(|head| [head - 1, head, head + 1]);
+    [0, 1].into_iter().chain(few).filter(move |length| *length + NEAR < needed).chain(near)
 }

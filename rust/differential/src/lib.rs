@@ -2,7 +2,7 @@
 //!
 //! Each trial is drawn from the run's seed and its own number, so that one alone can be repeated.
 
-use cases::file::{CORRECTION_HEAD, INTERVAL_HEAD, LINE, ROW, STATEMENT_HEAD};
+use cases::file::{CORRECTION_HEAD, ROW, heads, statement_length};
 use cases::random::Random;
 use cases::{Answer, Case, Outcome, accepted, demands, lengths_near, pattern, refused};
 
@@ -26,8 +26,12 @@ fn plain(answer: wheatrudder::Answer) -> Answer {
 #[derive(Clone, Debug, Default)]
 pub struct Tally {
     pub settled: u64,
-    /// By number, 1 to 11.
-    pub refused: [u64; 12],
+    /// Of these, the files that state their terms; and of those, the ones in which a thermal row is at or above the stated baseline and
+    /// below half load, so that it is on the other side under the terms of document 01.
+    pub stated: u64,
+    pub between: u64,
+    /// By number, 1 to 11 and 14.
+    pub refused: [u64; 15],
     pub rows_copied: u64,
     pub rewritten: u64,
     /// Settlements in which a row that was called but did not deliver bid above a tier's price.
@@ -54,6 +58,8 @@ impl Tally {
 
     pub fn add(&mut self, other: &Tally) {
         self.settled += other.settled;
+        self.stated += other.stated;
+        self.between += other.between;
         self.refused.iter_mut().zip(other.refused).for_each(|(sum, more)| *sum += more);
         self.rows_copied += other.rows_copied;
         self.rewritten += other.rewritten;
@@ -82,8 +88,7 @@ pub fn trial(seed: u64, number: u64, tally: &mut Tally) -> Result<(), String> {
     let mut random = Random::from_seed(seed << 32 ^ number);
     let mut case = drawn(&mut random);
     if random.once_in(4) {
-        let rows = case.interval.len().saturating_sub(INTERVAL_HEAD) / ROW;
-        case.buffer = near(&mut random, STATEMENT_HEAD + LINE * rows);
+        case.buffer = near(&mut random, statement_length(&case.interval));
     }
     let outcome = same(&case, "settle", settle, reference::settle)?;
     match outcome.answer {
@@ -91,6 +96,7 @@ pub fn trial(seed: u64, number: u64, tally: &mut Tally) -> Result<(), String> {
             let statement = &outcome.buffer[..length];
             demands::check(statement).map_err(|what| format!("{what} ({})", case.name))?;
             tally.settled += 1;
+            count_terms(&case, statement, tally);
             tally.outbid += u64::from(outbid(&case.interval, statement)?);
             count_penalties(statement, tally);
             count_visits(statement, tally);
@@ -107,11 +113,28 @@ pub fn trial(seed: u64, number: u64, tally: &mut Tally) -> Result<(), String> {
     Ok(())
 }
 
+/// Puts a settlement under stated terms into the tally.
+fn count_terms(case: &Case, statement: &[u8], tally: &mut Tally) {
+    let head = wheatrudder::head(statement).expect("a statement has a head");
+    if !head.stated {
+        return;
+    }
+    let between = |id: u16| {
+        let row = reference::counting_row(&case.interval, &case.correction, id);
+        let capacity = u32::from(u16::from_le_bytes([row[5], row[6]]));
+        let metered = u32::from_le_bytes([row[7], row[8], row[9], row[10]]);
+        let baseline = 250 * capacity * u32::from(head.terms.percent) / 100;
+        row[4] == 1 && (baseline..125 * capacity).contains(&metered)
+    };
+    tally.stated += 1;
+    tally.between += u64::from(wheatrudder::lines(statement).any(|line| between(line.id)));
+}
+
 /// Whether a price is below the highest bid called in its tier, as it never was before request 1; above it no price may be.
 fn outbid(interval: &[u8], statement: &[u8]) -> Result<bool, String> {
     let bid = |row: &[u8], at: usize| u16::from_le_bytes([row[at], row[at + 1]]);
     let mut highest = [0; 2];
-    for (row, line) in interval[INTERVAL_HEAD..].chunks_exact(ROW).zip(wheatrudder::lines(statement)) {
+    for (row, line) in interval[heads(interval).0..].chunks_exact(ROW).zip(wheatrudder::lines(statement)) {
         let bids = [bid(row, 17), bid(row, 19)];
         for tier in (0..2).filter(|&tier| line.called[tier] > 0) {
             highest[tier] = bids[tier].max(highest[tier]);
@@ -212,7 +235,7 @@ fn ids(random: &mut Random, case: &Case) -> Vec<u16> {
         rows.map(|row| u16::from_le_bytes([row[2], row[3]])).collect()
     };
     let mut ids = vec![0, 1, u16::MAX, random.within(0..=65_535) as u16];
-    for file_ids in [named(&case.interval, INTERVAL_HEAD), named(&case.correction, CORRECTION_HEAD)] {
+    for file_ids in [named(&case.interval, heads(&case.interval).0), named(&case.correction, CORRECTION_HEAD)] {
         ids.extend((0..3).filter(|_| !file_ids.is_empty()).map(|_| random.one_of(&file_ids)));
     }
     ids

@@ -3,7 +3,7 @@
 //! `SEED=n` repeats a run, `TRIALS=n` makes it longer; a failure prints its trial and its seed, and
 //! `SEED=n TRIAL=m cargo test one_trial` repeats it alone.
 
-use cases::file::{INTERVAL_HEAD, Interval, LINE, ROW, Row, STATEMENT_HEAD};
+use cases::file::{Interval, Row, Terms, statement_head, statement_length};
 use cases::ladder::{self, ladder};
 use cases::random::Random;
 use cases::{Case, accepted, demands, lengths_near, refused};
@@ -35,7 +35,9 @@ fn the_engine_answers_as_the_reference() {
 
 /// A run that met too little of something would show nothing of it.
 fn enough(tally: &Tally) {
-    assert!(tally.settled > tally.trials() / 4 && tally.refused[1..].iter().all(|&count| count > 0));
+    assert!(tally.settled > tally.trials() / 4 && (1..=11).chain([14]).all(|number| tally.refused[number] > 0));
+    assert!(tally.stated > tally.settled / 3 && tally.stated < tally.settled * 2 / 3);
+    assert!(tally.between > tally.stated / 4);
     assert!(tally.outbid > tally.settled / 5);
     assert!(tally.penalised > tally.settled / 8 && tally.filled > tally.settled / 10);
     assert!(tally.still_cut > tally.settled / 20 && tally.returned > tally.settled / 20);
@@ -55,8 +57,10 @@ fn one_trial() {
 fn every_fault_is_refused_with_its_number_and_place() {
     let seed = asked("SEED", 1);
     let mut random = Random::from_seed(seed);
-    for _ in 0..20 {
-        let base = refused::base(&mut random, 12);
+    // Files of both forms in turn.
+    for number in 0..20 {
+        let stated = (number % 2 == 1).then(|| accepted::terms(&mut random));
+        let base = refused::base_stating(&mut random, 12, stated);
         for fault in refused::faults(&base) {
             let (case, due) = refused::damaged(&base, &[fault]);
             let outcome = case.run(settle).unwrap_or_else(|what| panic!("{what}; {} of seed {seed}", case.name));
@@ -76,7 +80,7 @@ fn buffers_of_every_length_near_the_needed_one() {
     let mut random = Random::from_seed(seed);
     for _ in 0..40 {
         let mut case = accepted::case(&mut random);
-        let needed = STATEMENT_HEAD + LINE * ((case.interval.len() - INTERVAL_HEAD) / ROW);
+        let needed = statement_length(&case.interval);
         for length in lengths_near(needed) {
             case.buffer = length;
             let outcome = same(&case, "settle", settle, reference::settle).unwrap_or_else(|what| panic!("{what}"));
@@ -109,6 +113,92 @@ fn ladders_close_one_group_in_each_round() {
             let told = (rounds as u16, visits, due.closing.clone());
             assert_eq!(ladder::told(&outcome.buffer), told, "{}", case.name);
             assert_eq!(demands::check(&outcome.buffer), Ok(()), "{}", case.name);
+        }
+    }
+}
+
+#[test]
+fn the_terms_of_01_stated_give_the_lines_of_ph() {
+    let (seed, trials) = (asked("SEED", 1), asked("TRIALS", 20_000) / 10);
+    let mut random = Random::from_seed(seed);
+    let statement = |interval: &[u8], correction: &[u8]| {
+        let mut statement = vec![0; statement_length(interval)];
+        let length = settle(interval, correction, &mut statement).expect("accepted");
+        assert_eq!(length, statement.len());
+        let lines = statement.split_off(statement_head(&statement).expect("a mark"));
+        (statement, lines)
+    };
+    for number in 0..trials {
+        let shape = random.one_of(&accepted::SHAPES);
+        let count = random.within(0..=256);
+        let plain = accepted::interval_of(&mut random, shape, count);
+        let (plain, correction) = if count > 0 && random.once_in(2) {
+            let (plain, correction) = accepted::spoil(&mut random, plain);
+            (plain, correction.bytes())
+        } else {
+            (plain, Vec::new())
+        };
+        let of_ph = statement(&plain.bytes(), &correction);
+        let of_pg = statement(&plain.stating(Terms::OF_01).bytes(), &correction);
+        assert!(of_pg.1 == of_ph.1, "{shape:?}, file {number} of seed {seed}");
+        // The heads are the same but for the mark and the terms.
+        let terms = [50, 100, 0, 64, 1, 64, 1, 238, 2];
+        let due = [b"PT", &of_ph.0[2..35], &terms, &of_ph.0[35..]].concat();
+        assert_eq!(of_pg.0, due, "{shape:?}, file {number} of seed {seed}");
+    }
+}
+
+#[test]
+fn a_stated_baseline_stands_for_half_load() {
+    // Interval X at 45 percent: bands of 1,250 and 2,000 kWh, 65,000 fen, and a thermal weight from 11,250 kWh on.
+    let terms = Terms { percent: 45, limits: [100, 320, 320, 750] };
+    let interval = Interval::x(1300).stating(terms);
+    let mut statement = vec![0; interval.statement_length()];
+    assert_eq!(wheatrudder::settle(&interval.bytes(), &[], &mut statement), Ok(174));
+    let head = wheatrudder::head(&statement).expect("a head");
+    assert_eq!((head.stated, head.terms.percent, head.terms.limits), (true, terms.percent, terms.limits));
+    assert_eq!((head.prices, head.total, head.shortfall, head.rounds, head.visits), ([200, 400], 65_000, 0, 0, 2));
+    let figures: Vec<([u32; 2], u32, u32)> =
+        wheatrudder::lines(&statement).map(|line| (line.called, line.weight, line.paid)).collect();
+    assert_eq!(figures, [([1_250, 1_750], 0, 0), ([0, 0], 16_250, 49_706), ([0, 0], 5_000, 15_294)]);
+}
+
+#[test]
+fn a_row_between_the_stated_baseline_and_half_load_pays() {
+    // Row 2 at 12,000 kWh: under PH below its baseline and no payer, at 45 percent above it with a weight of 750.
+    let mut interval = Interval::x(1300);
+    interval.rows[1].metered = 12_000;
+    for (interval, due) in [
+        (interval.clone(), [(0, 0, 0), (5_000, 32_500, 32_500)]),
+        (interval.stating(Terms { percent: 45, ..Terms::OF_01 }), [(750, 39_000, 32_500), (5_000, 32_500, 32_500)]),
+    ] {
+        let mut statement = vec![0; interval.statement_length()];
+        wheatrudder::settle(&interval.bytes(), &[], &mut statement).expect("accepted");
+        let payers: Vec<(u32, u32, u32)> =
+            wheatrudder::lines(&statement).skip(1).map(|line| (line.weight, line.cap, line.paid)).collect();
+        assert_eq!(payers, due);
+    }
+}
+
+#[test]
+fn terms_out_of_range_are_refused_with_14() {
+    let answer = |percent, limits| {
+        let interval = Interval::new(1300, 0, Vec::new()).stating(Terms { percent, limits });
+        settle(&interval.bytes(), &[], &mut [0; 48])
+    };
+    let of_01 = Terms::OF_01.limits;
+    for percent in 0..=255 {
+        let due = if (41..=50).contains(&percent) { Ok(48) } else { Err((14, 0)) };
+        assert_eq!(answer(percent, of_01), due, "{percent} percent");
+    }
+    // Each limit at every value beside the others as they are.
+    for place in 0..4 {
+        for value in 0..=1_100 {
+            let mut limits = of_01;
+            limits[place] = value;
+            let [first, second, third, fourth] = limits;
+            let rising = 1 <= first && first < second && second <= third && third < fourth && fourth <= 1_000;
+            assert_eq!(answer(50, limits), if rising { Ok(48) } else { Err((14, 0)) }, "{limits:?}");
         }
     }
 }

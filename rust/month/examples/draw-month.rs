@@ -1,24 +1,31 @@
 //! Draws a month of files that are all accepted: `draw-month FOLDER STATEMENTS FIRST DAYS ROWS SEED [SHAPE]`.
 //!
-//! Each of the 96 quarters of each day, from day FIRST on, gets an interval file of so many rows, and one in three a correction.
-//! The first day's files lie in FOLDER, those of every other day in a subfolder. STATEMENTS gets what one call of
-//! `wheatrudder::settle` makes of each quarter. Files are named by the numbers of day and quarter: `9800-09.interval`,
-//! `9800-09.correction`, `9800-09.statement`. Rows are of any shape of `cases::accepted`, or of the one named, such as `Mixed`.
+//! Each of the 96 quarters of each day, from day FIRST on, gets an interval file of so many rows, and one in three a correction. Half of
+//! the interval files state no terms (`PH`); the others (`PG`) state those of document 01, or one of two that are drawn for the month.
+//! The first day's files lie in FOLDER, those of every other day in a subfolder. STATEMENTS gets the statement that is due for each
+//! quarter by the reference. Files are named by the numbers of day and quarter: `9800-09.interval`, `9800-09.correction`,
+//! `9800-09.statement`. Rows are of any shape of `cases::accepted`, or of the one named, such as `Mixed`.
 
 use std::error::Error;
 use std::fs;
+use std::iter;
 use std::path::Path;
 
-use cases::accepted::{SHAPES, Shape, interval_of, spoil};
-use cases::file::Interval;
+use cases::accepted::{SHAPES, interval_stating, spoil, terms};
+use cases::file::{Interval, STATEMENT_ROOM, Terms};
 use cases::random::Random;
 
 const USAGE: &str = "draw-month FOLDER STATEMENTS FIRST DAYS ROWS SEED [SHAPE], at most 256 rows";
 
-/// One quarter's interval file and correction, which is empty where there is none.
-fn pair(random: &mut Random, shape: Shape, rows: u32, day: u32, quarter: u8) -> (Vec<u8>, Vec<u8>) {
-    let interval = Interval { day, quarter, ..interval_of(random, shape, rows) };
-    if rows > 0 && random.once_in(3) {
+/// What the interval files of a month state: nothing in half of them.
+fn forms(random: &mut Random) -> [Option<Terms>; 6] {
+    let mut other = || iter::repeat_with(|| terms(random)).find(|terms| *terms != Terms::OF_01);
+    [None, None, None, Some(Terms::OF_01), other(), other()]
+}
+
+/// An interval file and its correction, which is empty where there is none.
+fn pair(random: &mut Random, interval: Interval) -> (Vec<u8>, Vec<u8>) {
+    if !interval.rows.is_empty() && random.once_in(3) {
         let (interval, correction) = spoil(random, interval);
         (interval.bytes(), correction.bytes())
     } else {
@@ -29,8 +36,8 @@ fn pair(random: &mut Random, shape: Shape, rows: u32, day: u32, quarter: u8) -> 
 /// Writes the files of one quarter and the statement due.
 fn put(folder: &Path, statements: &Path, name: &str, pair: (Vec<u8>, Vec<u8>)) -> Result<(), Box<dyn Error>> {
     let (interval, correction) = pair;
-    let mut statement = [0; 10_791];
-    let length = wheatrudder::settle(&interval, &correction, &mut statement)
+    let mut statement = [0; STATEMENT_ROOM];
+    let length = reference::settle(&interval, &correction, &mut statement)
         .map_err(|refusal| format!("{name} is refused: {refusal:?}"))?;
     fs::write(folder.join(format!("{name}.interval")), interval)?;
     if !correction.is_empty() {
@@ -51,13 +58,16 @@ fn main() -> Result<(), Box<dyn Error>> {
     let (first, days): (u32, u32) = (first.parse()?, days.parse()?);
     let rows = Some(rows.parse()?).filter(|rows| *rows <= 256).ok_or(USAGE)?;
     let mut random = Random::from_seed(seed.parse()?);
+    let forms = forms(&mut random);
     fs::create_dir_all(statements)?;
     for day in first..first + days {
         let folder = if day == first { folder.into() } else { Path::new(folder).join(format!("day {day}")) };
         fs::create_dir_all(&folder)?;
         for quarter in 0..96 {
             let shape = shape.unwrap_or_else(|| random.one_of(&SHAPES));
-            let pair = pair(&mut random, shape, rows, day, quarter);
+            let stated = random.one_of(&forms);
+            let interval = Interval { day, quarter, ..interval_stating(&mut random, shape, rows, stated) };
+            let pair = pair(&mut random, interval);
             put(&folder, Path::new(statements), &format!("{day}-{quarter:02}"), pair)?;
         }
     }

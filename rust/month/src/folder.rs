@@ -6,13 +6,13 @@ use std::os::unix::fs::FileTypeExt;
 use std::path::{Path, PathBuf};
 use std::time::SystemTime;
 
-use wheatrudder::{LINE, STATEMENT_HEAD};
+use wheatrudder::STATEMENT_ROOM;
 
 use crate::words::shown;
 
-/// So many bytes of a file are read: one more than the longest form has, a statement of 256 rows. An interval file or a
-/// correction has at most 5,391, so one that is cut here is still too long, and is refused as the whole file would be.
-pub const MOST: usize = STATEMENT_HEAD + 256 * LINE + 1;
+/// So many bytes of a file are read: one more than the longest form has, a statement of 256 rows with its terms. An interval file or a
+/// correction has at most 5,400, so one that is cut here is still too long, and is refused as the whole file would be.
+pub const MOST: usize = STATEMENT_ROOM + 1;
 
 /// So many bytes are read from the end of a longer file: what an archive of the usual kind (zip) ends with.
 pub const END: usize = 22;
@@ -173,7 +173,7 @@ mod tests {
 
     #[test]
     fn one_byte_more_than_the_longest_form() {
-        assert_eq!(MOST, 10_792);
+        assert_eq!(MOST, 10_801);
     }
 
     #[test]

@@ -2,14 +2,16 @@
 //! be a whole statement or something else altogether. What is not known may be a correction that was damaged.
 //!
 //! No signature here can be had from an interval file or a correction in which one byte was changed, lost or added. A zip is the only one
-//! that begins as a file of ours: it has a byte other than 0 where every day in range has 0, and another file's end.
+//! that begins as a file of ours: it has a byte other than 0 where every day in range has 0, and another file's end. Nor can a whole
+//! statement be had so: no length of an interval file or a correction is within one byte of a statement's.
 
 use std::fmt;
 
-use wheatrudder::{LINE, STATEMENT_HEAD};
+use wheatrudder::{LINE, STATEMENT_HEAD_PS, STATEMENT_HEAD_PT};
 
 use crate::calendar::Quarter;
 use crate::folder::{Content, END};
+use crate::terms::are_allowed;
 use crate::text::is_text;
 use crate::words::is_coming;
 
@@ -36,9 +38,9 @@ pub fn what(content: &Content) -> What {
     match bytes {
         _ if is_zip(content) => What::Else("an archive or office file (zip)"),
         _ if is_text(bytes, content.end.is_some()) => What::Else("text"),
-        [b'P', b'H', ..] => What::Interval(at),
+        [b'P', b'H' | b'G', ..] => What::Interval(at),
         [b'P', b'K', ..] => What::Correction(at),
-        [b'P', b'S', ..] => What::Statement { at, whole: is_whole_statement(content) },
+        [b'P', b'S' | b'T', ..] => What::Statement { at, whole: is_whole_statement(content) },
         _ if is_coming(bytes) => What::Coming,
         _ => match signed(bytes) {
             Some(known) => What::Else(known),
@@ -80,13 +82,15 @@ fn signed(bytes: &[u8]) -> Option<&'static str> {
     })
 }
 
-/// Whether the bytes are a whole statement: read to its end, of a quarter in range, as long as its number of rows says, its ids rising, and
-/// every sum in it the one that is due.
+/// Whether the bytes are a whole statement: read to its end, of a quarter in range, as long as its mark and its number of rows say, under
+/// terms that are allowed, its ids rising, and every sum in it the one that is due.
 fn is_whole_statement(content: &Content) -> bool {
     let bytes = &content.bytes;
     let Some(head) = wheatrudder::head(bytes) else { return false };
-    let fits = content.end.is_none() && bytes.len() == STATEMENT_HEAD + LINE * usize::from(head.rows);
+    let before_lines = if head.stated { STATEMENT_HEAD_PT } else { STATEMENT_HEAD_PS };
+    let fits = content.end.is_none() && bytes.len() == before_lines + LINE * usize::from(head.rows);
     fits && quarter(bytes).is_some()
+        && are_allowed(head.terms)
         && wheatrudder::lines(bytes).is_sorted_by(|one, next| one.id < next.id)
         && sums_agree(bytes)
 }
@@ -124,11 +128,15 @@ impl fmt::Display for What {
 
 #[cfg(test)]
 mod tests {
-    use cases::file::{Correction, Interval};
+    use cases::accepted::{SHAPES, Shape, interval_of_either, interval_stating};
+    use cases::file::{Correction, INTERVAL_HEAD_PG, INTERVAL_HEAD_PH, Interval, ROW, Terms};
+    use cases::random::Random;
+    use wheatrudder::{LINE, STATEMENT_HEAD_PS, STATEMENT_HEAD_PT};
 
     use super::{What, what};
     use crate::calendar::Quarter;
     use crate::folder::{Content, END, MOST};
+    use crate::terms::OTHER;
 
     /// The day whose number has the bytes 3 and 4: a correction of it begins as a zip does.
     const ZIP_DAY: u32 = 0x0403;
@@ -162,21 +170,28 @@ mod tests {
 
     #[test]
     fn kinds_and_quarters_are_read_from_seven_bytes() {
-        let (long, last) = (vec![0; 400], head(b"PH", 36_524, 95));
-        assert_eq!(of(&last), What::Interval(at(36_524, 95)));
-        assert_eq!(of(&[last, long].concat()), What::Interval(at(36_524, 95)));
+        for mark in [b"PH", b"PG"] {
+            let (long, last) = (vec![0; 400], head(mark, 36_524, 95));
+            assert_eq!(of(&last), What::Interval(at(36_524, 95)));
+            assert_eq!(of(&[last, long].concat()), What::Interval(at(36_524, 95)));
+            for nowhere in [head(mark, 36_525, 0), head(mark, 0, 96), head(mark, 0, 0)[..6].to_vec(), mark.to_vec()] {
+                assert_eq!(of(&nowhere), What::Interval(None), "{nowhere:?}");
+            }
+        }
+        for mark in [b"PS", b"PT"] {
+            assert_eq!(of(&head(mark, 0x0102, 7)), What::Statement { at: at(258, 7), whole: false });
+            assert_eq!(of(&head(mark, 36_525, 0)), What::Statement { at: None, whole: false });
+            assert_eq!(of(mark), What::Statement { at: None, whole: false });
+        }
         assert_eq!(of(&head(b"PK", 0x0102, 7)), What::Correction(at(258, 7)));
-        assert_eq!(of(&head(b"PS", 0x0102, 7)), What::Statement { at: at(258, 7), whole: false });
         let nowhere = [
-            (head(b"PH", 36_525, 0), What::Interval(None)),
-            (head(b"PH", 0, 96), What::Interval(None)),
-            (head(b"PH", 0, 0)[..6].to_vec(), What::Interval(None)),
             (head(b"PK", u32::MAX, 0), What::Correction(None)),
             (head(b"PK", 0, 255), What::Correction(None)),
             (head(b"PK", 0, 0)[..2].to_vec(), What::Correction(None)),
-            (head(b"PS", 36_525, 0), What::Statement { at: None, whole: false }),
             (b"PHONE LIST of everybody in the office".to_vec(), What::Else("text")),
+            (b"PGs for the winter, two of them new".to_vec(), What::Else("text")),
             (b"PS: please see the other file too".to_vec(), What::Else("text")),
+            (b"PTO: please turn over, there is more".to_vec(), What::Else("text")),
         ];
         for (bytes, due) in nowhere {
             assert_eq!(of(&bytes), due, "{bytes:?}");
@@ -185,10 +200,13 @@ mod tests {
 
     #[test]
     fn what_is_not_known_is_unknown() {
-        for bytes in [head(b"pH", 0, 0), head(b"HP", 0, 0), b"P".to_vec(), Vec::new(), b"a short text".to_vec()] {
-            assert_eq!(of(&bytes), What::Unknown, "{bytes:?}");
+        for mark in [b"pH", b"HP", b"Ph", b"pG", b"GP", b"Pg", b"PF", b"PI", b"PR"] {
+            assert_eq!(of(&head(mark, 0, 0)), What::Unknown, "{mark:?}");
         }
-        for mark in [b"PG", b"PT", b"PU", b"PW"] {
+        for bytes in [b"P".as_slice(), b"", b"a short text"] {
+            assert_eq!(of(bytes), What::Unknown, "{bytes:?}");
+        }
+        for mark in [b"PU", b"PW"] {
             assert_eq!(of(mark), What::Coming);
             assert_eq!(of(&head(mark, 0x0102, 7)), What::Coming);
             assert_eq!(of(&[mark.as_slice(), b" and a text that is long enough"].concat()), What::Else("text"));
@@ -296,6 +314,7 @@ mod tests {
                 let empty = Correction { rows: Vec::new(), ..interval.correcting(&[]) };
                 for bytes in [
                     interval.bytes(),
+                    interval.clone().stating(OTHER).bytes(),
                     interval.correcting(&[1]).bytes(),
                     interval.correcting(&[0, 2]).bytes(),
                     empty.bytes(),
@@ -308,6 +327,28 @@ mod tests {
                     }
                 }
             }
+        }
+    }
+
+    /// What is left of an interval file, of either form, is one wherever the damage spared its mark.
+    #[test]
+    fn a_damaged_interval_file_is_one_as_long_as_its_mark_stands() {
+        for interval in [Interval::x(1300), Interval::x(1300).stating(OTHER), Interval::x(1300).stating(Terms::OF_01)] {
+            let bytes = Interval { day: 9_800, quarter: 9, ..interval }.bytes();
+            let marked = damaged(&bytes).filter(|damaged| damaged.starts_with(&bytes[..2]));
+            for damaged in marked {
+                assert!(matches!(of(&damaged), What::Interval(_)), "{damaged:x?}");
+            }
+        }
+    }
+
+    #[test]
+    fn no_length_of_a_file_is_within_one_byte_of_a_statements() {
+        let lengths = |head: usize, record: usize| (0..=256).map(move |count| head + record * count);
+        let statements: Vec<usize> =
+            [STATEMENT_HEAD_PS, STATEMENT_HEAD_PT].into_iter().flat_map(|head| lengths(head, LINE)).collect();
+        for length in [INTERVAL_HEAD_PH, INTERVAL_HEAD_PG, 9].into_iter().flat_map(|head| lengths(head, ROW)) {
+            assert!(statements.iter().all(|statement| statement.abs_diff(length) > 1), "{length}");
         }
     }
 
@@ -325,9 +366,9 @@ mod tests {
         assert_eq!(of(&longer), What::Correction(None));
     }
 
-    fn statement(tariff: u16) -> Vec<u8> {
+    fn statement(interval: Interval) -> Vec<u8> {
         let mut statement = [0; MOST];
-        let interval = Interval { day: 9_800, quarter: 9, ..Interval::x(tariff) };
+        let interval = Interval { day: 9_800, quarter: 9, ..interval };
         let length = wheatrudder::settle(&interval.bytes(), &[], &mut statement).expect("accepted");
         statement[..length].to_vec()
     }
@@ -337,51 +378,95 @@ mod tests {
         let (kept, half) =
             (What::Statement { at: at(9_800, 9), whole: true }, What::Statement { at: at(9_800, 9), whole: false });
         for tariff in [1, 100, 1300] {
-            assert_eq!(of(&statement(tariff)), kept);
+            for interval in [Interval::x(tariff), Interval::x(tariff).stating(OTHER)] {
+                assert_eq!(of(&statement(interval)), kept);
+            }
         }
-        let bytes = statement(1300);
-        for length in 7..bytes.len() {
-            assert_eq!(of(&bytes[..length]), half, "{length}");
+        for (interval, before_lines, mark, other) in
+            [(Interval::x(1300), 39, b"PS", b"PT"), (Interval::x(1300).stating(OTHER), 48, b"PT", b"PS")]
+        {
+            let bytes = statement(interval);
+            assert_eq!((bytes.len(), &bytes[..2]), (before_lines + 3 * 42, mark.as_slice()));
+            for length in 7..bytes.len() {
+                assert_eq!(of(&bytes[..length]), half, "{length}");
+            }
+            assert_eq!(of(&[bytes.as_slice(), b"x"].concat()), half);
+            assert_eq!(of(&[other.as_slice(), &bytes[2..]].concat()), half, "the other form's mark");
+            assert_eq!(what(&Content { end: Some(vec![0; END]), ..Content::whole(&bytes) }), half);
+            // Total, shortfall, the number of rows; id, compensation, cut, payment, penalty and what is returned of the second line.
+            let line = before_lines + 42;
+            for place in [11, 18, 19, 26, 33, line + 3, line + 12, line + 16, line + 28, line + 34, line + 38] {
+                let mut bytes = bytes.clone();
+                bytes[place] ^= 0x80;
+                assert_eq!(of(&bytes), half, "{place}");
+            }
+            // The ids 1, 2, 3 as 1, 3, 3 and as 1, 1, 3.
+            for id in [3, 1] {
+                let mut bytes = bytes.clone();
+                bytes[line + 2] = id;
+                assert_eq!(of(&bytes), half, "{id}");
+            }
+            let mut far = bytes.clone();
+            far[6] = 96;
+            assert_eq!(of(&far), What::Statement { at: None, whole: false });
         }
-        assert_eq!(of(&[bytes.as_slice(), b"x"].concat()), half);
-        assert_eq!(what(&Content { end: Some(vec![0; END]), ..Content::whole(&bytes) }), half);
-        // Total, shortfall, the number of rows; id, compensation, cut, payment, penalty and what is returned of the second line.
-        let line = 39 + 42;
-        for place in [11, 18, 19, 26, 33, line + 3, line + 12, line + 16, line + 28, line + 34, line + 38] {
+    }
+
+    #[test]
+    fn a_statement_of_no_rows_is_whole_when_its_sums_are_0() {
+        let stated =
+            [head(b"PT", 0, 0), vec![0; 28], b"\x2d\x96\0\xfa\0\x5e\x01\xc2\x01".to_vec(), vec![0; 4]].concat();
+        for empty in [[head(b"PS", 0, 0), vec![0; 32]].concat(), stated] {
+            assert_eq!(of(&empty), What::Statement { at: at(0, 0), whole: true });
+            let mut most = empty;
+            most[11..27].fill(0xff);
+            assert_eq!(of(&most), What::Statement { at: at(0, 0), whole: false });
+        }
+    }
+
+    #[test]
+    fn a_statement_states_terms_that_are_allowed() {
+        let bytes = statement(Interval::x(1300).stating(OTHER));
+        let stating = |place: usize, value: u16| {
             let mut bytes = bytes.clone();
-            bytes[place] ^= 0x80;
-            assert_eq!(of(&bytes), half, "{place}");
+            bytes[place..place + 2].copy_from_slice(&value.to_le_bytes());
+            of(&bytes)
+        };
+        let at = at(9_800, 9);
+        // The percentage and the lower half of the first limit, then the limits, which stand from byte 36 on.
+        for (place, value) in
+            [(35, 0x9628), (35, 0x9633), (36, 0), (36, 250), (38, 351), (40, 450), (42, 350), (42, 1_001)]
+        {
+            assert_eq!(stating(place, value), What::Statement { at, whole: false }, "{place} {value}");
         }
-        // The ids 1, 2, 3 as 1, 3, 3 and as 1, 1, 3.
-        for id in [3, 1] {
-            let mut bytes = bytes.clone();
-            bytes[line + 2] = id;
-            assert_eq!(of(&bytes), half, "{id}");
+        for (place, value) in
+            [(35, 0x9629), (35, 0x9632), (36, 1), (36, 249), (38, 350), (40, 449), (42, 351), (42, 1_000)]
+        {
+            assert_eq!(stating(place, value), What::Statement { at, whole: true }, "{place} {value}");
         }
-        let mut far = bytes.clone();
-        far[6] = 96;
-        assert_eq!(of(&far), What::Statement { at: None, whole: false });
-        let empty = [head(b"PS", 0, 0), vec![0; 32]].concat();
-        assert_eq!(of(&empty), What::Statement { at: at(0, 0), whole: true });
-        let mut most = empty;
-        most[11..27].fill(0xff);
-        assert_eq!(of(&most), What::Statement { at: at(0, 0), whole: false });
+    }
+
+    #[test]
+    fn the_longest_statements_are_whole() {
+        for (stated, due) in [(None, 10_791), (Some(OTHER), 10_800)] {
+            let bytes = statement(interval_stating(&mut Random::from_seed(17), Shape::Full, 256, stated));
+            assert_eq!((bytes.len(), of(&bytes)), (due, What::Statement { at: at(9_800, 9), whole: true }));
+        }
     }
 
     #[test]
     fn a_statement_may_have_penalties_and_cuts() {
-        use cases::accepted::{SHAPES, interval_of};
-        use cases::random::Random;
         let mut random = Random::from_seed(17);
-        let (mut cuts, mut returned) = (0, 0);
+        let (mut cuts, mut returned) = ([0; 2], [0; 2]);
         for shape in SHAPES.into_iter().cycle().take(2_100) {
             let mut statement = [0; MOST];
-            let interval = interval_of(&mut random, shape, 12);
+            let interval = interval_of_either(&mut random, shape, 12);
             let length = wheatrudder::settle(&interval.bytes(), &[], &mut statement).expect("accepted");
             assert!(matches!(of(&statement[..length]), What::Statement { at: Some(_), whole: true }), "{shape:?}");
-            cuts += usize::from(wheatrudder::lines(&statement[..length]).any(|line| line.cut > 0));
-            returned += usize::from(wheatrudder::lines(&statement[..length]).any(|line| line.returned > 0));
+            let form = usize::from(interval.stated.is_some());
+            cuts[form] += usize::from(wheatrudder::lines(&statement[..length]).any(|line| line.cut > 0));
+            returned[form] += usize::from(wheatrudder::lines(&statement[..length]).any(|line| line.returned > 0));
         }
-        assert!(cuts > 100 && returned > 100, "{cuts} {returned}");
+        assert!(cuts.into_iter().chain(returned).all(|count| count > 50), "{cuts:?} {returned:?}");
     }
 }

@@ -11,6 +11,7 @@ mod run;
 mod settling;
 mod statements;
 mod tally;
+mod terms;
 mod text;
 mod words;
 

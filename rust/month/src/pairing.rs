@@ -81,6 +81,8 @@ impl Held {
 
 #[cfg(test)]
 mod tests {
+    use cases::file::{Interval, Terms};
+
     use super::{Held, Month, Source};
     use crate::calendar::Quarter;
     use crate::folder::{Content, END, MOST};
@@ -128,6 +130,19 @@ mod tests {
         assert_eq!(month.add_correction(at, source("k", b"k")), None);
         let due = "2026-10-31-q09: not settled, 3 interval files: a, b, c";
         assert_eq!(month.quarters[&at].hindrances(at), [due]);
+    }
+
+    #[test]
+    fn a_file_with_terms_and_one_without_are_two() {
+        let interval = Interval { day: 9_800, quarter: 9, ..Interval::x(1300) };
+        let (plain, stating) = (interval.bytes(), interval.clone().stating(Terms::OF_01).bytes());
+        let mut month = Month::default();
+        let at = quarter(9_800, 9);
+        // Both have the same terms and rows; still nobody chooses.
+        assert_eq!(month.add_interval(at, source("h", &plain)), None);
+        assert_eq!(month.add_interval(at, source("g", &stating)), None);
+        assert_eq!(month.add_interval(at, source("copy", &stating)), Some("g"));
+        assert_eq!(month.quarters[&at].hindrances(at), ["2026-10-31-q09: not settled, 2 interval files: h, g"]);
     }
 
     #[test]

@@ -35,6 +35,9 @@ impl<W: Write> Run<W> {
         self.withdraw_missing(&month)?;
         self.count_others()?;
         self.say(&self.tally.days())?;
+        for line in self.tally.ruled.lines() {
+            self.say(&line)?;
+        }
         self.say(&self.tally.to_string())?;
         self.out.flush()?;
         Ok(self.tally)
@@ -124,6 +127,9 @@ impl<W: Write> Run<W> {
             Outcome::Settled { length, corrected } => {
                 self.tally.settled += 1;
                 self.tally.corrected += usize::from(corrected);
+                if let Some(head) = wheatrudder::head(&self.buffer[..length]) {
+                    self.tally.ruled.add(quarter, head.terms, head.stated);
+                }
                 return self.write(quarter, length);
             }
             Outcome::Refused(line) => {
@@ -219,12 +225,14 @@ mod tests {
     #[test]
     fn what_changes_is_not_accounted_for_whatever_it_is() {
         let no_rows = [b"PS".as_slice(), &[0; 37]].concat();
-        for bytes in [b"a text that is long enough".as_slice(), b"%PDF-1.4 and so on", &no_rows, b"PK", b"?", b""] {
+        let stated = [b"PT".as_slice(), &[0; 33], b"\x2d\x01\0\x02\0\x02\0\x03\0", &[0; 4]].concat();
+        let known = [b"a text that is long enough".as_slice(), b"%PDF-1.4 and so on", &no_rows, &stated];
+        for bytes in known.into_iter().chain([b"PK".as_slice(), b"PG", b"?", b""]) {
             let (tally, said) = placed("x", Content { steady: false, ..Content::whole(bytes) });
             assert_eq!((tally.nowhere, tally.passed), (1, 0), "{bytes:?}");
             assert!(said.starts_with("x: not accounted for: it changed while it was read; it may be "), "{said}");
         }
-        for bytes in [b"a text that is long enough".as_slice(), b"%PDF-1.4 and so on", &no_rows] {
+        for bytes in known {
             let (tally, said) = placed("x", Content::whole(bytes));
             assert_eq!((tally.nowhere, tally.passed, said.as_str()), (0, 1, ""), "{bytes:?}");
         }
@@ -234,7 +242,7 @@ mod tests {
     fn a_list_of_plants_is_text_or_not_accounted_for() {
         let (tally, _) = placed("plants.csv", Content::whole("1,一号机,Unit 1\n".as_bytes()));
         assert_eq!((tally.nowhere, tally.passed), (0, 1));
-        for bytes in [b"".as_slice(), b"1,a\n", b"1,a list with a byte\0 in it\n", b"PT\0\0\0\0, a form to come\n"] {
+        for bytes in [b"".as_slice(), b"1,a\n", b"1,a list with a byte\0 in it\n", b"PU\0\0\0\0, a form to come\n"] {
             let (tally, said) = placed("plants.csv", Content::whole(bytes));
             assert_eq!((tally.nowhere, tally.passed), (1, 0), "{bytes:?}");
             assert!(said.starts_with("plants.csv: not accounted for: "), "{said}");
@@ -250,6 +258,17 @@ mod tests {
         assert_eq!((tally.misnamed, tally.nowhere), (1, 0));
         let due = "named for 2026-10-31-q12, but it is a correction for 2026-10-31-q09\n";
         assert_eq!(said, format!("2026-10-31-q12.correction: {due}"));
+        for mark in [b"PH", b"PG"] {
+            let interval = [mark.as_slice(), b"\x48\x26\0\0\x09"].concat();
+            let (tally, said) = placed("2026-10-31-q12", Content::whole(&interval));
+            assert_eq!((tally.misnamed, tally.nowhere), (1, 0));
+            assert_eq!(
+                said,
+                "2026-10-31-q12: named for 2026-10-31-q12, but it is an interval file for 2026-10-31-q09\n"
+            );
+            let (tally, said) = placed("2026-10-31-q09.interval", Content::whole(&interval));
+            assert_eq!((tally.misnamed, tally.nowhere, said.as_str()), (0, 0, ""));
+        }
         let (tally, said) = placed("x.Interval", Content::whole(b"a text that is long enough"));
         assert_eq!((tally.misnamed, tally.passed), (1, 1));
         assert_eq!(said, "x.Interval: named as an interval file, but it is text\n");

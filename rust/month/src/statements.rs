@@ -123,7 +123,7 @@ mod tests {
         let statements = Statements::open(&folder, &settled).expect("can be written");
         assert_eq!(names(&folder), [""; 0]);
         fs::write(folder.join("notes.txt"), "kept").expect("written");
-        for statement in [b"PS1".as_slice(), b"PS23", b""] {
+        for statement in [b"PS1".as_slice(), b"PT234", b"PS23", b""] {
             statements.write(at, statement).expect("written");
             assert_eq!(fs::read(folder.join("2026-10-31-q09.statement")).expect("there"), statement);
             assert_eq!(names(&folder), ["2026-10-31-q09.statement", "notes.txt"]);

@@ -1,9 +1,10 @@
-//! What is said at the end: the days, and how many of everything.
+//! What is said at the end: the days, the terms, and how many of everything.
 
 use std::collections::BTreeMap;
 use std::fmt;
 
 use crate::calendar::{Date, QUARTERS};
+use crate::terms::Ruled;
 
 /// How many of everything there were.
 #[derive(Default)]
@@ -27,6 +28,8 @@ pub struct Tally {
     pub statements: Option<Kept>,
     /// Of each day that a file names.
     pub days: BTreeMap<u32, Day>,
+    /// The terms of the quarters settled.
+    pub ruled: Ruled,
 }
 
 /// What was done in the folder of statements.

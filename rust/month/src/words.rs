@@ -5,7 +5,7 @@ use std::ffi::OsStr;
 use wheatrudder::Refusal;
 
 /// The forms of file that are announced and that this engine does not know.
-const COMING: [&[u8]; 4] = [b"PG", b"PT", b"PU", b"PW"];
+const COMING: [&[u8]; 2] = [b"PU", b"PW"];
 
 /// A refusal as `tell` prints it, and in words. The id is the one that stands at its place, if there is one.
 pub fn refused(refusal: Refusal, id: Option<u16>) -> String {
@@ -18,8 +18,8 @@ fn words(refusal: Refusal, id: Option<u16>) -> String {
         None => refusal.place.to_string(),
     };
     match (refusal.number, refusal.place) {
-        (1, _) => "The file is shorter than a head (15 bytes).".into(),
-        (2, _) => "It does not begin with PH: no interval file.".into(),
+        (1, _) => "The file is shorter than its head (15 bytes, or 24 if it begins with PG).".into(),
+        (2, _) => "It begins with neither PH nor PG: no interval file.".into(),
         (3, _) => "Day, quarter, tariff, need or number of rows is out of range.".into(),
         (4, _) => "The length does not fit the number of rows: bytes were lost or added.".into(),
         (5, _) => format!("Entry {entry} does not begin with PR: damaged."),
@@ -32,6 +32,9 @@ fn words(refusal: Refusal, id: Option<u16>) -> String {
             format!("Entry {entry} of the correction names no row, or changes more than meter reading and status.")
         }
         (11, _) => "The buffer lent for the statement is too short: a fault of this program, report it.".into(),
+        (14, _) => {
+            "The terms that the head states are out of range: the baseline, or the limits of bids, which have to rise from tier to tier.".into()
+        }
         (number, place) => {
             format!("Refused by check {number}, entry {place}; this version has no words for it.")
         }
@@ -92,9 +95,9 @@ mod tests {
 
     #[test]
     fn every_number_has_words_of_its_own() {
-        let said: Vec<String> = (1..=11).map(|number| refused(Refusal { number, place: 3 }, None)).collect();
-        for (index, text) in said.iter().enumerate() {
-            let number = index + 1;
+        let numbers = || (1..=11).chain([14]);
+        let said: Vec<String> = numbers().map(|number| refused(Refusal { number, place: 3 }, None)).collect();
+        for (number, text) in numbers().zip(&said) {
             let start = format!("refused {number} 3: ");
             assert!(text.starts_with(&start) && text.len() > start.len() + 20, "{text}");
             assert!(!text.contains("no words"), "{text}");
@@ -123,15 +126,15 @@ mod tests {
 
     #[test]
     fn a_later_number_is_said_too() {
-        let text = refused(Refusal { number: 14, place: 2 }, None);
-        assert_eq!(text, "refused 14 2: Refused by check 14, entry 2; this version has no words for it.");
+        let text = refused(Refusal { number: 17, place: 2 }, None);
+        assert_eq!(text, "refused 17 2: Refused by check 17, entry 2; this version has no words for it.");
     }
 
     #[test]
     fn announced_forms_are_told_from_others() {
-        assert!(coming(b"PG1234").contains("does not know"));
+        assert!(coming(b"PW1234").contains("does not know"));
         assert!(coming(b"PU").contains("does not know"));
-        for other in [b"PH".as_slice(), b"P", b"", b"xPG"] {
+        for other in [b"PH".as_slice(), b"PG", b"PT", b"P", b"", b"xPW"] {
             assert_eq!(coming(other), "");
             assert!(!is_coming(other));
         }

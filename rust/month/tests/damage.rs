@@ -1,5 +1,6 @@
 //! One file of a complete day is damaged in one place, or is no longer where or what it was. The folder may be called ready to book only if
-//! every statement is the one of the whole day, or the engine accepts the damaged file for a quarter of this day. Without exception.
+//! every statement is the one of the whole day, or the engine accepts the damaged file, in its own form, for a quarter of this day.
+//! Without exception.
 //!
 //! `SEED` and `TRIALS` in the environment say what is drawn, and how many damages are tried at least.
 
@@ -7,8 +8,8 @@ use std::fs::{self, File, Permissions};
 use std::os::unix::fs::{PermissionsExt, symlink};
 use std::path::{Path, PathBuf};
 
-use cases::accepted::{SHAPES, interval_of};
-use cases::file::Interval;
+use cases::accepted::{SHAPES, interval_stating, terms};
+use cases::file::{INTERVAL_HEAD_PG, INTERVAL_HEAD_PH, Interval, Row, STATEMENT_ROOM, Terms};
 use cases::random::Random;
 use month::{Bar, Quarter, settle_folder};
 
@@ -23,7 +24,7 @@ fn setting(name: &str, otherwise: u64) -> u64 {
 }
 
 fn settled(interval: &[u8], correction: &[u8]) -> Option<Vec<u8>> {
-    let mut statement = [0; 10_791];
+    let mut statement = [0; STATEMENT_ROOM];
     let length = wheatrudder::settle(interval, correction, &mut statement).ok()?;
     Some(statement[..length].to_vec())
 }
@@ -41,15 +42,28 @@ impl Day {
         (0..1_000).find_map(|_| Day::of_some_plants(random, number)).expect("plants whose readings count")
     }
 
-    /// The plants of a day are the same in every quarter, so that a correction may be accepted for a quarter that is not its own.
+    fn of_both_forms(random: &mut Random, number: u32) -> Day {
+        let has = |day: &Day, mark| !day.marked(mark).is_empty();
+        let mut days = (0..1_000).map(|_| Day::draw(random, number));
+        days.find(|day| has(day, b"PH") && has(day, b"PG")).expect("about half of the days")
+    }
+
+    /// The plants of a day are the same in every quarter, so that a correction may be accepted for a quarter that is not its own. Of some
+    /// days every interval file states the same terms, of others half of the files do and half state none.
     fn of_some_plants(random: &mut Random, number: u32) -> Option<Day> {
         let (shape, rows) = (random.one_of(&SHAPES), random.within(1..=3));
-        let plants = interval_of(random, shape, rows);
+        let stated = random.once_in(2).then(|| terms(random));
+        let plants = interval_stating(random, shape, rows, stated);
+        let forms = [stated, stated.or_else(|| Some(terms_of(random, &plants.rows)))];
         let mut day = Day { number, intervals: Vec::new(), corrections: Vec::new(), due: Vec::new() };
         let mut quarters: Vec<u8> = (0..96).collect();
         random.shuffle(&mut quarters);
         for quarter in 0..96 {
             let interval = metered(random, Interval { day: number, quarter, ..plants.clone() });
+            let interval = match random.one_of(&forms) {
+                Some(terms) => interval.stating(terms),
+                None => interval,
+            };
             let is_corrected = quarters[..CORRECTIONS].contains(&quarter);
             let correction = if is_corrected { correction(random, &interval)? } else { Vec::new() };
             day.due.push(settled(&interval.bytes(), &correction).expect("accepted"));
@@ -67,6 +81,29 @@ impl Day {
         let places = [all(&self.intervals, false), all(&self.corrections, true)].concat();
         places.into_iter().map(|(quarter, is_correction)| Piece { day: self, quarter, is_correction }).collect()
     }
+
+    /// The files that begin with a mark.
+    fn marked(&self, mark: &[u8; 2]) -> Vec<Piece<'_>> {
+        self.pieces().into_iter().filter(|piece| piece.bytes().starts_with(mark)).collect()
+    }
+}
+
+/// Terms under which rows are in range that are so under those of document 01.
+fn terms_of(random: &mut Random, rows: &[Row]) -> Terms {
+    let offers: Vec<&Row> = rows.iter().filter(|row| row.offered == 1).collect();
+    let fits = |percent: &u8| {
+        let terms = Terms { percent: *percent, ..Terms::OF_01 };
+        offers.iter().all(|row| row.minimum <= terms.baseline(row.capacity))
+    };
+    let percents: Vec<u8> = (41..=50).filter(fits).collect();
+    let bids = |tier: usize| offers.iter().map(move |row| u32::from(row.bids[tier]));
+    let (lowest, highest) = (|tier| bids(tier).min().unwrap_or(320), |tier| bids(tier).max().unwrap_or(320));
+    let mut limits = [0; 4];
+    limits[0] = random.within(1..=lowest(0) - 1);
+    limits[1] = random.within(highest(0)..=lowest(1));
+    limits[2] = random.within(limits[1]..=lowest(1));
+    limits[3] = random.within(highest(1).max(limits[2] + 1)..=1_000);
+    Terms { percent: random.one_of(&percents), limits: limits.map(|limit| limit as u16) }
 }
 
 /// The same interval with other readings.
@@ -236,7 +273,7 @@ fn is_lawful(trial: &Trial, bytes: &[u8], statements: &[Option<Vec<u8>>]) -> boo
     if due == statements {
         return true;
     }
-    let mark = if is_correction { b"PK" } else { b"PH" };
+    let mark = &trial.piece.bytes()[..2];
     let of_this_day = |bytes: &[u8]| bytes.starts_with(mark) && bytes[2..].starts_with(&day.number.to_le_bytes());
     let Some(&now) = bytes.get(6).filter(|now| of_this_day(bytes) && **now < 96) else { return false };
     let now = usize::from(now);
@@ -282,6 +319,20 @@ fn shortened_and_lengthened(random: &mut Random, bytes: &[u8]) -> Vec<Vec<u8>> {
 
 fn damaged(random: &mut Random, bytes: &[u8]) -> Vec<Vec<u8>> {
     [changed(random, bytes), shortened_and_lengthened(random, bytes)].concat()
+}
+
+/// The same of the terms alone, of a file that states them.
+fn damaged_terms(random: &mut Random, bytes: &[u8]) -> Vec<Vec<u8>> {
+    let (before, after) = (&bytes[..INTERVAL_HEAD_PH], &bytes[INTERVAL_HEAD_PG..]);
+    let terms = damaged(random, &bytes[INTERVAL_HEAD_PH..INTERVAL_HEAD_PG]);
+    terms.into_iter().map(|terms| [before, &terms, after].concat()).collect()
+}
+
+/// Some of many.
+fn some(random: &mut Random, mut many: Vec<Vec<u8>>, most: usize) -> Vec<Vec<u8>> {
+    random.shuffle(&mut many);
+    many.truncate(most);
+    many
 }
 
 /// A name for a damaged file: most often one that says nothing, so that its bytes alone are judged.
@@ -338,18 +389,21 @@ impl Count {
     }
 }
 
-/// All damages of one correction of a day, and a part of those of another and of some interval files.
+/// All damages of one correction of a day, and a part of those of another, of an interval file of each form that it has, and of the terms
+/// that one states.
 fn try_day(random: &mut Random, day: &Day, count: &mut Count) {
     let folders = Folders::new("day", day);
     assert!(folders.run(None).ready, "the day is complete");
-    let pieces = day.pieces();
-    let (intervals, corrections): (Vec<Piece>, Vec<Piece>) = pieces.iter().partition(|piece| !piece.is_correction);
-    let chosen = [random.one_of(&corrections), random.one_of(&corrections), random.one_of(&intervals)];
-    for (place, piece) in chosen.into_iter().chain([random.one_of(&intervals)]).enumerate() {
+    let files = [b"PK", b"PK", b"PH", b"PG"].map(|mark| day.marked(mark));
+    let chosen: Vec<Piece> = files.iter().filter(|files| !files.is_empty()).map(|files| random.one_of(files)).collect();
+    for (place, piece) in chosen.into_iter().enumerate() {
         let mut all = damaged(random, piece.bytes());
         if place > 0 {
-            random.shuffle(&mut all);
-            all.truncate(200);
+            all = some(random, all, 200);
+        }
+        if piece.bytes().starts_with(b"PG") {
+            let terms = damaged_terms(random, piece.bytes());
+            all.extend(some(random, terms, 400));
         }
         for bytes in all {
             let name = name(random, piece);
@@ -411,12 +465,10 @@ fn wrong_judges_are_found_out() {
         left.iter().all(|words| counted(ran, words) == 0)
     }
     let mut random = Random::from_seed(5);
-    let day = Day::draw(&mut random, 9_800);
+    let day = Day::of_both_forms(&mut random, 9_800);
     let folders = Folders::new("judges", &day);
-    let pieces = day.pieces();
-    let (first, last) = (pieces[17], *pieces.last().expect("a correction"));
     let mut found = [0; 6];
-    for piece in [first, last] {
+    for piece in [b"PH", b"PG", b"PK"].map(|mark| day.marked(mark)[0]) {
         let heads = changed(&mut random, &piece.bytes()[..CORRECTION_HEAD]);
         let rest = &piece.bytes()[CORRECTION_HEAD..];
         let heads = heads.into_iter().map(|head| Damage::Bytes([&head[..], rest].concat()));
@@ -444,11 +496,13 @@ fn wrong_judges_are_found_out() {
 #[test]
 fn what_an_accountant_keeps_beside_the_files_is_no_fault() {
     let mut random = Random::from_seed(3);
-    let day = Day::draw(&mut random, ZIP_DAY);
+    let day = Day::of_both_forms(&mut random, ZIP_DAY);
     let folders = Folders::new("kept", &day);
+    let [plain, stating] = [b"PH", b"PG"].map(|mark| day.marked(mark)[0]);
+    let statement = |piece: Piece| piece.full_name().replace("interval", "statement");
     let utf16: Vec<u8> = "\u{feff}一号机\t1\r\n二号机\t2\r\n".encode_utf16().flat_map(u16::to_le_bytes).collect();
     let long = [b"%PDF-1.7\n".as_slice(), &random.bytes(50_000)].concat();
-    let kept: [(&str, &[u8]); 9] = [
+    let kept: [(&str, &[u8]); 10] = [
         ("book.xlsx", include_bytes!("files/book.xlsx")),
         ("bill.pdf", &long),
         ("notes.txt", b"Ask the control centre about the third quarter."),
@@ -456,7 +510,8 @@ fn what_an_accountant_keeps_beside_the_files_is_no_fault() {
         ("wide.csv", &utf16),
         ("plants.csv", "1,一号机,Unit 1\n".as_bytes()),
         ("2026-10-31-q12.pdf", b"%PDF-1.4\n%\xe2\xe3\xcf\xd3\n"),
-        ("2002-10-24-q07.statement", &day.due[7]),
+        (&statement(plain), &day.due[plain.quarter]),
+        (&statement(stating), &day.due[stating.quarter]),
         ("late/book", include_bytes!("files/book.xlsx")),
     ];
     fs::create_dir(folders.files().join("late")).expect("a folder");
@@ -465,7 +520,8 @@ fn what_an_accountant_keeps_beside_the_files_is_no_fault() {
     }
     let ran = folders.run(None);
     assert!(ran.ready, "{}", ran.printed);
-    assert_eq!((counted(&ran, "passed over"), ran.printed.lines().count()), (kept.len(), 2), "{}", ran.printed);
+    // The days, the terms of either form, and the counts.
+    assert_eq!((counted(&ran, "passed over"), ran.printed.lines().count()), (kept.len(), 4), "{}", ran.printed);
     // The same, each with its first byte lost: none of them is known any more, but for text.
     for (name, bytes) in kept {
         let path = folders.files().join(name);

@@ -4,6 +4,7 @@ use crate::calls::Calls;
 use crate::files::{MAX_ROWS, Row};
 use crate::money::{compensation, penalty};
 use crate::share::{Sharer, Sharing, Turns};
+use crate::terms::Terms;
 
 /// The fen of one row; with every field in range each amount is below 2^32.
 #[derive(Clone, Copy, Debug, Default, PartialEq, Eq)]
@@ -38,7 +39,7 @@ impl Accounts {
     }
 
     /// Enters compensations and penalties.
-    pub fn enter(&mut self, rows: &[Row], calls: &Calls) {
+    pub fn enter(&mut self, rows: &[Row], terms: Terms, calls: &Calls) {
         self.of_rows.clear();
         self.of_rows.resize(rows.len(), Account::default());
         self.receivers.clear();
@@ -50,13 +51,13 @@ impl Accounts {
                 continue;
             }
             let account = &mut self.of_rows[position];
-            let compensation = compensation(row, called, calls.prices);
+            let compensation = compensation(row, called, calls.prices, terms);
             if compensation > 0 {
                 account.compensation = compensation as u32;
                 self.total += compensation;
                 self.receivers.push(Sharer { position, weight: compensation });
             }
-            let penalty = penalty(row, called, calls.prices);
+            let penalty = penalty(row, called, calls.prices, terms);
             if penalty > 0 {
                 account.penalty = penalty as u32;
                 self.penalty_money += penalty;

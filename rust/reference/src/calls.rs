@@ -1,8 +1,9 @@
 //! Merit order: which bands are called, for how much, and each tier's clearing price.
 
-use crate::files::{AT_40, AT_50, MAX_ROWS, Row};
+use crate::files::{AT_40, MAX_ROWS, Row};
 use crate::money::paid_energy;
 use crate::share::{Sharer, Sharing, Turns};
+use crate::terms::Terms;
 
 #[derive(Clone, Debug, PartialEq, Eq)]
 pub struct Calls {
@@ -48,7 +49,7 @@ impl Band {
 
 /// The bands of each tier, in lists that are used again from quarter to quarter.
 ///
-/// No bid of tier 1 is above 320 and none of tier 2 below (document 01, ranges), and at equal bids tier 1 goes before tier 2.
+/// Under any terms tier 1's highest bid is at most tier 2's lowest, and at equal bids tier 1 goes before tier 2.
 /// So by rising bid all of tier 1 comes before all of tier 2, and the tiers are called one after the other.
 pub(crate) struct MeritOrder {
     tiers: [Vec<Band>; 2],
@@ -60,12 +61,20 @@ impl MeritOrder {
     }
 
     /// Calls the bands of all offering rows by rising bid, tier 1 before tier 2, until the need is met.
-    pub fn call(&mut self, rows: &[Row], need: u32, turns: Turns, sharing: &mut Sharing, calls: &mut Calls) {
+    pub fn call(
+        &mut self,
+        rows: &[Row],
+        terms: Terms,
+        need: u32,
+        turns: Turns,
+        sharing: &mut Sharing,
+        calls: &mut Calls,
+    ) {
         let Calls { called, prices, uncovered } = calls;
         called.clear();
         called.resize(rows.len(), [0; 2]);
         (*prices, *uncovered) = ([0; 2], need);
-        self.list(rows);
+        self.list(rows, terms);
         for (tier, bands) in self.tiers.iter_mut().enumerate() {
             if *uncovered == 0 {
                 break;
@@ -81,16 +90,16 @@ impl MeritOrder {
                 reached = call_until_met(bands, *uncovered, turns, sharing, |row, kwh| called[row][tier] += kwh);
                 *uncovered = 0;
             }
-            prices[tier] = clearing_price(&bands[..reached], tier, rows, called);
+            prices[tier] = clearing_price(&bands[..reached], tier, rows, terms, called);
         }
     }
 
     /// Lists all bands that are not empty.
-    fn list(&mut self, rows: &[Row]) {
+    fn list(&mut self, rows: &[Row], terms: Terms) {
         self.tiers.iter_mut().for_each(Vec::clear);
         for (place, row) in (0..).zip(rows).filter(|(_, row)| row.offered == 1) {
-            let (half, two_fifths) = (row.at_load(AT_50), row.at_load(AT_40));
-            let widths = [half - row.minimum.max(two_fifths), two_fifths.saturating_sub(row.minimum)];
+            let (baseline, two_fifths) = (terms.baseline(row.capacity), row.at_load(AT_40));
+            let widths = [baseline - row.minimum.max(two_fifths), two_fifths.saturating_sub(row.minimum)];
             for (tier, bands) in self.tiers.iter_mut().enumerate() {
                 if widths[tier] > 0 {
                     bands.push(Band::new(row.bids[tier], place, widths[tier]));
@@ -132,8 +141,8 @@ fn width(bands: &[Band]) -> u32 {
 
 /// The last unit that delivered sets a tier's price: of the rows of status 0 called there, those with paid energy there
 /// count, and the highest of their bids is the price. Nobody delivered: 0 (document 02, request 1).
-fn clearing_price(bands: &[Band], tier: usize, rows: &[Row], called: &[[u32; 2]]) -> u16 {
-    let counts = |row: &Row, kwh: u32| row.status == 0 && kwh > 0 && paid_energy(row)[tier] > 0;
+fn clearing_price(bands: &[Band], tier: usize, rows: &[Row], terms: Terms, called: &[[u32; 2]]) -> u16 {
+    let counts = |row: &Row, kwh: u32| row.status == 0 && kwh > 0 && paid_energy(row, terms)[tier] > 0;
     let mut price = 0;
     // In sorted bands the last that counts is the highest, so few have to be looked at.
     for band in bands.iter().rev() {
@@ -145,8 +154,8 @@ fn clearing_price(bands: &[Band], tier: usize, rows: &[Row], called: &[[u32; 2]]
 }
 
 /// The calls of one quarter by themselves.
-pub fn call(rows: &[Row], need: u32, turns: Turns) -> Calls {
+pub fn call(rows: &[Row], terms: Terms, need: u32, turns: Turns) -> Calls {
     let mut calls = Calls::new();
-    MeritOrder::new().call(rows, need, turns, &mut Sharing::new(), &mut calls);
+    MeritOrder::new().call(rows, terms, need, turns, &mut Sharing::new(), &mut calls);
     calls
 }

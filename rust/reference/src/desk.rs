@@ -5,7 +5,7 @@ use crate::calls::{Calls, MeritOrder};
 use crate::files::{Head, MAX_ROWS, Refusal, Row, read_pair};
 use crate::rounds::{Payers, Rounds};
 use crate::share::{Sharing, Turns};
-use crate::statement::{LINE, STATEMENT_HEAD, write_head, write_line};
+use crate::statement::{LINE, STATEMENT_HEAD_PS, STATEMENT_HEAD_PT, write_head, write_line};
 
 /// All lists that a settlement needs, with room for as many rows as a file holds: settling takes no memory of its own.
 /// Each settlement begins with empty lists, so nothing passes from one to the next.
@@ -39,11 +39,12 @@ impl Desk {
     }
 
     /// Settles the quarter and writes its statement. The answer is the number of bytes written;
-    /// a refusal is a number from 1 to 11 with a place, and leaves the buffer as it was.
+    /// a refusal is a number, 1 to 11 or 14, with a place, and leaves the buffer as it was.
     pub fn settle(&mut self, interval: &[u8], correction: &[u8], statement: &mut [u8]) -> Result<usize, Refusal> {
         let head = read_pair(interval, correction, &mut self.rows, &mut self.corrected)?;
-        let length = STATEMENT_HEAD + LINE * head.rows;
-        let (out, body) = statement.get_mut(..length).and_then(<[u8]>::split_first_chunk_mut).ok_or((11, 0))?;
+        let before_lines = if head.stated.is_some() { STATEMENT_HEAD_PT } else { STATEMENT_HEAD_PS };
+        let length = before_lines + LINE * head.rows;
+        let (out, body) = statement.get_mut(..length).ok_or((11, 0))?.split_at_mut(before_lines);
         let rounds = self.work_out(&head);
         write_head(out, &head, &self.calls, self.accounts.total, &rounds);
         self.write_lines(body.as_chunks_mut().0);
@@ -53,10 +54,10 @@ impl Desk {
     /// Calls, compensations and penalties, payments, cuts: each follows from what stands before it.
     fn work_out(&mut self, head: &Head) -> Rounds {
         let Desk { rows, merit_order, calls, accounts, payers, sharing, .. } = self;
-        let turns = Turns::of(head.quarter, head.rows);
-        merit_order.call(rows, head.need, turns, sharing, calls);
-        accounts.enter(rows, calls);
-        payers.enter(rows, head.tariff);
+        let (terms, turns) = (head.terms(), Turns::of(head.quarter, head.rows));
+        merit_order.call(rows, terms, head.need, turns, sharing, calls);
+        accounts.enter(rows, terms, calls);
+        payers.enter(rows, terms, head.tariff);
         let rounds = payers.pay(accounts.total, turns, sharing);
         accounts.cut_and_return(rounds.shortfall, turns, sharing);
         rounds

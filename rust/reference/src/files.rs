@@ -1,9 +1,13 @@
 //! The interval file and its correction: reading with every check, and writing an interval back.
 
-/// The number of a refusal, 1 to 11, and the row it was found at, or 0.
+use crate::terms::{TERMS, Terms};
+
+/// The number of a refusal, 1 to 11 or 14, and the row it was found at, or 0.
 pub type Refusal = (u8, u16);
 
-pub const INTERVAL_HEAD: usize = 15;
+/// The head of a PH file; a PG file has its terms between these bytes and the rows.
+pub const INTERVAL_HEAD_PH: usize = 15;
+pub const INTERVAL_HEAD_PG: usize = INTERVAL_HEAD_PH + TERMS;
 pub const CORRECTION_HEAD: usize = 9;
 pub const ROW: usize = 21;
 pub const MAX_ROWS: usize = 256;
@@ -17,6 +21,8 @@ pub struct Interval {
     pub quarter: u8,
     pub tariff: u16,
     pub need: u32,
+    /// The terms that a PG file states; none in a PH file.
+    pub stated: Option<Terms>,
     pub rows: Vec<Row>,
 }
 
@@ -28,6 +34,8 @@ pub(crate) struct Head {
     pub tariff: u16,
     pub need: u32,
     pub rows: usize,
+    /// The terms that a PG file states; none in a PH file.
+    pub stated: Option<Terms>,
 }
 
 #[derive(Clone, Copy, Debug, PartialEq, Eq)]
@@ -44,7 +52,6 @@ pub struct Row {
 
 /// The energy of a quarter hour at some percentage of full load, in kWh for each MW; full load is 250.
 pub(crate) const AT_40: u32 = 100;
-pub(crate) const AT_50: u32 = 125;
 pub(crate) const AT_60: u32 = 150;
 pub(crate) const AT_70: u32 = 175;
 const AT_110: u32 = 275;
@@ -60,13 +67,14 @@ impl Row {
     }
 
     /// Nearly every row is in range, but rows differ in what they are: so each part is worked out, without a jump between.
-    fn in_range(&self) -> bool {
+    fn in_range(&self, terms: Terms) -> bool {
+        let [lowest_1, highest_1, lowest_2, highest_2] = terms.limits;
         let no_offer = (self.offered == 0) & (self.minimum == 0) & (self.bids == [0, 0]);
         let offer = (self.offered == 1)
             & self.is_thermal()
-            & (self.minimum <= self.at_load(AT_50))
-            & (100..=320).contains(&self.bids[0])
-            & (320..=750).contains(&self.bids[1]);
+            & (self.minimum <= terms.baseline(self.capacity))
+            & (lowest_1..=highest_1).contains(&self.bids[0])
+            & (lowest_2..=highest_2).contains(&self.bids[1]);
         let status_fits = (self.status <= 3) & (self.is_thermal() | matches!(self.status, 0 | 3));
         (self.id >= 1)
             & (1..=3).contains(&self.kind)
@@ -103,8 +111,8 @@ impl Row {
     }
 
     /// The checks 6 and 7.
-    fn check(&self, last_id: u16, place: u16) -> Result<(), Refusal> {
-        if !self.in_range() {
+    fn check(&self, terms: Terms, last_id: u16, place: u16) -> Result<(), Refusal> {
+        if !self.in_range(terms) {
             Err((6, place))
         } else if self.id <= last_id {
             Err((7, place))
@@ -115,40 +123,62 @@ impl Row {
 }
 
 impl Head {
-    fn read(bytes: &[u8; INTERVAL_HEAD]) -> Head {
+    fn read(bytes: &[u8; INTERVAL_HEAD_PH], stated: Option<Terms>) -> Head {
         Head {
             day: u32_at(bytes, 2),
             quarter: bytes[6],
             tariff: u16_at(bytes, 7),
             need: u32_at(bytes, 9),
             rows: u16_at(bytes, 13).into(),
+            stated,
         }
     }
 
     fn of(interval: &Interval) -> Head {
-        let &Interval { day, quarter, tariff, need, ref rows } = interval;
-        Head { day, quarter, tariff, need, rows: rows.len() }
+        let &Interval { day, quarter, tariff, need, stated, ref rows } = interval;
+        Head { day, quarter, tariff, need, rows: rows.len(), stated }
     }
 
-    fn in_range(&self) -> bool {
-        self.day <= LAST_DAY
+    /// The terms that the rows are held to and settled by.
+    pub fn terms(&self) -> Terms {
+        self.stated.unwrap_or(Terms::OF_01)
+    }
+
+    /// How many bytes stand before the rows.
+    pub fn length(&self) -> usize {
+        if self.stated.is_some() { INTERVAL_HEAD_PG } else { INTERVAL_HEAD_PH }
+    }
+
+    /// The checks 3 and 14.
+    fn check(&self) -> Result<(), Refusal> {
+        let fields_fit = self.day <= LAST_DAY
             && self.quarter <= LAST_QUARTER
             && (1..=10_000).contains(&self.tariff)
             && self.need <= 64_000_000
-            && self.rows <= MAX_ROWS
+            && self.rows <= MAX_ROWS;
+        if !fields_fit {
+            Err((3, 0))
+        } else if !self.terms().in_range() {
+            Err((14, 0))
+        } else {
+            Ok(())
+        }
     }
 
-    fn write(&self, out: &mut [u8; INTERVAL_HEAD]) {
-        out[..2].copy_from_slice(b"PH");
+    fn write(&self, out: &mut [u8]) {
+        out[..2].copy_from_slice(if self.stated.is_some() { b"PG" } else { b"PH" });
         out[2..6].copy_from_slice(&self.day.to_le_bytes());
         out[6] = self.quarter;
         out[7..9].copy_from_slice(&self.tariff.to_le_bytes());
         out[9..13].copy_from_slice(&self.need.to_le_bytes());
         out[13..15].copy_from_slice(&(self.rows as u16).to_le_bytes());
+        if let Some(terms) = self.stated {
+            out[15..].copy_from_slice(&terms.bytes());
+        }
     }
 }
 
-fn u16_at(bytes: &[u8], at: usize) -> u16 {
+pub(crate) fn u16_at(bytes: &[u8], at: usize) -> u16 {
     u16::from_le_bytes([bytes[at], bytes[at + 1]])
 }
 
@@ -156,53 +186,56 @@ fn u32_at(bytes: &[u8], at: usize) -> u32 {
     u32::from_le_bytes([bytes[at], bytes[at + 1], bytes[at + 2], bytes[at + 3]])
 }
 
-/// The checks 1 to 4: the head, and the records of the rows, of which nothing but the number is known.
+/// The checks from 1 to 4: the head, and the records of the rows, of which nothing but the number is known.
 fn read_head(file: &[u8]) -> Result<(Head, &[[u8; ROW]]), Refusal> {
-    let (bytes, body) = file.split_first_chunk().ok_or((1, 0))?;
-    if !bytes.starts_with(b"PH") {
-        return Err((2, 0));
-    }
-    let head = Head::read(bytes);
-    if !head.in_range() {
-        return Err((3, 0));
-    }
+    let (bytes, rest) = file.split_first_chunk::<INTERVAL_HEAD_PH>().ok_or((1, 0))?;
+    let (stated, body) = match &bytes[..2] {
+        b"PH" => (None, rest),
+        b"PG" => {
+            let (terms, body) = rest.split_first_chunk().ok_or((1, 0))?;
+            (Some(Terms::read(terms)), body)
+        }
+        _ => return Err((2, 0)),
+    };
+    let head = Head::read(bytes, stated);
+    head.check()?;
     if body.len() != ROW * head.rows {
         return Err((4, 0));
     }
     Ok((head, body.as_chunks().0))
 }
 
-/// Hands over row by row, each after its checks 5, 6 and 7.
-fn each_row(records: &[[u8; ROW]], mut take: impl FnMut(Row)) -> Result<(), Refusal> {
+/// Hands over row by row, each after its checks 5, 6 and 7 under the interval's terms.
+fn each_row(records: &[[u8; ROW]], terms: Terms, mut take: impl FnMut(Row)) -> Result<(), Refusal> {
     let mut last_id = 0;
     for (place, record) in (1..).zip(records) {
         if !record.starts_with(b"PR") {
             return Err((5, place));
         }
         let row = Row::read(record);
-        row.check(last_id, place)?;
+        row.check(terms, last_id, place)?;
         last_id = row.id;
         take(row);
     }
     Ok(())
 }
 
-/// Reads an interval file by the checks 1 to 7.
+/// Reads an interval file by the checks 1 to 7, and 14.
 pub fn read_interval(file: &[u8]) -> Result<Interval, Refusal> {
     let mut rows = Vec::new();
-    let Head { day, quarter, tariff, need, .. } = read_into(file, &mut rows)?;
-    Ok(Interval { day, quarter, tariff, need, rows })
+    let Head { day, quarter, tariff, need, stated, .. } = read_into(file, &mut rows)?;
+    Ok(Interval { day, quarter, tariff, need, stated, rows })
 }
 
 /// The same into a list that is used again.
 fn read_into(file: &[u8], rows: &mut Vec<Row>) -> Result<Head, Refusal> {
     let (head, records) = read_head(file)?;
     rows.clear();
-    each_row(records, |row| rows.push(row))?;
+    each_row(records, head.terms(), |row| rows.push(row))?;
     Ok(head)
 }
 
-/// Reads both files by the checks 1 to 10 and puts the correction's rows in place of the interval's.
+/// Reads both files by the checks 1 to 10, and 14, and puts the correction's rows in place of the interval's.
 /// `corrected` is room for the rows of the correction.
 pub(crate) fn read_pair(
     interval: &[u8],
@@ -230,7 +263,7 @@ fn correct(interval: &Head, rows: &mut [Row], correction: &[u8], corrected: &mut
         return Err((8, 0));
     }
     corrected.clear();
-    each_row(body.as_chunks().0, |row| corrected.push(row)).map_err(|(_, place)| (8, place))?;
+    each_row(body.as_chunks().0, interval.terms(), |row| corrected.push(row)).map_err(|(_, place)| (8, place))?;
     if (day, quarter) != (interval.day, interval.quarter) {
         return Err((9, 0));
     }
@@ -245,15 +278,13 @@ fn correct(interval: &Head, rows: &mut [Row], correction: &[u8], corrected: &mut
     Ok(())
 }
 
-/// Writes an interval file; its contents are checked by 3, 6 and 7, its buffer by 11.
+/// Writes an interval file; its contents are checked by 3, 14, 6 and 7, its buffer by 11.
 pub fn write_interval(interval: &Interval, out: &mut [u8]) -> Result<usize, Refusal> {
     let head = Head::of(interval);
-    if !head.in_range() {
-        return Err((3, 0));
-    }
+    head.check()?;
     let mut last_id = 0;
     for (place, row) in (1..).zip(&interval.rows) {
-        row.check(last_id, place)?;
+        row.check(head.terms(), last_id, place)?;
         last_id = row.id;
     }
     write_checked(&head, interval.rows.iter().copied(), out)
@@ -262,14 +293,14 @@ pub fn write_interval(interval: &Interval, out: &mut [u8]) -> Result<usize, Refu
 /// Reads an interval file and writes its contents out again. All of it is checked before anything is written.
 pub fn rewrite(interval: &[u8], out: &mut [u8]) -> Result<usize, Refusal> {
     let (head, records) = read_head(interval)?;
-    each_row(records, |_| ())?;
+    each_row(records, head.terms(), |_| ())?;
     write_checked(&head, records.iter().map(Row::read), out)
 }
 
 /// Writes contents that have passed their checks; the buffer is checked by 11.
 fn write_checked(head: &Head, rows: impl Iterator<Item = Row>, out: &mut [u8]) -> Result<usize, Refusal> {
-    let length = INTERVAL_HEAD + ROW * head.rows;
-    let (bytes, body) = out.get_mut(..length).and_then(<[u8]>::split_first_chunk_mut).ok_or((11, 0))?;
+    let length = head.length() + ROW * head.rows;
+    let (bytes, body) = out.get_mut(..length).ok_or((11, 0))?.split_at_mut(head.length());
     head.write(bytes);
     for (row, record) in rows.zip(body.as_chunks_mut().0) {
         row.write(record);

@@ -7,15 +7,19 @@ use crate::calls::Calls;
 use crate::files::Head;
 use crate::rounds::{Payer, Rounds};
 
-pub const STATEMENT_HEAD: usize = 39;
+pub const STATEMENT_HEAD_PS: usize = 39;
+/// The head of a PG file's statement: the terms stand before the last field.
+pub const STATEMENT_HEAD_PT: usize = 48;
 pub const LINE: usize = 42;
 
 /// Widths of the fields after the mark.
-const HEAD_FIELDS: [usize; 10] = [4, 1, 2, 2, 8, 8, 2, 4, 2, 4];
+const PS_FIELDS: [usize; 10] = [4, 1, 2, 2, 8, 8, 2, 4, 2, 4];
+const PT_FIELDS: [usize; 15] = [4, 1, 2, 2, 8, 8, 2, 4, 2, 1, 2, 2, 2, 2, 4];
 const LINE_FIELDS: [usize; 11] = [2, 4, 4, 4, 4, 4, 4, 4, 2, 4, 4];
 
-pub(crate) fn write_head(out: &mut [u8; STATEMENT_HEAD], interval: &Head, calls: &Calls, total: u64, rounds: &Rounds) {
-    out[..2].copy_from_slice(b"PS");
+/// Writes the head into as many bytes as its form has.
+pub(crate) fn write_head(out: &mut [u8], interval: &Head, calls: &Calls, total: u64, rounds: &Rounds) {
+    out[..2].copy_from_slice(if interval.stated.is_some() { b"PT" } else { b"PS" });
     out[2..6].copy_from_slice(&interval.day.to_le_bytes());
     out[6] = interval.quarter;
     out[7..9].copy_from_slice(&calls.prices[0].to_le_bytes());
@@ -25,7 +29,11 @@ pub(crate) fn write_head(out: &mut [u8; STATEMENT_HEAD], interval: &Head, calls:
     out[27..29].copy_from_slice(&rounds.count.to_le_bytes());
     out[29..33].copy_from_slice(&calls.uncovered.to_le_bytes());
     out[33..35].copy_from_slice(&(interval.rows as u16).to_le_bytes());
-    out[35..39].copy_from_slice(&rounds.visits.to_le_bytes());
+    let visits = out.len() - 4;
+    if let Some(stated) = interval.stated {
+        out[35..visits].copy_from_slice(&stated.bytes());
+    }
+    out[visits..].copy_from_slice(&rounds.visits.to_le_bytes());
 }
 
 pub(crate) fn write_line(out: &mut [u8; LINE], id: u16, called: [u32; 2], account: &Account, payer: &Payer) {
@@ -46,8 +54,13 @@ pub(crate) fn write_line(out: &mut [u8; LINE], id: u16, called: [u32; 2], accoun
 /// A statement as text: a line for the head and for each row, its fields in decimal with one space between.
 pub fn lines_of_text(statement: &[u8]) -> String {
     let mut text = String::new();
-    let (head, body) = statement.split_at(STATEMENT_HEAD);
-    line_of_text(head, &HEAD_FIELDS, &mut text);
+    let (length, fields) = if statement.starts_with(b"PT") {
+        (STATEMENT_HEAD_PT, &PT_FIELDS[..])
+    } else {
+        (STATEMENT_HEAD_PS, &PS_FIELDS[..])
+    };
+    let (head, body) = statement.split_at(length);
+    line_of_text(head, fields, &mut text);
     for line in body.chunks_exact(LINE) {
         line_of_text(line, &LINE_FIELDS, &mut text);
     }

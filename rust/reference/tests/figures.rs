@@ -1,8 +1,8 @@
 //! The figures of document 01, P1 to P11 and those that are only run, and those worked out for the requests of document 02.
 
 use reference::{
-    Calls, Desk, Interval, Row, Sharer, Turns, call, fen, paid_energy, penalty, settle, share, tell, thermal_cap,
-    thermal_weight,
+    Calls, Desk, Interval, Row, Sharer, TELL_READS, Terms, Turns, call, counting_row, fen, paid_energy, penalty,
+    read_interval, rewrite, settle, share, tell, thermal_cap, thermal_weight, write_interval,
 };
 
 fn row(id: u16, kind: u8, metered: u32) -> Row {
@@ -15,27 +15,34 @@ fn offering(id: u16, metered: u32, minimum: u32, bids: [u16; 2]) -> Row {
 
 fn x(tariff: u16) -> Interval {
     let rows = vec![offering(1, 9_000, 8_000, [200, 400]), row(2, 1, 20_000), row(3, 2, 5_000)];
-    Interval { day: 0, quarter: 0, tariff, need: 3_000, rows }
+    Interval { day: 0, quarter: 0, tariff, need: 3_000, stated: None, rows }
 }
 
 /// The bytes of an interval, without the checks of the writer.
 fn bytes(interval: &Interval) -> Vec<u8> {
-    let mut bytes = b"PH".to_vec();
+    let mut bytes = if interval.stated.is_some() { b"PG" } else { b"PH" }.to_vec();
     bytes.extend(interval.day.to_le_bytes());
     bytes.push(interval.quarter);
     bytes.extend(interval.tariff.to_le_bytes());
     bytes.extend(interval.need.to_le_bytes());
     bytes.extend((interval.rows.len() as u16).to_le_bytes());
-    for row in &interval.rows {
-        bytes.extend(b"PR");
-        bytes.extend(row.id.to_le_bytes());
-        bytes.push(row.kind);
-        bytes.extend(row.capacity.to_le_bytes());
-        bytes.extend(row.metered.to_le_bytes());
-        bytes.extend([row.status, row.offered]);
-        bytes.extend(row.minimum.to_le_bytes());
-        bytes.extend(row.bids.into_iter().flat_map(u16::to_le_bytes));
+    if let Some(Terms { percent, limits }) = interval.stated {
+        bytes.push(percent);
+        bytes.extend(limits.into_iter().flat_map(u16::to_le_bytes));
     }
+    bytes.extend(interval.rows.iter().flat_map(row_bytes));
+    bytes
+}
+
+fn row_bytes(row: &Row) -> Vec<u8> {
+    let mut bytes = b"PR".to_vec();
+    bytes.extend(row.id.to_le_bytes());
+    bytes.push(row.kind);
+    bytes.extend(row.capacity.to_le_bytes());
+    bytes.extend(row.metered.to_le_bytes());
+    bytes.extend([row.status, row.offered]);
+    bytes.extend(row.minimum.to_le_bytes());
+    bytes.extend(row.bids.into_iter().flat_map(u16::to_le_bytes));
     bytes
 }
 
@@ -64,7 +71,8 @@ fn p1_to_p5_interval_x() {
 
 #[test]
 fn p6_thermal_weights() {
-    let weights = [12_500, 15_000, 15_001, 17_500, 17_501, 27_500].map(|kwh| thermal_weight(&row(1, 1, kwh)));
+    let weights =
+        [12_500, 15_000, 15_001, 17_500, 17_501, 27_500].map(|kwh| thermal_weight(&row(1, 1, kwh), Terms::OF_01));
     assert_eq!(weights, [0, 2_500, 2_502, 7_500, 7_503, 37_500]);
 }
 
@@ -91,7 +99,7 @@ fn p7_p8_sharing() {
 fn p9_a_shared_call() {
     let narrow = offering(1, 9_000, 10_000, [200, 320]);
     let wide = Row { capacity: 200, minimum: 20_000, ..offering(2, 9_000, 0, [200, 320]) };
-    let calls = call(&[narrow, wide], 100, Turns::of(0, 2));
+    let calls = call(&[narrow, wide], Terms::OF_01, 100, Turns::of(0, 2));
     assert_eq!(calls, Calls { called: vec![[33, 0], [67, 0]], prices: [200, 0], uncovered: 0 });
 }
 
@@ -107,7 +115,7 @@ fn p11_li_to_fen() {
 
 #[test]
 fn run_only_paid_energy() {
-    let energies = [12_499, 10_000, 9_999, 12_500].map(|metered| paid_energy(&row(1, 1, metered)));
+    let energies = [12_499, 10_000, 9_999, 12_500].map(|metered| paid_energy(&row(1, 1, metered), Terms::OF_01));
     assert_eq!(energies, [[1, 0], [2_500, 0], [2_500, 1], [0, 0]]);
 }
 
@@ -168,8 +176,19 @@ fn a_desk_keeps_nothing_from_quarter_to_quarter() {
     let mut refused = x(1300);
     refused.rows[2].capacity = 0;
     let empty = Interval { rows: Vec::new(), ..x(1300) };
-    let quarters =
-        [tied_cuts(1), x(1000), refused, empty, tied_payments(2), reduced(1300, 9_000), x(3545), tied_calls(1)];
+    let at_45 = |interval: Interval| Interval { stated: Some(percent(45)), ..interval };
+    let quarters = [
+        tied_cuts(1),
+        x(1000),
+        at_45(x(1000)),
+        refused,
+        empty,
+        tied_payments(2),
+        at_45(reduced(1300, 9_000)),
+        reduced(1300, 9_000),
+        x(3545),
+        tied_calls(1),
+    ];
     let mut desk = Desk::new();
     for interval in quarters.iter().chain(quarters.iter().rev()).map(bytes) {
         let [mut at_desk, mut alone] = [[7; 300]; 2];
@@ -276,10 +295,10 @@ fn request_1_called_for_nothing_sets_no_price() {
     // A need of 1 kWh at one bid goes to the wider band. Its row stayed at half load; the row that ran low is called for 0.
     let idle = Row { capacity: 200, minimum: 20_000, ..offering(2, 25_000, 0, [200, 320]) };
     let rows = [offering(1, 9_000, 10_000, [200, 320]), idle];
-    let calls = call(&rows, 1, Turns::of(0, 2));
+    let calls = call(&rows, Terms::OF_01, 1, Turns::of(0, 2));
     assert_eq!(calls, Calls { called: vec![[0, 0], [1, 0]], prices: [0, 0], uncovered: 0 });
     // A need of 100 calls both, and one that delivers is enough.
-    let calls = call(&rows, 100, Turns::of(0, 2));
+    let calls = call(&rows, Terms::OF_01, 100, Turns::of(0, 2));
     assert_eq!(calls, Calls { called: vec![[33, 0], [67, 0]], prices: [200, 0], uncovered: 0 });
 }
 
@@ -507,7 +526,7 @@ fn request_4_only_status_2_owes() {
 
 /// What row 2 owes at a meter reading, where it was called for so much at these prices.
 fn owed(metered: u32, called: [u32; 2], prices: [u16; 2]) -> u64 {
-    penalty(&Row { status: 2, ..dearer(metered) }, called, prices)
+    penalty(&Row { status: 2, ..dearer(metered) }, called, prices, Terms::OF_01)
 }
 
 #[test]
@@ -671,4 +690,415 @@ fn request_8_is_the_heads_last_field() {
     let mut statement = [7; 39 + 4 * 42];
     assert_eq!(settle(&bytes(&three_payers(600)), &[], &mut statement), Ok(207));
     assert_eq!(statement[33..41], [4, 0, 6, 0, 0, 0, b'P', b'L']);
+}
+
+/// The terms of document 01 with another baseline.
+fn percent(percent: u8) -> Terms {
+    Terms { percent, ..Terms::OF_01 }
+}
+
+/// The terms of document 01 with other limits.
+fn limits(limits: [u16; 4]) -> Terms {
+    Terms { limits, ..Terms::OF_01 }
+}
+
+/// The same interval in a PG file.
+fn stating(terms: Terms, interval: Interval) -> Interval {
+    Interval { stated: Some(terms), ..interval }
+}
+
+#[test]
+fn request_6_baselines_are_cut_to_whole_kwh() {
+    let figures = [
+        // 102.5, 307.5, 10,352.5 and 204,897.5 kWh; at an even capacity nothing is cut.
+        (41, [102, 205, 307, 10_352, 204_897, 205_000]),
+        (45, [112, 225, 337, 11_362, 224_887, 225_000]),
+        (49, [122, 245, 367, 12_372, 244_877, 245_000]),
+        // An even percentage cuts nothing at any capacity.
+        (46, [115, 230, 345, 11_615, 229_885, 230_000]),
+        (50, [125, 250, 375, 12_625, 249_875, 250_000]),
+    ];
+    for (of, due) in figures {
+        assert_eq!([1, 2, 3, 101, 1_999, 2_000].map(|capacity| percent(of).baseline(capacity)), due, "{of} percent");
+    }
+}
+
+#[test]
+fn request_6_paid_energy_and_weights_from_the_stated_baseline() {
+    let paid = |of, capacity, metered| paid_energy(&Row { capacity, ..row(1, 1, metered) }, percent(of));
+    // 100 MW at 45 percent are 11,250 kWh.
+    assert_eq!([11_250, 11_249, 10_000, 9_999].map(|kwh| paid(45, 100, kwh)), [[0, 0], [1, 0], [1_250, 0], [1_250, 1]]);
+    // 101 MW: 11,362.5 cut to 11,362. 1 MW at 41 percent: 102.5 cut to 102.
+    assert_eq!([11_362, 11_361].map(|kwh| paid(45, 101, kwh)), [[0, 0], [1, 0]]);
+    assert_eq!([102, 101, 100, 99].map(|kwh| paid(41, 1, kwh)), [[0, 0], [1, 0], [2, 0], [2, 1]]);
+    let weight = |of, capacity, metered| thermal_weight(&Row { capacity, ..row(1, 1, metered) }, percent(of));
+    // From 11,250 to 15,000 once, to 17,500 twice, above three times.
+    let weights = [11_250, 11_251, 12_500, 15_000, 15_001, 17_500, 17_501, 27_500].map(|kwh| weight(45, 100, kwh));
+    assert_eq!(weights, [0, 1, 1_250, 3_750, 3_752, 8_750, 8_753, 38_750]);
+    assert_eq!([102, 103, 150, 175, 275].map(|kwh| weight(41, 1, kwh)), [0, 1, 48, 98, 398]);
+}
+
+#[test]
+fn request_6_statements() {
+    let statements = [
+        // Interval X at 45 percent. Row 1's bands are 1,250 and 2,000 kWh; it is paid 1,250 at 200 and 1,000 at 400 li, 65,000 fen. Row 2
+        // weighs 3,750 + 2 x 2,500 + 3 x 2,500. Of 65,000 fen over 21,250 kWh it owes 49,705.88 and row 3 15,294.12.
+        (
+            stating(percent(45), x(1300)),
+            [
+                "0 0 200 400 65000 0 0 0 3 45 100 320 320 750 2",
+                "1 1250 1750 65000 0 0 0 0 0 0 0",
+                "2 0 0 0 0 16250 65000 49706 0 0 0",
+                "3 0 0 0 0 5000 32500 15294 0 0 0",
+            ],
+        ),
+        // At 41 percent tier 1 is 250 kWh wide: 250 x 200 + 1,000 x 400 li. All offered, 2,250 kWh, are called and 750 are uncovered.
+        // Row 2 weighs 4,750 + 5,000 + 7,500; of 45,000 over 22,250 it owes 34,887.64 and row 3 10,112.36.
+        (
+            stating(percent(41), x(1300)),
+            [
+                "0 0 200 400 45000 0 0 750 3 41 100 320 320 750 2",
+                "1 250 2000 45000 0 0 0 0 0 0 0",
+                "2 0 0 0 0 17250 65000 34888 0 0 0",
+                "3 0 0 0 0 5000 32500 10112 0 0 0",
+            ],
+        ),
+        // Row 1 at 12,000 kWh is below half load: under 01's terms it delivers 500 kWh at 200 li and is paid for them.
+        (
+            stating(Terms::OF_01, x_metered(12_000)),
+            [
+                "0 0 200 0 10000 0 0 0 3 50 100 320 320 750 2",
+                "1 2500 500 10000 0 0 0 0 0 0 0",
+                "2 0 0 0 0 15000 65000 7500 0 0 0",
+                "3 0 0 0 0 5000 32500 2500 0 0 0",
+            ],
+        ),
+        // At 45 percent it is above its baseline: called, but it delivers nothing and is a payer, with a weight of 750.
+        (
+            stating(percent(45), x_metered(12_000)),
+            [
+                "0 0 0 0 0 0 0 0 3 45 100 320 320 750 3",
+                "1 1250 1750 0 0 750 39000 0 0 0 0",
+                "2 0 0 0 0 16250 65000 0 0 0 0",
+                "3 0 0 0 0 5000 32500 0 0 0 0",
+            ],
+        ),
+        // Limits that meet: at one bid all of tier 1, 2,500 kWh of both rows, goes before tier 2, of which row 1 gives 100.
+        (
+            Interval {
+                need: 2_600,
+                rows: vec![offering(1, 8_000, 8_000, [300, 300]), offering(2, 10_000, 10_000, [300, 400])],
+                ..stating(Terms { percent: 45, limits: [200, 300, 300, 400] }, x(1300))
+            },
+            [
+                "0 0 300 300 135000 135000 0 0 2 45 200 300 300 400 0",
+                "1 1250 100 97500 97500 0 0 0 0 0 0",
+                "2 1250 0 37500 37500 0 0 0 0 0 0",
+                "",
+            ],
+        ),
+        // A reduced unit at 11,000 kWh delivers 250 kWh below the baseline of 1,250 called, and none of 2,000: 2 x (1,000 x 200 + 2,000 x
+        // 400) li. Both rows offer 6,500 kWh of the 9,000 needed. Of 65,000 fen the wind farm pays 32,500, penalty money the rest.
+        (
+            stating(percent(45), reduced(1300, 11_000)),
+            [
+                "0 0 200 400 65000 32500 1 2500 3 45 100 320 320 750 1",
+                "1 1250 2000 65000 0 0 0 0 0 0 0",
+                "2 1250 2000 0 0 0 0 0 0 200000 167500",
+                "3 0 0 0 0 5000 32500 32500 1 0 0",
+            ],
+        ),
+        // The same at its baseline exactly: nothing delivered, and a payer of weight 0 with a cap of 36,562.5, cut.
+        (
+            stating(percent(45), reduced(1300, 11_250)),
+            [
+                "0 0 200 400 65000 32500 1 2500 3 45 100 320 320 750 1",
+                "1 1250 2000 65000 0 0 0 0 0 0 0",
+                "2 1250 2000 0 0 0 36562 0 0 210000 177500",
+                "3 0 0 0 0 5000 32500 32500 1 0 0",
+            ],
+        ),
+    ];
+    for (interval, lines) in statements {
+        let lines: Vec<&str> = lines.into_iter().filter(|line| !line.is_empty()).collect();
+        assert_eq!(tell(&bytes(&interval)).lines().collect::<Vec<_>>(), lines);
+    }
+}
+
+#[test]
+fn request_6_a_row_between_the_stated_baseline_and_half_load() {
+    // Interval X with row 2 at 12,000 kWh, not offering. Under PH it is no payer, and of 90,000 fen the wind farm pays its cap.
+    let mut interval = x(1300);
+    interval.rows[1].metered = 12_000;
+    let of_01 = told(&interval);
+    assert_eq!(of_01[0][4..], [90_000, 57_500, 1, 0, 3, 1]);
+    assert_eq!(of_01[2], [2, 0, 0, 0, 0, 0, 0, 0, 0, 0, 0]);
+    // At 45 percent it weighs 750. Of 65,000 the wind farm owes 56,521 and closes at 32,500; row 2 pays as much, below its cap.
+    let at_45 = told(&stating(percent(45), interval));
+    assert_eq!(at_45[0][4..], [65_000, 0, 1, 0, 3, 45, 100, 320, 320, 750, 3]);
+    assert_eq!(at_45[2], [2, 0, 0, 0, 0, 750, 39_000, 32_500, 0, 0, 0]);
+    assert_eq!(at_45[3], [3, 0, 0, 0, 0, 5_000, 32_500, 32_500, 1, 0, 0]);
+}
+
+#[test]
+fn request_6_the_terms_of_01_stated_give_the_lines_of_ph() {
+    let mut intervals: Vec<Interval> = [3545, 1350, 1300, 1200, 1000].map(x).to_vec();
+    intervals.extend([12_500, 12_499, 11_000, 10_000, 9_999].map(x_metered));
+    intervals.extend([tied_calls(1), tied_payments(2), tied_cuts(1), tied_returns(3), one_fen_more(38)]);
+    intervals.extend([8_000, 11_000, 20_000].map(|metered| reduced(1000, metered)));
+    intervals.extend([1091, 600, 401, 100].map(three_payers));
+    intervals.push(Interval { rows: Vec::new(), ..x(1300) });
+    for interval in intervals {
+        let (stated, plain) = (told(&stating(Terms::OF_01, interval.clone())), told(&interval));
+        assert_eq!(stated[1..], plain[1..]);
+        // The terms stand before the visits.
+        assert_eq!(stated[0], [&plain[0][..9], &[50, 100, 320, 320, 750], &plain[0][9..]].concat());
+    }
+}
+
+#[test]
+fn request_6_minimum_up_to_the_stated_baseline() {
+    for (terms, capacity, highest) in [
+        (None, 100, 12_500),
+        (Some(percent(50)), 100, 12_500),
+        (Some(percent(45)), 100, 11_250),
+        (Some(percent(45)), 101, 11_362),
+        (Some(percent(41)), 3, 307),
+        (Some(percent(49)), 1, 122),
+    ] {
+        let with_minimum = |minimum| {
+            let lone = Row { capacity, ..offering(1, 0, minimum, [200, 400]) };
+            tell(&bytes(&Interval { stated: terms, rows: vec![lone], ..x(1300) }))
+        };
+        // At the baseline both bands are empty, so nobody is called.
+        assert_eq!(with_minimum(highest).lines().last(), Some("1 0 0 0 0 0 0 0 0 0 0"), "{terms:?}");
+        assert_eq!(with_minimum(highest + 1), "refused 6 1\n", "{terms:?}");
+    }
+}
+
+#[test]
+fn request_6_bids_within_the_stated_limits() {
+    let bid = |limits: [u16; 4], tier: usize, bid| {
+        // Tier 1's lowest and tier 2's lowest, but for the one bid.
+        let mut interval = stating(Terms { percent: 45, limits }, x(1300));
+        interval.rows[0].bids = [limits[0], limits[2]];
+        interval.rows[0].bids[tier] = bid;
+        let text = tell(&bytes(&interval));
+        let price = if tier == 0 { bid } else { limits[0] };
+        assert!(text == "refused 6 1\n" || text.starts_with(&format!("0 0 {price} ")), "{text}");
+        text != "refused 6 1\n"
+    };
+    for limits in
+        [[150, 200, 300, 301], [100, 320, 320, 750], [1, 2, 2, 3], [1, 500, 500, 1_000], [997, 998, 999, 1_000]]
+    {
+        for tier in [0, 1] {
+            let (lowest, highest) = (limits[2 * tier], limits[2 * tier + 1]);
+            let accepted = [lowest - 1, lowest, highest, highest + 1].map(|value| bid(limits, tier, value));
+            assert_eq!(accepted, [false, true, true, false], "tier {} of {limits:?}", tier + 1);
+        }
+    }
+}
+
+#[test]
+fn request_6_terms_out_of_range() {
+    // No rows, so that nothing else can be at fault.
+    let stated = |terms| tell(&bytes(&Interval { rows: Vec::new(), ..stating(terms, x(1300)) }));
+    for of in [0, 40, 51, 255] {
+        assert_eq!(stated(percent(of)), "refused 14 0\n", "{of} percent");
+    }
+    for of in 41..=50 {
+        assert_eq!(stated(percent(of)), format!("0 0 0 0 0 0 0 3000 0 {of} 100 320 320 750 0\n"));
+    }
+    let wrong = [
+        [0, 320, 320, 750],
+        [320, 320, 320, 750],
+        [321, 320, 320, 750],
+        [100, 321, 320, 750],
+        [100, 320, 750, 750],
+        [100, 320, 751, 750],
+        [100, 320, 320, 320],
+        [100, 320, 320, 1_001],
+        [100, 320, 320, 65_535],
+        [0, 0, 0, 0],
+        [750, 320, 320, 100],
+    ];
+    for four in wrong {
+        assert_eq!(stated(limits(four)), "refused 14 0\n", "{four:?}");
+    }
+    for four @ [a, b, c, d] in
+        [[1, 320, 320, 750], [319, 320, 320, 321], [100, 319, 320, 1_000], [1, 2, 2, 3], [997, 998, 998, 999]]
+    {
+        assert_eq!(stated(limits(four)), format!("0 0 0 0 0 0 0 3000 0 50 {a} {b} {c} {d} 0\n"));
+    }
+}
+
+#[test]
+fn request_6_checks_in_their_order() {
+    let good = bytes(&stating(percent(45), x(1300)));
+    const WHOLE: usize = 24 + 3 * 21;
+    assert_eq!(good.len(), WHOLE);
+    // The file with some bytes changed, cut or filled to a length.
+    let told = |changes: &[(usize, u8)], length| {
+        let mut file = good.clone();
+        changes.iter().for_each(|&(at, byte)| file[at] = byte);
+        file.resize(length, 0);
+        tell(&file)
+    };
+    let no_tariff = [(7, 0), (8, 0)];
+    // Shorter than any head, before its mark is looked at; then the mark; then shorter than the head of its own mark, before its fields.
+    for length in 0..15 {
+        assert_eq!(told(&[], length), "refused 1 0\n", "{length} bytes");
+        assert_eq!(told(&[(1, b'X')], length), "refused 1 0\n", "{length} bytes");
+    }
+    for length in 15..24 {
+        assert_eq!(told(&[(1, b'X')], length), "refused 2 0\n", "{length} bytes");
+        assert_eq!(told(&[], length), "refused 1 0\n", "{length} bytes");
+        assert_eq!(told(&no_tariff, length), "refused 1 0\n", "{length} bytes");
+        // A PH file of that length is whole in its head, and lacks its rows.
+        assert_eq!(told(&[(1, b'H')], length), "refused 4 0\n", "{length} bytes");
+    }
+    assert_eq!(told(&[], 24), "refused 4 0\n");
+    // 3 before 14, 14 before 4 and 5, 4 before 5; rows begin at byte 24.
+    assert_eq!(told(&[no_tariff[0], no_tariff[1], (15, 40)], WHOLE), "refused 3 0\n");
+    assert_eq!(told(&[(15, 40)], WHOLE + 1), "refused 14 0\n");
+    assert_eq!(told(&[(15, 51), (24, b'Q')], WHOLE), "refused 14 0\n");
+    assert_eq!(told(&[(24, b'Q')], WHOLE + 1), "refused 4 0\n");
+    assert_eq!(told(&[(24, b'Q')], WHOLE), "refused 5 1\n");
+    assert_eq!(told(&[(24 + 42, b'Q')], WHOLE), "refused 5 3\n");
+    // The other form's mark: terms read for a row do not fit the length, a row's mark read for a percentage is 80.
+    assert_eq!(told(&[(1, b'H')], WHOLE), "refused 4 0\n");
+    let mut plain = bytes(&x(1300));
+    plain[1] = b'G';
+    assert_eq!(tell(&plain), "refused 14 0\n");
+}
+
+#[test]
+fn request_6_the_statement_of_a_pg_file() {
+    let file = bytes(&stating(percent(45), x(1300)));
+    let mut statement = [7; 48 + 3 * 42 + 5];
+    assert_eq!(settle(&file, &[], &mut statement[..173]), Err((11, 0)));
+    assert_eq!(statement, [7; 179]);
+    assert_eq!(settle(&file, &[], &mut statement), Ok(174));
+    assert_eq!(statement[174..], [7; 5]);
+    assert_eq!(statement[..2], *b"PT");
+    // 3 rows; 45 percent, 100, 320, 320, 750; 2 visits; the first line.
+    assert_eq!(statement[33..50], [3, 0, 45, 100, 0, 64, 1, 64, 1, 238, 2, 2, 0, 0, 0, b'P', b'L']);
+}
+
+/// A correction of day 0 and quarter 0.
+fn correction(rows: &[Row]) -> Vec<u8> {
+    let mut bytes = b"PK\0\0\0\0\0".to_vec();
+    bytes.extend((rows.len() as u16).to_le_bytes());
+    bytes.extend(rows.iter().flat_map(row_bytes));
+    bytes
+}
+
+#[test]
+fn request_6_a_correction_is_held_to_the_intervals_terms() {
+    let settled = |interval: &Interval, row: Row| {
+        let mut statement = [0; 48 + 3 * 42];
+        settle(&bytes(interval), &correction(&[row]), &mut statement).map(|_| u64::from(statement[11]))
+    };
+    let plain = x(1300);
+    let first = plain.rows[0];
+    // A bid that 01 allows and the stated limits do not, and the other way round: 8 where it is out of range, else it differs, 10.
+    let narrow = stating(limits([150, 200, 300, 400]), x(1300));
+    let wide =
+        stating(limits([1, 500, 500, 1_000]), Interval { rows: vec![Row { bids: [200, 500], ..first }], ..x(1300) });
+    let bid = |bids| Row { bids, ..first };
+    assert_eq!(settled(&narrow, bid([201, 400])), Err((8, 1)));
+    assert_eq!(settled(&plain, bid([201, 400])), Err((10, 1)));
+    assert_eq!(settled(&narrow, bid([200, 401])), Err((8, 1)));
+    assert_eq!(settled(&wide, bid([99, 500])), Err((10, 1)));
+    assert_eq!(settled(&plain, bid([99, 400])), Err((8, 1)));
+    // A minimum between the stated baseline and half load.
+    let at_45 = stating(percent(45), x(1300));
+    let minimum = |minimum| Row { minimum, ..first };
+    assert_eq!(settled(&at_45, minimum(11_250)), Err((10, 1)));
+    assert_eq!(settled(&at_45, minimum(11_251)), Err((8, 1)));
+    assert_eq!(settled(&plain, minimum(11_251)), Err((10, 1)));
+    // A meter corrected to a kWh below the baseline: 200 li, of which the total's lowest byte shows 20 fen.
+    assert_eq!(settled(&at_45, Row { metered: 11_249, ..first }), Ok(20));
+    assert_eq!(settled(&at_45, Row { metered: 11_250, ..first }), Ok(0));
+}
+
+#[test]
+fn request_6_the_bytes_that_count_for_a_row() {
+    let file = bytes(&stating(percent(45), x(1300)));
+    let rows = x(1300).rows;
+    let new = Row { metered: 20_001, ..rows[1] };
+    let corrected = correction(&[new]);
+    assert_eq!(counting_row(&file, &[], 1), row_bytes(&rows[0]));
+    assert_eq!(counting_row(&file, &[], 3), row_bytes(&rows[2]));
+    assert_eq!(counting_row(&file, &corrected, 2), row_bytes(&new));
+    assert_eq!(counting_row(&file, &corrected, 3), row_bytes(&rows[2]));
+    assert!(counting_row(&file, &corrected, 4).is_empty());
+    let mut refused = file;
+    refused[15] = 40;
+    assert!(counting_row(&refused, &corrected, 2).is_empty());
+}
+
+#[test]
+fn request_6_a_pg_file_is_read_and_written() {
+    let interval = stating(Terms { percent: 45, limits: [1, 200, 200, 1_000] }, x(1300));
+    let file = bytes(&interval);
+    assert_eq!(read_interval(&file), Ok(interval.clone()));
+    let mut out = [7; 24 + 3 * 21 + 4];
+    let write = |interval: &Interval, out: &mut [u8]| write_interval(interval, out);
+    assert_eq!(rewrite(&file, &mut out[..86]), Err((11, 0)));
+    assert_eq!(write(&interval, &mut out[..86]), Err((11, 0)));
+    assert_eq!(out, [7; 91]);
+    for again in [rewrite(&file, &mut out), write(&interval, &mut out)] {
+        assert_eq!(again, Ok(87));
+        assert_eq!(out[..87], file);
+        assert_eq!(out[87..], [7; 4]);
+    }
+    // 3 before 14, 14 before 6 and 11.
+    let wrong = Interval { stated: Some(Terms { percent: 40, ..percent(45) }), ..interval.clone() };
+    assert_eq!(write(&Interval { tariff: 0, ..wrong.clone() }, &mut out), Err((3, 0)));
+    assert_eq!(write(&wrong, &mut []), Err((14, 0)));
+    let mut low = interval;
+    low.rows[0].minimum = 11_251;
+    assert_eq!(write(&low, &mut []), Err((6, 1)));
+    low.stated = Some(Terms { percent: 46, ..low.stated.expect("stated") });
+    assert_eq!(write(&low, &mut []), Err((11, 0)));
+}
+
+#[test]
+fn request_6_a_price_of_which_no_fen_come() {
+    // At 1 li a kWh, 4 kWh come to nothing and 5 to half a fen, rounded up; the price stands in both.
+    for (metered, total) in [(11_249, 0), (11_246, 0), (11_245, 1)] {
+        let rows = vec![offering(1, metered, 10_000, [1, 2]), row(2, 2, 5_000)];
+        let interval = Interval { need: 1, rows, ..stating(Terms { percent: 45, limits: [1, 2, 2, 3] }, x(1300)) };
+        let told = told(&interval);
+        assert_eq!([told[0][2], told[0][4], told[1][3], told[2][7]], [1, total, total, total], "metered {metered}");
+    }
+}
+
+#[test]
+fn request_6_the_largest_amounts() {
+    // 256 rows of 2,000 MW at 999 and 1,000 li. Row 1 delivers 50,000 and 200,000 kWh: 24,995,000 fen. The others are reduced and deliver
+    // nothing of as much, at twice the price. At half load they pay with a weight of 0, so all of row 1's fen come from penalties.
+    let mut rows: Vec<Row> =
+        (1..=256).map(|id| Row { capacity: 2_000, status: 2, ..offering(id, 250_000, 0, [999, 1_000]) }).collect();
+    rows[0] = Row { metered: 0, status: 0, ..rows[0] };
+    let interval = Interval { need: 64_000_000, rows, ..stating(limits([1, 999, 999, 1_000]), x(1)) };
+    let told = told(&interval);
+    assert_eq!(told[0], [0, 0, 999, 1_000, 24_995_000, 24_995_000, 0, 0, 256, 50, 1, 999, 999, 1_000, 0]);
+    assert_eq!(told[1], [1, 50_000, 200_000, 24_995_000, 0, 0, 0, 0, 0, 0, 0]);
+    // 255 x 49,990,000 less 24,995,000 is 12,722,455,000: 49,891,980 each, and one more for the first hundred.
+    let returned: Vec<u64> = told[2..].iter().map(|line| line[10]).collect();
+    assert!(told[2..].iter().all(|line| line[9] == 49_990_000));
+    assert_eq!(returned, [vec![49_891_981; 100], vec![49_891_980; 155]].concat());
+}
+
+#[test]
+fn request_6_tell_reads_a_byte_past_the_longest_file() {
+    assert_eq!(TELL_READS, 5_401);
+    let rows = (1..=256).map(|id| row(id, 2, 5_000)).collect();
+    let mut longest = bytes(&Interval { rows, ..stating(percent(45), x(1300)) });
+    assert_eq!(longest.len(), 5_400);
+    assert_eq!(tell(&longest).lines().count(), 257);
+    longest.push(0);
+    assert_eq!(tell(&longest), "refused 4 0\n");
 }

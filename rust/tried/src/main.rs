@@ -4,6 +4,7 @@
 //! length of the writer's buffer, then number, value and that buffer afterwards.
 //! Every buffer is full of 255 before. With two numbers, a count and a seed, so many cases are drawn at random.
 
+use cases::file::{CORRECTION_HEAD, ROW, heads};
 use cases::random::Random;
 use cases::{Answer, Case, accepted, refused};
 
@@ -57,18 +58,23 @@ fn number(bytes: &[u8]) -> u32 {
 /// A few ids that either file might name, and some that none does.
 fn ids(case: &Case) -> Vec<u16> {
     let named = |file: &[u8], head: usize| -> Vec<u16> {
-        let rows = file.get(head..).unwrap_or_default().chunks_exact(21);
+        let rows = file.get(head..).unwrap_or_default().chunks_exact(ROW);
         rows.map(|row| number(&row[2..4]) as u16).take(3).collect()
     };
-    let mut ids = [named(&case.interval, 15), named(&case.correction, 9), vec![0, 1, u16::MAX]].concat();
+    let interval = named(&case.interval, heads(&case.interval).0);
+    let mut ids = [interval, named(&case.correction, CORRECTION_HEAD), vec![0, 1, u16::MAX]].concat();
     ids.sort_unstable();
     ids.dedup();
     ids
 }
 
-/// The figures of a file of the right length, whatever its marks and ranges.
+/// The figures of a file of the right length, whatever its marks and ranges; terms where its mark is that of PG.
 fn contents(file: &[u8]) -> Option<reference::Interval> {
-    let (head, body) = file.split_at_checked(15)?;
+    let (head, body) = file.split_at_checked(heads(file).0)?;
+    let terms = |terms: &[u8]| reference::Terms {
+        percent: terms[0],
+        limits: [1, 3, 5, 7].map(|at| number(&terms[at..at + 2]) as u16),
+    };
     let row = |row: &[u8]| reference::Row {
         id: number(&row[2..4]) as u16,
         kind: row[4],
@@ -84,9 +90,10 @@ fn contents(file: &[u8]) -> Option<reference::Interval> {
         quarter: head[6],
         tariff: number(&head[7..9]) as u16,
         need: number(&head[9..13]),
-        rows: body.chunks_exact(21).map(row).collect(),
+        stated: head.get(15..).filter(|rest| !rest.is_empty()).map(terms),
+        rows: body.chunks_exact(ROW).map(row).collect(),
     };
-    (body.len() == 21 * number(&head[13..15]) as usize).then_some(contents)
+    (body.len() == ROW * number(&head[13..15]) as usize).then_some(contents)
 }
 
 fn main() {

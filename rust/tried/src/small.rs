@@ -1,10 +1,10 @@
 //! Intervals of 0 to 5 rows, chosen so that every rule and every refusal is met at least once.
 
 use cases::Case;
-use cases::file::{Correction, Interval, LINE, Row, STATEMENT_HEAD};
+use cases::file::{Correction, Interval, LINE, Row, STATEMENT_HEAD_PS, STATEMENT_HEAD_PT, Terms};
 
 /// Length of the statement of interval X.
-const X_STATEMENT: usize = STATEMENT_HEAD + 3 * LINE;
+const X_STATEMENT: usize = STATEMENT_HEAD_PS + 3 * LINE;
 
 /// The cases of every group, each under a name of its own.
 pub fn cases() -> Vec<Case> {
@@ -20,6 +20,8 @@ pub fn cases() -> Vec<Case> {
         interval_faults(),
         correction_faults(),
         several_faults(),
+        terms(),
+        terms_faults(),
     ]
     .concat()
 }
@@ -442,11 +444,11 @@ fn interval_faults() -> Vec<Case> {
     let mut longer = x.bytes();
     longer.push(0);
     cases.push(bytes_case("a byte too many", longer, Vec::new(), X_STATEMENT));
-    for buffer in [0, STATEMENT_HEAD, X_STATEMENT - 1] {
+    for buffer in [0, STATEMENT_HEAD_PS, X_STATEMENT - 1] {
         cases.push(bytes_case(format!("a buffer of {buffer}"), x.bytes(), Vec::new(), buffer));
     }
     let no_rows = x_with(|x| x.rows.clear()).bytes();
-    cases.push(bytes_case("no rows in a buffer that is a byte short", no_rows, Vec::new(), STATEMENT_HEAD - 1));
+    cases.push(bytes_case("no rows in a buffer that is a byte short", no_rows, Vec::new(), STATEMENT_HEAD_PS - 1));
     cases
 }
 
@@ -528,5 +530,192 @@ fn several_faults() -> Vec<Case> {
     faulty("8 with an interval that is too short", X_STATEMENT, &|x, k| {
         (x.rows, x.count, k.mark) = (Vec::new(), Some(3), *b"XX");
     });
+    cases
+}
+
+/// Interval X at tariff 1300 as a PG file, with a change.
+fn stated_with(percent: u8, limits: [u16; 4], change: impl FnOnce(&mut Interval)) -> Interval {
+    x_with(change).stating(Terms { percent, limits })
+}
+
+const LIMITS_OF_01: [u16; 4] = Terms::OF_01.limits;
+
+/// Terms that are stated: baselines, limits, who pays and who is paid, corrections, buffers.
+fn terms() -> Vec<Case> {
+    let at = |percent, change: &dyn Fn(&mut Interval)| stated_with(percent, LIMITS_OF_01, change);
+    let of_01 =
+        |name: &str, interval: Interval| case(format!("01's terms stated, {name}"), &interval.stating(Terms::OF_01));
+    let mut cases = vec![
+        of_01("X", Interval::x(1300)),
+        of_01("X at tariff 1000", Interval::x(1000)),
+        of_01("row 1 at half load", x_with(|x| x.rows[0].metered = 12_500)),
+        of_01("no rows", x_with(|x| x.rows.clear())),
+    ];
+    for percent in [41, 45, 49, 50] {
+        cases.push(case(format!("X at {percent} percent"), &at(percent, &|_| ())));
+        // 101 MW, of which the baseline is cut at an odd percentage: below it, at it and above it.
+        let baseline = Terms { percent, limits: LIMITS_OF_01 }.baseline(101);
+        for metered in [baseline - 1, baseline, baseline + 1] {
+            let odd = |x: &mut Interval| {
+                x.rows[0] = Row { capacity: 101, metered, ..x.rows[0] };
+                x.rows[1] = Row { capacity: 101, metered, ..x.rows[1] };
+            };
+            cases.push(case(format!("101 MW at {percent} percent metered {metered}"), &at(percent, &odd)));
+        }
+        let all_in = |x: &mut Interval| x.rows[0] = Row { capacity: 101, minimum: baseline, ..x.rows[0] };
+        cases.push(case(format!("minimum at the baseline of {percent} percent"), &at(percent, &all_in)));
+    }
+    for metered in [9_999, 10_000, 11_249, 11_250, 11_251, 12_499, 12_500, 15_000, 15_001, 17_500, 17_501] {
+        let both = |x: &mut Interval| (x.rows[0].metered, x.rows[1].metered) = (metered, metered);
+        cases.push(case(format!("rows 1 and 2 metered {metered} at 45 percent"), &at(45, &both)));
+    }
+    let smallest = |x: &mut Interval| {
+        x.rows[0] = Row::thermal(1, 1, 99).offering(98, 200, 400);
+        x.rows[1] = Row::thermal(2, 1, 103);
+        x.rows[2] = Row::wind(3, 1, 7);
+    };
+    cases.push(case("1 MW at 41 percent", &at(41, &smallest)));
+    for limits in [[1, 2, 2, 3], [1, 500, 500, 1_000], [997, 998, 999, 1_000], [200, 201, 399, 400]] {
+        for bids in [[limits[0], limits[2]], [limits[1], limits[3]]] {
+            let name = format!("bids {bids:?} under limits {limits:?}");
+            cases.push(case(name, &stated_with(45, limits, |x| x.rows[0].bids = bids)));
+        }
+    }
+    let meeting = |need| {
+        let rows = vec![
+            Row::thermal(1, 100, 8_000).offering(8_000, 300, 300),
+            Row::thermal(2, 100, 10_000).offering(10_000, 300, 400),
+        ];
+        Interval::new(1300, need, rows).stating(Terms { percent: 45, limits: [200, 300, 300, 400] })
+    };
+    for need in [1, 2_499, 2_500, 2_501, 2_600, 4_501] {
+        cases.push(case(format!("limits that meet at 300, need {need}"), &meeting(need)));
+    }
+    for metered in [11_249, 11_246, 11_245] {
+        let cheap = |x: &mut Interval| x.rows[0] = Row { metered, bids: [1, 2], ..x.rows[0] };
+        cases.push(case(
+            format!("1 li for each kWh below 11250, metered {metered}"),
+            &stated_with(45, [1, 2, 2, 3], cheap),
+        ));
+    }
+    for metered in [8_000, 11_000, 11_249, 11_250, 12_000] {
+        let reduced = Row::thermal(2, 100, metered).offering(8_000, 300, 320).with_status(2);
+        let change = |x: &mut Interval| (x.need, x.rows[1]) = (9_000, reduced);
+        cases.push(case(format!("reduced at 45 percent, metered {metered}"), &at(45, &change)));
+    }
+    for quarter in [0, 1, 2, 95] {
+        let alike = |x: &mut Interval| {
+            x.rows = [1, 2, 3].map(|id| Row::thermal(id, 101, 9_000).offering(10_100, 200, 400)).to_vec();
+            (x.quarter, x.need) = (quarter, 100);
+        };
+        cases.push(case(format!("calls tied at quarter {quarter} and 45 percent"), &at(45, &alike)));
+    }
+    let x = at(45, &|_| ());
+    let changing = |place: usize, change: &dyn Fn(&mut Row)| {
+        let mut correction = x.correcting(&[place]);
+        change(&mut correction.rows[0]);
+        correction
+    };
+    cases.extend([
+        corrected("a stated file, nothing changed", &x, &x.correcting(&[0, 1, 2])),
+        corrected("a stated file, row 1 to its baseline", &x, &changing(0, &|row| row.metered = 11_250)),
+        corrected("a stated file, row 1 a kWh below its baseline", &x, &changing(0, &|row| row.metered = 11_249)),
+        corrected(
+            "a stated file, row 2 to between baseline and half load",
+            &x,
+            &changing(1, &|row| row.metered = 12_000),
+        ),
+    ]);
+    let whole = x.statement_length();
+    for buffer in [whole + 1, whole + 9, whole + LINE] {
+        cases.push(bytes_case(format!("a stated file, a buffer of {buffer}"), x.bytes(), Vec::new(), buffer));
+    }
+    cases
+}
+
+/// 14, the second 1, and every other refusal where terms are stated.
+fn terms_faults() -> Vec<Case> {
+    let x = stated_with(45, [150, 300, 300, 450], |_| ());
+    let whole = x.statement_length();
+    let mut cases = Vec::new();
+    for percent in [0, 40, 51, 255] {
+        cases.push(case(format!("{percent} percent"), &stated_with(percent, LIMITS_OF_01, |_| ())));
+    }
+    let wrong = [
+        ("first limit 0", [0, 320, 320, 750]),
+        ("first limit as the second", [320, 320, 320, 750]),
+        ("first limit above the second", [321, 320, 320, 750]),
+        ("second limit above the third", [100, 321, 320, 750]),
+        ("third limit as the fourth", [100, 320, 750, 750]),
+        ("third limit above the fourth", [100, 320, 751, 750]),
+        ("last limit 1001", [100, 320, 320, 1_001]),
+        ("last limit 65535", [100, 320, 320, 65_535]),
+        ("no limits", [0, 0, 0, 0]),
+    ];
+    for (name, limits) in wrong {
+        cases.push(case(name, &stated_with(50, limits, |_| ())));
+    }
+    for length in [0, 14, 15, 16, 23, 24, 45, 86] {
+        let cut = x.bytes()[..length].to_vec();
+        cases.push(bytes_case(format!("a stated file cut to {length}"), cut, Vec::new(), whole));
+    }
+    let mut faulty = |name: &str, change: &dyn Fn(&mut Interval)| {
+        let mut changed = x.clone();
+        change(&mut changed);
+        cases.push(bytes_case(format!("stated, {name}"), changed.bytes(), Vec::new(), whole));
+    };
+    faulty("mark QG", &|x| x.mark = *b"QG");
+    faulty("mark PT", &|x| x.mark = *b"PT");
+    faulty("mark PH", &|x| x.mark = *b"PH");
+    faulty("tariff 0", &|x| x.tariff = 0);
+    faulty("257 rows counted", &|x| x.count = Some(257));
+    faulty("2 rows counted, 3 there", &|x| x.count = Some(2));
+    faulty("row mark PL", &|x| x.rows[2].mark = *b"PL");
+    faulty("minimum above the baseline", &|x| x.rows[0].minimum = 11_251);
+    faulty("minimum at half load", &|x| x.rows[0].minimum = 12_500);
+    faulty("tier 1 bid below", &|x| x.rows[0].bids[0] = 149);
+    faulty("tier 1 bid above", &|x| x.rows[0].bids[0] = 301);
+    faulty("tier 2 bid below", &|x| x.rows[0].bids[1] = 299);
+    faulty("tier 2 bid above", &|x| x.rows[0].bids[1] = 451);
+    faulty("an id twice", &|x| x.rows[1].id = 1);
+    faulty("3 before 14", &|x| (x.tariff, x.stated) = (0, Some(Terms { percent: 40, ..x.terms() })));
+    faulty("14 before 4", &|x| (x.count, x.stated) = (Some(2), Some(Terms { percent: 40, ..x.terms() })));
+    faulty("14 before 5", &|x| (x.rows[0].mark, x.stated) = (*b"XX", Some(Terms { percent: 51, ..x.terms() })));
+    faulty("3 before 14 by the count", &|x| (x.count, x.stated) = (Some(300), Some(Terms { percent: 0, ..x.terms() })));
+    let no_rows = x_with(|x| x.rows.clear());
+    cases.push(case("no rows, with the mark of PG", &Interval { mark: *b"PG", ..no_rows.clone() }));
+    cases.push(case("X with the mark of PG", &x_with(|x| x.mark = *b"PG")));
+    for buffer in [0, STATEMENT_HEAD_PS, STATEMENT_HEAD_PT, whole - 9, whole - 1] {
+        cases.push(bytes_case(format!("a stated file, a buffer of {buffer}"), x.bytes(), Vec::new(), buffer));
+    }
+    let stated_no_rows = no_rows.stating(x.terms()).bytes();
+    for buffer in [STATEMENT_HEAD_PT - 1, STATEMENT_HEAD_PT, STATEMENT_HEAD_PT + 1] {
+        cases.push(bytes_case(
+            format!("stated, no rows in a buffer of {buffer}"),
+            stated_no_rows.clone(),
+            Vec::new(),
+            buffer,
+        ));
+    }
+    let good = x.correcting(&[0, 1, 2]);
+    let mut corrected_wrong = |name: &str, buffer, change: &dyn Fn(&mut Correction)| {
+        let mut correction = good.clone();
+        change(&mut correction);
+        cases.push(bytes_case(format!("stated, {name}"), x.bytes(), correction.bytes(), buffer));
+    };
+    corrected_wrong("correction mark PG", whole, &|k| k.mark = *b"PG");
+    corrected_wrong("correction bid 301", whole, &|k| k.rows[0].bids[0] = 301);
+    corrected_wrong("correction bid 451", whole, &|k| k.rows[0].bids[1] = 451);
+    corrected_wrong("correction minimum above the baseline", whole, &|k| k.rows[0].minimum = 11_251);
+    corrected_wrong("correction minimum at the baseline", whole, &|k| k.rows[0].minimum = 11_250);
+    corrected_wrong("correction of the tier 1 bid", whole, &|k| k.rows[0].bids[0] = 150);
+    corrected_wrong("correction of another quarter", whole, &|k| k.quarter = 1);
+    corrected_wrong("correction of an unknown row", whole, &|k| k.rows[2].id = 4);
+    corrected_wrong("10 before 11", whole - 1, &|k| k.rows[2].kind = 3);
+    corrected_wrong("11 last", whole - 1, &|_| ());
+    let mut wrong_terms = x.clone();
+    wrong_terms.stated = Some(Terms { percent: 40, ..x.terms() });
+    let other_mark = Correction { mark: *b"XX", ..good };
+    cases.push(bytes_case("14 before 8", wrong_terms.bytes(), other_mark.bytes(), whole));
     cases
 }

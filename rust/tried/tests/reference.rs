@@ -2,10 +2,10 @@
 //!
 //! `SEED=n` repeats a run, `TRIALS=n` makes it longer.
 
-use cases::file::{INTERVAL_HEAD, LINE, ROW, STATEMENT_HEAD};
+use cases::file::{LINE, Terms, statement_head, statement_length};
 use cases::ladder::{self, ladder};
 use cases::random::Random;
-use cases::refused::{self, Fault, HeadField};
+use cases::refused::{self, Fault, HeadField, TermsFault};
 use cases::{Case, Outcome, accepted, demands, lengths_near};
 
 fn seed_and_trials() -> (u64, u64) {
@@ -56,6 +56,27 @@ fn a_correction_settles_as_the_corrected_interval() {
 }
 
 #[test]
+fn the_terms_of_01_stated_give_the_lines_of_ph() {
+    let (seed, trials) = seed_and_trials();
+    let mut random = Random::from_seed(seed);
+    for _ in 0..trials / 4 {
+        let shape = random.one_of(&accepted::SHAPES);
+        let count = random.within(0..=60);
+        let plain = accepted::interval_of(&mut random, shape, count);
+        let statement = |interval: cases::file::Interval| {
+            let mut statement = vec![0; interval.statement_length()];
+            reference::settle(&interval.bytes(), &[], &mut statement).expect("accepted");
+            let lines = statement.split_off(statement_head(&statement).expect("a mark"));
+            (statement, lines)
+        };
+        let (of_pg, of_ph) = (statement(plain.clone().stating(Terms::OF_01)), statement(plain));
+        assert_eq!(of_pg.1, of_ph.1, "{shape:?} of seed {seed}");
+        // Up to the rows, and the visits, the heads differ in their marks alone.
+        assert_eq!((&of_pg.0[2..35], &of_pg.0[44..]), (&of_ph.0[2..35], &of_ph.0[35..]), "{shape:?} of seed {seed}");
+    }
+}
+
+#[test]
 fn many_rounds_are_reached() {
     let (seed, _) = seed_and_trials();
     let mut random = Random::from_seed(seed);
@@ -96,8 +117,10 @@ fn the_longest_ladder_takes_1960_visits() {
 fn every_fault_is_refused_with_its_number_and_place() {
     let (seed, trials) = seed_and_trials();
     let mut random = Random::from_seed(seed);
-    for _ in 0..20 {
-        let base = refused::base(&mut random, 12);
+    // Files of both forms in turn.
+    for number in 0..20 {
+        let stated = (number % 2 == 1).then(|| accepted::terms(&mut random));
+        let base = refused::base_stating(&mut random, 12, stated);
         for fault in refused::faults(&base) {
             let (case, due) = refused::damaged(&base, &[fault]);
             assert_eq!(run(&case, seed).answer, Err(due), "{} of seed {seed}", case.name);
@@ -119,7 +142,9 @@ fn scrambled_files_are_settled_or_refused_within_bounds() {
         let outcome = run(&case, seed);
         match outcome.answer {
             Ok(length) => assert_eq!(demands::check(&outcome.buffer[..length]), Ok(()), "{} of seed {seed}", case.name),
-            Err((number, place)) => assert!((1..=11).contains(&number) && place <= 256, "{} of seed {seed}", case.name),
+            Err((number, place)) => {
+                assert!(matches!(number, 1..=11 | 14) && place <= 256, "{} of seed {seed}", case.name);
+            }
         }
     }
 }
@@ -130,7 +155,7 @@ fn buffers_of_every_length_near_the_needed_one() {
     let mut random = Random::from_seed(seed);
     for _ in 0..40 {
         let mut case = accepted::case(&mut random);
-        let needed = STATEMENT_HEAD + LINE * ((case.interval.len() - INTERVAL_HEAD) / ROW);
+        let needed = statement_length(&case.interval);
         for length in lengths_near(needed) {
             case.buffer = length;
             let due = if length < needed { Err((11, 0)) } else { Ok(needed) };
@@ -160,20 +185,32 @@ fn an_interval_is_written_as_it_was_read() {
 
 #[test]
 fn contents_are_checked_before_they_are_written() {
-    let base = refused::base(&mut Random::from_seed(7), 12);
-    let read = reference::read_interval(&base.interval.bytes()).expect("accepted");
-    let mut out = vec![0; 6_000];
-    let mut refused = |change: &dyn Fn(&mut reference::Interval)| {
-        let mut contents = read.clone();
-        change(&mut contents);
-        reference::write_interval(&contents, &mut out)
-    };
-    assert_eq!(refused(&|contents| contents.tariff = 0), Err((3, 0)));
-    assert_eq!(refused(&|contents| contents.rows = vec![contents.rows[0]; 257]), Err((3, 0)));
-    assert_eq!(refused(&|contents| contents.rows[2].capacity = 0), Err((6, 3)));
-    assert_eq!(refused(&|contents| contents.rows[1].id = contents.rows[0].id), Err((7, 2)));
-    let head = Fault::Head(HeadField::Tariff(0));
-    let (case, due) = refused::damaged(&base, &[head]);
+    for stated in [None, Some(Terms { percent: 45, limits: [100, 320, 320, 750] })] {
+        let base = refused::base_stating(&mut Random::from_seed(7), 12, stated);
+        let read = reference::read_interval(&base.interval.bytes()).expect("accepted");
+        let mut out = vec![0; 6_000];
+        let mut refused = |change: &dyn Fn(&mut reference::Interval)| {
+            let mut contents = read.clone();
+            change(&mut contents);
+            reference::write_interval(&contents, &mut out)
+        };
+        assert_eq!(refused(&|contents| contents.tariff = 0), Err((3, 0)));
+        assert_eq!(refused(&|contents| contents.rows = vec![contents.rows[0]; 257]), Err((3, 0)));
+        assert_eq!(refused(&|contents| contents.rows[2].capacity = 0), Err((6, 3)));
+        assert_eq!(refused(&|contents| contents.rows[1].id = contents.rows[0].id), Err((7, 2)));
+        let wrong_terms = |contents: &mut reference::Interval| {
+            contents.stated = Some(reference::Terms { percent: 51, ..reference::Terms::OF_01 });
+        };
+        assert_eq!(refused(&wrong_terms), Err((14, 0)));
+        assert_eq!(refused(&|contents| (wrong_terms(contents), contents.tariff = 0).1), Err((3, 0)));
+        assert_eq!(refused(&|contents| (wrong_terms(contents), contents.rows[2].capacity = 0).1), Err((14, 0)));
+        let head = Fault::Head(HeadField::Tariff(0));
+        let (case, due) = refused::damaged(&base, &[head]);
+        assert_eq!(reference::rewrite(&case.interval, &mut []), Err(due));
+    }
+    let base = refused::base_stating(&mut Random::from_seed(7), 12, Some(Terms::OF_01));
+    let (case, due) = refused::damaged(&base, &[Fault::Terms(TermsFault::Percent(40))]);
+    assert_eq!(due, (14, 0));
     assert_eq!(reference::rewrite(&case.interval, &mut []), Err(due));
 }
 
@@ -186,10 +223,11 @@ fn a_changed_figure_fails_the_demands() {
         let outcome = run(&case, seed);
         let statement = &outcome.buffer[..outcome.answer.expect("accepted")];
         // Total, shortfall, rounds and visits in the head; compensation, cut, paid, closing round, penalty and returned in a line.
-        let mut places = vec![11, 19, 27, 35];
-        let rows = (statement.len() - STATEMENT_HEAD) / LINE;
+        let before_lines = statement_head(statement).expect("a mark");
+        let mut places = vec![11, 19, 27, before_lines - 4];
+        let rows = (statement.len() - before_lines) / LINE;
         if rows > 0 {
-            let line = STATEMENT_HEAD + LINE * random.below(rows);
+            let line = before_lines + LINE * random.below(rows);
             places.extend([12, 16, 28, 32, 34, 38].map(|field| line + field));
         }
         for place in places {

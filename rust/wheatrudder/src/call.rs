@@ -26,7 +26,7 @@ unsafe extern "C" {
     fn wheatrudder_rewrite(interval: *const u8, interval_length: usize, out: *mut u8, out_length: usize) -> u64;
 }
 
-/// Settles an interval file with its correction (empty: none) into a statement.
+/// Settles an interval file of either form with its correction (empty: none) into a statement.
 pub fn settle(interval: &[u8], correction: &[u8], statement: &mut [u8]) -> Answer {
     // SAFETY: each pointer is that of a live slice of the length beside it, and the buffer is borrowed alone. The library
     // reads and writes within them and keeps none of them.
@@ -58,7 +58,7 @@ pub fn row(interval: &[u8], correction: &[u8], id: u16, out: &mut [u8]) -> Answe
     })
 }
 
-/// Reads an interval file and writes its contents out again.
+/// Reads an interval file of either form and writes its contents out again.
 pub fn rewrite(interval: &[u8], out: &mut [u8]) -> Answer {
     // SAFETY: as in `settle`.
     answer(unsafe { wheatrudder_rewrite(interval.as_ptr(), interval.len(), out.as_mut_ptr(), out.len()) })
@@ -77,8 +77,8 @@ mod tests {
     #[test]
     fn a_word_is_number_and_value() {
         assert_eq!(answer(0), Ok(0));
-        assert_eq!(answer(10_791), Ok(10_791));
+        assert_eq!(answer(10_800), Ok(10_800));
         assert_eq!(answer(7 << 32 | 256), Err(Refusal { number: 7, place: 256 }));
-        assert_eq!(answer(11 << 32), Err(Refusal { number: 11, place: 0 }));
+        assert_eq!(answer(14 << 32), Err(Refusal { number: 14, place: 0 }));
     }
 }

@@ -1,7 +1,26 @@
 //! A statement's bytes as figures: money in fen, energy in kWh, prices in li for each kWh.
 
-pub const STATEMENT_HEAD: usize = 39;
+/// The head of a PH file's statement.
+pub const STATEMENT_HEAD_PS: usize = 39;
+/// The head of a PG file's statement.
+pub const STATEMENT_HEAD_PT: usize = 48;
 pub const LINE: usize = 42;
+/// Enough for the longest statement of either form, which has 256 lines.
+pub const STATEMENT_ROOM: usize = STATEMENT_HEAD_PT + LINE * 256;
+
+/// The terms under which a quarter is settled.
+#[derive(Clone, Copy, Debug, PartialEq, Eq)]
+pub struct Terms {
+    /// The baseline in percent of full load.
+    pub percent: u8,
+    /// The limits of the bids: tier 1 lowest and highest, tier 2 lowest and highest.
+    pub limits: [u16; 4],
+}
+
+impl Terms {
+    /// The terms of a file that states none.
+    pub const OF_01: Terms = Terms { percent: 50, limits: [100, 320, 320, 750] };
+}
 
 #[derive(Clone, Copy, Debug, PartialEq, Eq)]
 pub struct Head {
@@ -21,6 +40,9 @@ pub struct Head {
     pub uncovered: u32,
     /// How many lines follow.
     pub rows: u16,
+    pub terms: Terms,
+    /// Whether the head states its terms (PT), or has those of document 01 without a word (PS).
+    pub stated: bool,
     /// Payer visits: in each round one for each payer of weight above 0 that has not reached its cap in an earlier one, also in the
     /// last round, in which nobody does. With m payers of weight above 0 at most m(m + 1)/2.
     pub visits: u32,
@@ -61,11 +83,25 @@ fn u64_at(bytes: &[u8], at: usize) -> u64 {
     u64::from(u32_at(bytes, at)) | u64::from(u32_at(bytes, at + 4)) << 32
 }
 
-/// The head of a statement; nothing where the bytes do not begin with one.
+/// How many bytes stand before the lines, by the head's mark; nothing where the bytes do not begin with a whole head.
+fn head_length(statement: &[u8]) -> Option<usize> {
+    let length = match statement.get(..2)? {
+        b"PS" => STATEMENT_HEAD_PS,
+        b"PT" => STATEMENT_HEAD_PT,
+        _ => return None,
+    };
+    (statement.len() >= length).then_some(length)
+}
+
+/// The head of a statement of either form; nothing where the bytes do not begin with one.
 pub fn head(statement: &[u8]) -> Option<Head> {
-    if statement.len() < STATEMENT_HEAD || !statement.starts_with(b"PS") {
-        return None;
-    }
+    let length = head_length(statement)?;
+    let stated = length == STATEMENT_HEAD_PT;
+    let terms = if stated {
+        Terms { percent: statement[35], limits: [36, 38, 40, 42].map(|at| u16_at(statement, at)) }
+    } else {
+        Terms::OF_01
+    };
     Some(Head {
         day: u32_at(statement, 2),
         quarter: statement[6],
@@ -75,7 +111,9 @@ pub fn head(statement: &[u8]) -> Option<Head> {
         rounds: u16_at(statement, 27),
         uncovered: u32_at(statement, 29),
         rows: u16_at(statement, 33),
-        visits: u32_at(statement, 35),
+        terms,
+        stated,
+        visits: u32_at(statement, length - 4),
     })
 }
 
@@ -83,7 +121,7 @@ pub fn head(statement: &[u8]) -> Option<Head> {
 /// them in a longer buffer is passed over.
 pub fn lines(statement: &[u8]) -> impl Iterator<Item = Line> {
     let rows = head(statement).map_or(0, |head| head.rows);
-    let bytes = statement.get(STATEMENT_HEAD..).unwrap_or_default();
+    let bytes = head_length(statement).map_or(&[][..], |length| &statement[length..]);
     bytes.chunks_exact(LINE).take(usize::from(rows)).map(|line| Line {
         id: u16_at(line, 2),
         called: [u32_at(line, 4), u32_at(line, 8)],
@@ -100,7 +138,7 @@ pub fn lines(statement: &[u8]) -> impl Iterator<Item = Line> {
 
 #[cfg(test)]
 mod tests {
-    use super::{Head, LINE, Line, STATEMENT_HEAD, head, lines};
+    use super::{Head, LINE, Line, STATEMENT_HEAD_PS, STATEMENT_HEAD_PT, STATEMENT_ROOM, Terms, head, lines};
 
     /// A record of fields in their widths, behind its mark.
     fn record(mark: &[u8; 2], fields: &[(u64, usize)]) -> Vec<u8> {
@@ -111,11 +149,27 @@ mod tests {
         bytes
     }
 
-    fn statement() -> Vec<u8> {
-        let widths = [4, 1, 2, 2, 8, 8, 2, 4, 2, 4];
-        let fields =
-            [0x1020_3040, 95, 320, 750, 0x0102_0304_0506_0708, 0x1112_1314_1516_1718, 27, 0x2122_2324, 2, 0xa1a2_a3a4];
-        let mut bytes = record(b"PS", &fields.into_iter().zip(widths).collect::<Vec<_>>());
+    const STATED: Terms = Terms { percent: 0xb1, limits: [0xb2b3, 0xb4b5, 0xb6b7, 0xb8b9] };
+
+    /// A statement of two lines in either form, no two bytes of its head alike.
+    fn statement(stated: bool) -> Vec<u8> {
+        let mut fields = vec![
+            (0x1020_3040, 4),
+            (95, 1),
+            (320, 2),
+            (750, 2),
+            (0x0102_0304_0506_0708, 8),
+            (0x1112_1314_1516_1718, 8),
+            (27, 2),
+            (0x2122_2324, 4),
+            (2, 2),
+        ];
+        if stated {
+            fields.push((STATED.percent.into(), 1));
+            fields.extend(STATED.limits.map(|limit| (limit.into(), 2)));
+        }
+        fields.push((0xa1a2_a3a4, 4));
+        let mut bytes = record(if stated { b"PT" } else { b"PS" }, &fields);
         for id in [7, 0x0908] {
             let widths = [2, 4, 4, 4, 4, 4, 4, 4, 2, 4, 4];
             let fields =
@@ -125,8 +179,7 @@ mod tests {
         bytes
     }
 
-    #[test]
-    fn every_field_is_read_where_it_stands() {
+    fn is_read(stated: bool, terms: Terms) {
         let due = Head {
             day: 0x1020_3040,
             quarter: 95,
@@ -136,9 +189,11 @@ mod tests {
             rounds: 27,
             uncovered: 0x2122_2324,
             rows: 2,
+            terms,
+            stated,
             visits: 0xa1a2_a3a4,
         };
-        assert_eq!(head(&statement()), Some(due));
+        assert_eq!(head(&statement(stated)), Some(due));
         let line = |id| Line {
             id,
             called: [0x3132_3334, 42],
@@ -151,17 +206,44 @@ mod tests {
             penalty: 0x8182_8384,
             returned: 0x9192_9394,
         };
-        assert_eq!(lines(&statement()).collect::<Vec<_>>(), [line(7), line(0x0908)]);
+        assert_eq!(lines(&statement(stated)).collect::<Vec<_>>(), [line(7), line(0x0908)]);
+    }
+
+    #[test]
+    fn every_field_is_read_where_it_stands() {
+        is_read(false, Terms { percent: 50, limits: [100, 320, 320, 750] });
+        is_read(true, STATED);
     }
 
     #[test]
     fn lines_end_where_the_head_says() {
-        let mut longer = statement();
-        longer.extend([0; 3 * LINE]);
-        assert_eq!(lines(&longer).count(), 2);
-        assert_eq!(lines(&longer[..STATEMENT_HEAD + LINE + 1]).count(), 1);
-        assert_eq!(lines(&longer[..STATEMENT_HEAD - 1]).count(), 0);
-        assert_eq!(lines(&longer[1..]).count(), 0);
+        for (stated, before_lines) in [(false, STATEMENT_HEAD_PS), (true, STATEMENT_HEAD_PT)] {
+            let mut longer = statement(stated);
+            longer.extend([0; 3 * LINE]);
+            assert_eq!(lines(&longer).count(), 2);
+            assert_eq!(lines(&longer[..before_lines + LINE + 1]).count(), 1);
+            assert_eq!(lines(&longer[..before_lines]).count(), 0);
+            assert!(head(&longer[..before_lines]).is_some());
+            assert_eq!(lines(&longer[..before_lines - 1]).count(), 0);
+            assert_eq!(head(&longer[..before_lines - 1]), None);
+            assert_eq!(lines(&longer[1..]).count(), 0);
+        }
         assert_eq!(head(&[]), None);
+        assert_eq!(head(b"P"), None);
+    }
+
+    #[test]
+    fn a_head_of_another_mark_is_none() {
+        for mark in [*b"PH", *b"PG", *b"PU", *b"pt", *b"TP"] {
+            let mut other = statement(true);
+            other[..2].copy_from_slice(&mark);
+            assert_eq!(head(&other), None);
+            assert_eq!(lines(&other).count(), 0);
+        }
+    }
+
+    #[test]
+    fn the_room_is_that_of_the_longest_statement() {
+        assert_eq!(STATEMENT_ROOM, 10_800);
     }
 }

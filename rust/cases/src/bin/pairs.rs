@@ -1,5 +1,5 @@
-//! Writes drawn pairs of files to standard output: `pairs SEED COUNT` such that are accepted, `pairs SEED COUNT damaged` such as come with
-//! faults put in or damaged without a plan, most of which are refused. Each is the interval file and then its correction, which may be
+//! Writes drawn pairs of files of both forms to standard output: `pairs SEED COUNT` such that are accepted, `pairs SEED COUNT damaged` such as
+//! come with faults put in or damaged without a plan, most of which are refused. Each is the interval file and then its correction, which may be
 //! empty, each behind its length in four bytes, the lowest first. Each pair is drawn from the seed and its own number, as a trial of
 //! `differential` is.
 

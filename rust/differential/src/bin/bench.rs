@@ -7,7 +7,7 @@ use std::hint::black_box;
 use std::time::Instant;
 
 use cases::accepted::{self, Shape};
-use cases::file::{Interval, LINE, STATEMENT_HEAD};
+use cases::file::{Interval, STATEMENT_ROOM};
 use cases::ladder::{MOST, filled, ladder};
 use cases::random::Random;
 use reference::Desk;
@@ -44,7 +44,7 @@ fn rewrite() -> Both {
 
 /// Microseconds for all pairs, in the best of a few passes.
 fn time(work: &mut Work, pairs: &[Pair]) -> f64 {
-    let mut out = vec![0; STATEMENT_HEAD + LINE * ROWS];
+    let mut out = vec![0; STATEMENT_ROOM];
     let pass = |_| {
         let start = Instant::now();
         for (interval, correction) in pairs {
@@ -108,6 +108,14 @@ fn day(quarter: impl FnMut() -> Interval) -> Vec<Pair> {
     quarters(QUARTERS, quarter)
 }
 
+/// A mixed day of PG files, each quarter under terms of its own.
+fn stated_day(random: &mut Random) -> Vec<Pair> {
+    day(|| {
+        let terms = accepted::terms(random);
+        accepted::interval_stating(random, Shape::Mixed, ROWS as u32, Some(terms))
+    })
+}
+
 /// Quarters of so many rows, with as many rows in all as a day of full ones: of few rows, gone through again and again, a processor
 /// learns by heart which way each branch goes, as it never could of a day's real files.
 fn as_many_rows(random: &mut Random, rows: usize) -> Vec<Pair> {
@@ -139,6 +147,8 @@ fn main() {
         let day = day(|| accepted::interval_of(&mut random, shape, ROWS as u32));
         measure(&format!("{shape:?}"), &mut settle, &day);
     }
+    // Drawn by itself, so that the other days are the same with it and without it.
+    measure("Mixed, terms stated", &mut settle, &stated_day(&mut Random::from_seed(2)));
     head("rows, mixed");
     for rows in [16, 64, 256] {
         measure(&rows.to_string(), &mut settle, &as_many_rows(&mut random, rows));

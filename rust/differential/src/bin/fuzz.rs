@@ -35,7 +35,10 @@ fn main() {
     });
     let rate = tally.trials() as f64 / start.elapsed().as_secs_f64();
     println!("seed {seed}: {} pairs of files in {} s, {rate:.0} a second: no difference", tally.trials(), seconds);
-    println!("settled {}, refused by number {:?}", tally.settled, &tally.refused[1..]);
+    let refused: Vec<String> =
+        (1..=11).chain([14]).map(|number| format!("{number}: {}", tally.refused[number])).collect();
+    println!("settled {}, refused by number {}", tally.settled, refused.join(", "));
+    println!("terms stated in {}, a row between stated baseline and half load in {}", tally.stated, tally.between);
     println!("called bids above the price in {}", tally.outbid);
     println!("penalties in {}, a shortfall that they fill in {}", tally.penalised, tally.filled);
     println!("somebody cut all the same in {}, something returned in {}", tally.still_cut, tally.returned);

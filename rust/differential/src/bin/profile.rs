@@ -4,7 +4,7 @@ use std::env;
 use std::time::Instant;
 
 use cases::accepted::{self, Shape};
-use cases::file::{Interval, LINE, STATEMENT_HEAD};
+use cases::file::{Interval, STATEMENT_ROOM};
 use cases::ladder::{filled, ladder};
 use cases::random::Random;
 
@@ -15,6 +15,10 @@ const ROWS: usize = 256;
 fn quarter(random: &mut Random, name: &str) -> Interval {
     let shape = match name {
         "mixed" => Shape::Mixed,
+        "stated" => {
+            let terms = accepted::terms(random);
+            return accepted::interval_stating(random, Shape::Mixed, ROWS as u32, Some(terms));
+        }
         "edges" => Shape::Edges,
         "tied-bids" => Shape::TiedBids,
         "tied-remainders" => Shape::TiedRemainders,
@@ -30,7 +34,7 @@ fn main() {
     let days: usize = days.parse().expect("a number of days");
     let mut random = Random::from_seed(1);
     let day: Vec<Vec<u8>> = (0..QUARTERS).map(|_| quarter(&mut random, name).bytes()).collect();
-    let mut statement = vec![0; STATEMENT_HEAD + LINE * ROWS];
+    let mut statement = vec![0; STATEMENT_ROOM];
     let start = Instant::now();
     for interval in (0..days).flat_map(|_| &day) {
         assert!(wheatrudder::settle(interval, &[], &mut statement).is_ok());

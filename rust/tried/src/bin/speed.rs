@@ -4,7 +4,7 @@ use std::hint::black_box;
 use std::time::{Duration, Instant};
 
 use cases::accepted::{self, Shape};
-use cases::file::{INTERVAL_HEAD, LINE, ROW, STATEMENT_HEAD};
+use cases::file::{ROW, STATEMENT_ROOM, heads};
 use cases::random::Random;
 use reference::Desk;
 
@@ -31,12 +31,12 @@ fn settle_all(desk: &mut Desk, intervals: &[Vec<u8>], statement: &mut [u8]) -> D
 
 fn main() {
     let mut desk = Desk::new();
-    let mut statement = vec![0; STATEMENT_HEAD + LINE * ROWS as usize];
+    let mut statement = vec![0; STATEMENT_ROOM];
     for shape in
         [Shape::Full, Shape::Edges, Shape::TiedBids, Shape::TiedRemainders, Shape::AllCapped, Shape::ManyRounds]
     {
         let intervals = day(shape, 1);
-        let rows: usize = intervals.iter().map(|interval| (interval.len() - INTERVAL_HEAD) / ROW).sum();
+        let rows: usize = intervals.iter().map(|interval| (interval.len() - heads(interval).0) / ROW).sum();
         let best = (0..200).map(|_| settle_all(&mut desk, &intervals, &mut statement)).min().expect("many rounds");
         let quarter = best.as_nanos() as f64 / f64::from(QUARTERS) / 1_000.0;
         println!("{shape:?}: {quarter:.1} µs a quarter of {} rows on average", rows / QUARTERS as usize);
