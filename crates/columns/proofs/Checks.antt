@@ -6,7 +6,7 @@
 --   append-passes, append-none, earliest-append      what that says of both lists; the last: the earliest is in one of them
 --   more-first, -passes, -earliest   the same for one more check at the end
 --   first-number                     numbers within bounds: a refusal's number is
---   numbers-append, -wider, -renumbered, -rows       such bounds, for lists made of lists
+--   numbers-append, -renumbered, -rows       such bounds, for lists made of lists
 --   placed-told, placed-passes       checks at one place, by the number that code gives for them
 --   renumbered-told, renumbered-passes               the same checks under one number
 --   previous-none, -next, -same      what stands before a row
@@ -207,14 +207,6 @@ module _ (lo hi : ℕ) where
   unfolding rowByRow
   numbers-rows zero f h = refl
   numbers-rows (suc n) f h = numbers-append (rowByRow n f) (placed (suc n) (f n)) (numbers-rows n f h) (h n)
-
-  pub numbers-wider : (m : ℕ) (rs : List Refusal) → hi ≤ m → numbersIn lo hi rs ≡ true → numbersIn lo m rs ≡ true
-  numbers-wider m [] l h = refl
-  numbers-wider m (r ∷ rs) l h =
-      let here = left-true (within lo hi (r .number)) (numbersIn lo hi rs) h in
-      let top : r .number ≤ m = omega (arith, leb-true (r .number) hi (right-true (leb lo (r .number)) _ here)) in
-      rw (left-true (leb lo (r .number)) _ here, le-leb (r .number) m top)
-      (numbers-wider m rs l (right-true (within lo hi (r .number)) (numbersIn lo hi rs) h))
 
 -- ---- checks at one place, and under one number
 

@@ -1,4 +1,5 @@
 -- An ordered list of checks, and a list of tests: what their answers say of each.
+--   first-stops, first-goes     two lists of checks one after the other: the first of them decides, or the second
 --   none-applies   a list of checks with numbers above 0 that gave 0: the check at any position does not apply
 --   both-left, both-right, left-true, right-true      both of two tests pass: the one does, and the other
 --   and-false      one of two tests fails: not both pass
@@ -6,7 +7,7 @@
 use mathlib.Core.Path.{_≡_, refl, sym, subst}
 use Prim.Native.Nat.{ℕ, zero, suc, _<_}
 use mathlib.Core.Bool.{Bool, true, false, cond, _&&_}
-use mathlib.Core.List.{List, [], _∷_}
+use mathlib.Core.List.{List, [], _∷_, _++_}
 use native.Mathlib.Nat.{le-of-suc-le-suc}
 use native.Mathlib.Omega.{arith}
 use lib.Dec.{T, ltb, ltb→lt}
@@ -37,6 +38,20 @@ none-applies d (c ∷ cs) t h zero l =
 none-applies d (c ∷ cs) t h (suc i) l =
     let rest = passed (c .applies) (c .number) (firstOf cs) (ltb→lt 0 (c .number) (both-left (ltb 0 (c .number)) (numbered cs) t)) h .1 in
     none-applies d cs (both-right (ltb 0 (c .number)) (numbered cs) t) rest i (le-of-suc-le-suc l)
+
+pub first-stops : (cs ds : List Check) → (firstOf cs ≡ 0 → ⊥) → firstOf (cs ++ ds) ≡ firstOf cs
+first-stops [] ds z = absurd (z refl)
+first-stops (c ∷ cs) ds z = go (c .applies) (first-stops cs ds) z where
+  go : (t : Bool) → ((firstOf cs ≡ 0 → ⊥) → firstOf (cs ++ ds) ≡ firstOf cs) → (cond t (c .number) (firstOf cs) ≡ 0 → ⊥)
+      → cond t (c .number) (firstOf (cs ++ ds)) ≡ cond t (c .number) (firstOf cs)
+  go true more z = refl
+  go false more z = more z
+
+pub first-goes : (cs ds : List Check) → T (numbered cs) → firstOf cs ≡ 0 → firstOf (cs ++ ds) ≡ firstOf ds
+first-goes [] ds t h = refl
+first-goes (c ∷ cs) ds t h =
+    let none = passed (c .applies) (c .number) (firstOf cs) (ltb→lt 0 (c .number) (both-left (ltb 0 (c .number)) (numbered cs) t)) h in
+    rw (none .0) (first-goes cs ds (both-right (ltb 0 (c .number)) (numbered cs) t) (none .1))
 
 pub left-true : (a b : Bool) → a && b ≡ true → a ≡ true
 left-true true b e = refl

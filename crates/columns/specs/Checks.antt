@@ -55,6 +55,10 @@ renumbered n (r ∷ rs) = refusal (r .applies) n (r .place) ∷ renumbered n rs
 abbrev pub answerBy : {A : Type 0} → (ℕ → ℕ → A) → A → Refusal → A
 answerBy refuse otherwise f = cond (f .applies) (refuse (f .number) (f .place)) otherwise
 
+-- the highest number of refusal that any document gives (02)
+abbrev pub lastNumber : ℕ
+lastNumber = 23
+
 -- every number of the list is from lo to hi
 abbrev pub numbersIn : ℕ → ℕ → List Refusal → Bool
 numbersIn lo hi [] = true

@@ -1,4 +1,5 @@
 pub mod Record
+pub mod Headed
 pub mod Rows
 pub mod Refusal
 pub mod Walk

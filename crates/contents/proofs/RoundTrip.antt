@@ -12,16 +12,16 @@ use mathlib.Core.List.{List}
 use Prim.Native.Nat.{ℕ, _≤_, _<_}
 use native.Mathlib.Omega.{arith}
 use lib.ListN.{length, getD, take}
-use Rattle.columns.specs.Checks.{none, firstRefusal}
+use Rattle.columns.specs.Checks.{none, firstRefusal, lastNumber}
 use Rattle.columns.proofs.Checks.{Passes, first-number}
 use Rattle.records.specs.Buffer.{put}
 use Rattle.records.proofs.Buffer.{put-taken}
-use Rattle.files.specs.Layout.{rowStart}
+use Rattle.files.specs.Form.{rowsFrom}
 use Rattle.files.specs.Order.{intervalOrder}
 use Rattle.files.specs.Order as file
 use Rattle.files.specs.declared.Verdict.the-variants.{Accepted}
 use Rattle.files.proofs.Answer.{interval-numbers}
-use Rattle.contents.specs.Content.{contentsOf, readingOf, contentsBytes, writerFault, writtenOf, writtenBuffer, rewrittenOf, rewrittenBuffer}
+use Rattle.contents.specs.Content.{contentsOf, readingOf, rowPlace, contentsBytes, writerFault, writtenOf, writtenBuffer, rewrittenOf, rewrittenBuffer}
 use Rattle.contents.specs.InRange.{InRange}
 use Rattle.contents.specs.declared.Contents.{Contents}
 use Rattle.contents.specs.declared.Written.the-variants.{Bytes}
@@ -30,11 +30,11 @@ use Rattle.contents.proofs.Refusal.{passed-writer, in-range-writable}
 use Rattle.contents.proofs.Said.{head-of, file-again, file-in-range, file-said}
 use Rattle.contents.proofs.Made.{contents-read}
 
-module _ (c : Contents) (c-in : InRange c) (out : List ℕ) (room : rowStart (c .head .rows) ≤ length out) where
+module _ (c : Contents) (c-in : InRange c) (out : List ℕ) (room : rowPlace c (c .head .rows) ≤ length out) where
   no-check : writerFault c (length out) ≡ none
   no-check = passed-writer c (length out) (in-range-writable c c-in (length out) room)
 
-  pub contents-written : writtenOf c (length out) ≡ Bytes (rowStart (c .head .rows))
+  pub contents-written : writtenOf c (length out) ≡ Bytes (rowPlace c (c .head .rows))
   unfolding writtenOf
   contents-written = rw no-check
 
@@ -42,7 +42,7 @@ module _ (c : Contents) (c-in : InRange c) (out : List ℕ) (room : rowStart (c 
   unfolding writtenBuffer
   contents-buffer = rw no-check
 
-  pub contents-reread : readingOf (take (rowStart (c .head .rows)) (writtenBuffer c out))
+  pub contents-reread : readingOf (take (rowPlace c (c .head .rows)) (writtenBuffer c out))
       ≡ record { verdict = Accepted (c .head .rows); contents = c }
   contents-reread =
       rw (contents-buffer, ← contents-length c, put-taken out 0 (contentsBytes c) (omega arith)) (contents-read c c-in)
@@ -53,11 +53,11 @@ module _ (s : List ℕ) (accepted : file.numberOf (readingOf s .verdict) ≡ 0) 
   passes = go (firstRefusal (intervalOrder s) .applies) refl
     where
       go : (b : Bool) → firstRefusal (intervalOrder s) .applies ≡ b → Passes (intervalOrder s)
-      go true e = absurd (omega (arith, first-number 1 7 (intervalOrder s) (interval-numbers s) e .0, rw e at accepted))
+      go true e = absurd (omega (arith, first-number 1 lastNumber (intervalOrder s) (interval-numbers s) e .0, rw e at accepted))
       go false e = e
 
-  long : length s ≡ rowStart (contentsOf s .head .rows)
-  unfolding contentsOf
+  long : length s ≡ rowPlace (contentsOf s) (contentsOf s .head .rows)
+  unfolding contentsOf rowsFrom
   long = head-of s passes .fits
 
   module _ (out : List ℕ) (room : length s ≤ length out) where

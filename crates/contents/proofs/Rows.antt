@@ -1,11 +1,13 @@
 -- Records one after the other, and the file that contents make.
 --   records-mark      each of the records has its mark
 --   records-write     records read from bytes, written again, are the same bytes
---   contents-length   the file that contents make is as long as their head says
---   contents-head, contents-mark, contents-row, contents-row-mark
---                     it has their head and each row at its place, each with its mark
+--   contents-length   the file that contents make is as long as their form and their head say
+--   contents-known, contents-from, contents-terms, contents-form
+--                     it has their form: its mark is known, its rows begin where theirs do, it has their terms
+--   contents-head, contents-row, contents-row-mark
+--                     it has their head, and each row at its place with its mark
 use mathlib.Core.Path.{_≡_, refl, sym, ap, _∙_}
-use mathlib.Core.Bool.{true}
+use mathlib.Core.Bool.{true, false}
 use mathlib.Core.List.{List, [], _∷_, _++_, append-nil}
 use Prim.Native.Nat.{ℕ, zero, suc, _+_, _*_, _≤_, _<_}
 use native.Mathlib.Nat.{add-assoc}
@@ -16,12 +18,15 @@ use lib.Seq.{take-add, drop-drop, drop-at, getD-drop}
 use Rattle.columns.specs.Table.{table, Below}
 use Rattle.columns.proofs.Table.{table-length, table-at}
 use Rattle.records.specs.Record.{marked, recordSize, recordAt, recordBytes, recordsBytes, Fits}
-use Rattle.records.proofs.Record.{record-length, record-read, record-write}
+use Rattle.records.proofs.Record.{record-length, record-write}
 use Rattle.records.proofs.Sheet.{records-joined, lines-length, lines-read}
-use Rattle.files.specs.Layout.{letterH, letterR, headWidths, rowWidths, headSize, rowStart}
-use Rattle.files.specs.Layout.{headAt, headOf, headBytes, headFields, rowAt, rowOf}
-use Rattle.contents.specs.Content.{zeroRow, fieldsIn, contentsBytes}
+use Rattle.files.specs.Layout.{letterR, headWidths, rowWidths, headAt, headFields, rowAt, rowOf}
+use Rattle.files.specs.Terms.{terms01}
+use Rattle.files.specs.Form.{known, ruling, termsOf, formOf, startOf, rowsFrom, headBytes}
+use Rattle.files.specs.Range.{termsOk}
+use Rattle.contents.specs.Content.{zeroRow, fieldsIn, rowPlace, contentsBytes}
 use Rattle.contents.specs.declared.Contents.{Contents}
+use Rattle.contents.proofs.Headed.{head-length, made-known, made-from, made-head, made-terms, made-form}
 
 -- ---- records
 
@@ -81,34 +86,48 @@ module _ (c : Contents) where
   rows-length : length rows ≡ c .head .rows * recordSize rowWidths
   rows-length = lines-length letterR rowWidths (c .head .rows) (fieldsIn (c .rows)) (λ i. refl)
 
-  pub head-length : length (headBytes (c .head)) ≡ headSize
-  unfolding headBytes
-  head-length = record-length letterH headWidths (headFields (c .head)) refl
+  -- its head
+  abbrev head : List ℕ
+  head = headBytes (c .form) (c .head)
 
-  pub contents-length : length (contentsBytes c) ≡ rowStart (c .head .rows)
+  pub contents-length : length (contentsBytes c) ≡ rowPlace c (c .head .rows)
   unfolding contentsBytes
-  contents-length = omega (arith, length-append (headBytes (c .head)) rows, head-length, rows-length)
+  contents-length = omega (arith, length-append head rows, head-length (c .form) (c .head), rows-length)
 
-  pub contents-mark : marked (contentsBytes c) 0 letterH ≡ true
-  unfolding contentsBytes headBytes recordBytes
-  contents-mark = refl
+  pub contents-known : known (contentsBytes c) ≡ true
+  unfolding contentsBytes
+  contents-known = made-known (c .form) (c .head) rows
+
+  pub contents-from : rowsFrom (contentsBytes c) ≡ startOf (c .form .stated)
+  unfolding contentsBytes
+  contents-from = made-from (c .form) (c .head) rows
+
+  pub contents-terms : termsOk (ruling (c .form)) ≡ true → termsOf (contentsBytes c) ≡ ruling (c .form)
+  unfolding contentsBytes
+  contents-terms = made-terms (c .form) (c .head) rows
+
+  pub contents-form : termsOk (ruling (c .form)) ≡ true → (c .form .stated ≡ false → c .form .terms ≡ terms01)
+      → formOf (contentsBytes c) ≡ c .form
+  unfolding contentsBytes
+  contents-form = made-form (c .form) (c .head) rows
 
   pub contents-head : Fits headWidths (headFields (c .head)) → headAt (contentsBytes c) ≡ c .head
-  unfolding contentsBytes headBytes headAt
-  contents-head f = ap headOf (record-read letterH headWidths (headFields (c .head)) [] rows refl f)
+  unfolding contentsBytes
+  contents-head = made-head (c .form) (c .head) rows
 
-  pub contents-row-mark : (k : ℕ) → k < c .head .rows → marked (contentsBytes c) (rowStart k) letterR ≡ true
+  pub contents-row-mark : (k : ℕ) → k < c .head .rows → marked (contentsBytes c) (rowPlace c k) letterR ≡ true
   unfolding contentsBytes
   contents-row-mark k l =
       let long = table-length (c .head .rows) (fieldsIn (c .rows)) in
-      mark-behind (headBytes (c .head)) rows headSize (k * recordSize rowWidths) letterR head-length
+      mark-behind head rows (startOf (c .form .stated)) (k * recordSize rowWidths) letterR (head-length (c .form) (c .head))
       ∙ records-mark letterR rowWidths (table (c .head .rows) (fieldsIn (c .rows))) k
       (λ i q. rw (table-at [] (c .head .rows) (fieldsIn (c .rows)) i (omega arith))) (omega arith)
 
   pub contents-row : (k : ℕ) → k < c .head .rows → Fits rowWidths (fieldsIn (c .rows) k)
-      → rowAt (contentsBytes c) (rowStart k) ≡ getD (c .rows) k zeroRow
+      → rowAt (contentsBytes c) (rowPlace c k) ≡ getD (c .rows) k zeroRow
   unfolding contentsBytes rowAt
   contents-row k l f =
       ap rowOf
-      (ap (λ (b : List ℕ). recordAt rowWidths (headBytes (c .head) ++ b) (rowStart k)) (sym (append-nil rows))
-      ∙ lines-read letterR rowWidths (c .head .rows) (fieldsIn (c .rows)) (λ i. refl) (headBytes (c .head)) [] headSize k head-length l f)
+      (ap (λ (b : List ℕ). recordAt rowWidths (head ++ b) (rowPlace c k)) (sym (append-nil rows))
+      ∙ lines-read letterR rowWidths (c .head .rows) (fieldsIn (c .rows)) (λ i. refl) head [] (startOf (c .form .stated)) k
+      (head-length (c .form) (c .head)) l f)

@@ -1,5 +1,6 @@
 // Interval contents (01, The files): read from a file's bytes, and written to bytes in a lent buffer; or read and written again in one go,
 // with no contents held.
+use files::Form;
 use files::Head;
 use files::Row;
 use files::Verdict;
@@ -12,8 +13,9 @@ pub use reader::read;
 pub use rewriter::rewrite;
 pub use writer::write;
 
-// What an interval file says: its head and its rows. Past the head's count of rows there are zero rows.
+// What an interval file says: its form, its head and its rows. Past the head's count of rows there are zero rows.
 pub struct Contents {
+    pub form: Form,
     pub head: Head,
     pub rows: [Row; 256],
 }

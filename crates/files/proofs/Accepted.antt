@@ -1,6 +1,8 @@
 -- What an accepted pair of files is known to be.
 --   accepted-count, accepted-length, accepted-few      its count of rows is the head's, its length is by that count, there are at most 256
+--   accepted-known, accepted-whole, accepted-long      its mark is known, and its head is there
 --   accepted-head-ok, accepted-row-ok      the head and each row of the interval are in their ranges
+--   accepted-sound      its terms are sound
 --   accepted-rows       the interval's rows are there, with ids that rise
 --   Corrected           what is known of the correction's rows; there are none if there is no correction
 use mathlib.Core.Path.{_≡_, refl, sym}
@@ -18,18 +20,19 @@ use Rattle.columns.proofs.Checks.{Passes, cons-passes, append-passes, passes-re
 use Rattle.columns.proofs.First.{none-applies}
 use Rattle.columns.proofs.Sum.{lt-or-le}
 use Rattle.records.specs.Record.{fieldsAt, recordAt}
-use Rattle.files.specs.Layout.{headSize, correctionHeadSize, rowAt, rowStart}
+use Rattle.files.specs.Layout.{headSize, rowSize, correctionHeadSize, rowAt}
 use Rattle.files.specs.Layout.{correctionStart, headAt, correctionHeadAt, rowCount, correctionCount}
-use Rattle.files.specs.Terms.{termsOf}
+use Rattle.files.specs.Terms.{Sound}
+use Rattle.files.specs.Form.{known, termsOf, rowsFrom, rowStart}
 use Rattle.files.specs.Range.{headOk, rowOk}
 use Rattle.files.specs.Walk.{Rows, Own}
-use Rattle.files.specs.Order.{rowsOrder, intervalOrder, correctionStarts, correctionOrder, sameTime, corrects}
+use Rattle.files.specs.Order.{theirOrder, intervalOrder, correctionStarts, correctionOrder, sameTime, corrects}
 use Rattle.files.specs.Order.{nameChecks, besideOrder, presentOrder, fileOrder, fileFault, verdictOf}
 use Rattle.files.specs.declared.Verdict.the-variants.{Accepted}
 use Rattle.files.proofs.Answer.{accepted-of}
 use Rattle.files.proofs.Passed.{rows-passed, rows-sound}
 use Rattle.files.proofs.Named.{own-head, own-rows, passed-own, starts-long, starts-ok}
-use Rattle.files.proofs.Ranges.{head-ranges, correction-few}
+use Rattle.files.proofs.Ranges.{head-ranges, sound-of, correction-few}
 
 module _ (s k : List ℕ) (n : ℕ) (h : verdictOf s k ≡ Accepted n) where
   pub accepted-passes : fileFault s k .applies ≡ false
@@ -47,11 +50,23 @@ module _ (s k : List ℕ) (n : ℕ) (h : verdictOf s k ≡ Accepted n) where
   pub accepted-own : Own s n
   accepted-own = rw accepted-count (passed-own s (parts .0))
 
-  pub accepted-rows : Rows s headSize n
+  pub accepted-rows : Rows s (rowsFrom s) rowSize n
   accepted-rows = accepted-own .rows
 
-  pub accepted-length : length s ≡ rowStart n
+  pub accepted-length : length s ≡ rowStart s n
   accepted-length = rw accepted-count (own-head s (parts .0) .fits)
+
+  pub accepted-known : known s ≡ true
+  accepted-known = own-head s (parts .0) .mark
+
+  pub accepted-long : headSize ≤ length s
+  accepted-long = own-head s (parts .0) .long
+
+  pub accepted-whole : rowsFrom s ≤ length s
+  accepted-whole = own-head s (parts .0) .whole
+
+  pub accepted-sound : Sound (termsOf s)
+  accepted-sound = sound-of (termsOf s) (own-head s (parts .0) .terms)
 
   pub accepted-head-ok : headOk (headAt s) ≡ true
   accepted-head-ok = own-head s (parts .0) .ok
@@ -59,9 +74,9 @@ module _ (s k : List ℕ) (n : ℕ) (h : verdictOf s k ≡ Accepted n) where
   pub accepted-few : n ≤ 256
   accepted-few = omega (arith, accepted-count, head-ranges (headAt s) accepted-head-ok .rows)
 
-  pub accepted-row-ok : (i : ℕ) → i < n → rowOk (termsOf s) (rowAt s (rowStart i)) ≡ true
+  pub accepted-row-ok : (i : ℕ) → i < n → rowOk (termsOf s) (rowAt s (rowStart s i)) ≡ true
   accepted-row-ok i l =
-      rows-passed (termsOf s) s headSize (rowCount s) (own-rows s (parts .0)) i (rw (← accepted-count) l) .ok
+      rows-passed (termsOf s) s (rowsFrom s) rowSize (rowCount s) (own-rows s (parts .0)) i (rw (← accepted-count) l) .ok
 
   -- 8, 9, 10 do not apply to a correction that is present
   present : (length k ≡ 0 → ⊥) → Passes (correctionOrder (termsOf s) k) × Passes (besideOrder s k)
@@ -70,17 +85,17 @@ module _ (s k : List ℕ) (n : ℕ) (h : verdictOf s k ≡ Accepted n) where
 
 -- a correction by itself passes 8: its start is right, and so are its rows
 module _ (s k : List ℕ) (e : Passes (correctionOrder (termsOf s) k)) where
-  eight : (not (correctionStarts k) ≡ false) × Passes (renumbered 8 (rowsOrder (termsOf s) k correctionHeadSize (correctionCount k)))
+  eight : (not (correctionStarts k) ≡ false) × Passes (renumbered 8 (theirOrder (termsOf s) k))
   unfolding correctionOrder
   eight =
       cons-passes (refusal (not (correctionStarts k)) 8 0)
-      (renumbered 8 (rowsOrder (termsOf s) k correctionHeadSize (correctionCount k))) e
+      (renumbered 8 (theirOrder (termsOf s) k)) e
 
   starts : correctionStarts k ≡ true
   starts = not-false (correctionStarts k) (eight .0)
 
-  rows : Passes (rowsOrder (termsOf s) k correctionHeadSize (correctionCount k))
-  rows = passes-renumbered 8 (rowsOrder (termsOf s) k correctionHeadSize (correctionCount k)) (eight .1)
+  rows : Passes (theirOrder (termsOf s) k)
+  rows = passes-renumbered 8 (theirOrder (termsOf s) k) (eight .1)
 
   their-few : correctionCount k ≤ 256
   their-few = correction-few (correctionHeadAt k) (starts-ok k starts)
@@ -100,7 +115,7 @@ none-named [] e = refl
 none-named (x ∷ k) e = absurd (omega arith)
 
 pub record Corrected (s k : List ℕ) (m : ℕ) : Type 0 where
-  pub rows : Rows k correctionHeadSize m
+  pub rows : Rows k correctionHeadSize rowSize m
   pub few : m ≤ 256
   pub ok : (j : ℕ) → j < m → rowOk (termsOf s) (rowAt k (correctionStart j)) ≡ true
   pub names : (j : ℕ) → j < m → corrects s (rowAt k (correctionStart j)) ≡ true
@@ -112,9 +127,9 @@ accepted-corrected s k n h = ⊎-elim there absent (lt-or-le 0 (length k)) where
       let both = present s k n h (λ (z : length k ≡ 0). omega arith) in
       let passes = rows s k (both .0) in
       record {
-        rows = rows-sound (termsOf s) k correctionHeadSize (correctionCount k) passes (omega (arith, starts-long k (starts s k (both .0))));
+        rows = rows-sound (termsOf s) k correctionHeadSize rowSize (correctionCount k) passes (omega arith) (omega (arith, starts-long k (starts s k (both .0))));
         few = their-few s k (both .0);
-        ok = λ j l. rows-passed (termsOf s) k correctionHeadSize (correctionCount k) passes j l .ok;
+        ok = λ j l. rows-passed (termsOf s) k correctionHeadSize rowSize (correctionCount k) passes j l .ok;
         names = names-each s k (both .1);
       }
 
@@ -123,11 +138,11 @@ accepted-corrected s k n h = ⊎-elim there absent (lt-or-le 0 (length k)) where
       let z : length k ≡ 0 = omega arith in
       rw (none-named k z)
       (record {
-        rows = record { inside = λ i l. absurd (omega arith); rising = λ i j l m. absurd (omega arith) };
+        rows = record { wide = omega arith; inside = λ i l. absurd (omega arith); rising = λ i j l m. absurd (omega arith) };
         few = omega arith;
         ok = λ j l. absurd (omega arith);
         names = λ j l. absurd (omega arith);
       })
 
-pub accepted-theirs : (s k : List ℕ) (n : ℕ) → verdictOf s k ≡ Accepted n → Rows k correctionHeadSize (correctionCount k)
+pub accepted-theirs : (s k : List ℕ) (n : ℕ) → verdictOf s k ≡ Accepted n → Rows k correctionHeadSize rowSize (correctionCount k)
 accepted-theirs s k n h = accepted-corrected s k n h .rows

@@ -4,9 +4,9 @@
 --   starts-short, starts-told, no-match, match-told      tests on what was read
 --   bad-start, bad-row, good-rows, bad-time, good-time   8 by head and length, 8 by a row, 9, then 10
 --   own-refused, alone, paired      1 to 7 first; then nothing more without a correction, else 8 to 10
---   own-passed, own-accepted        an interval that passed 1 to 7
+--   own-accepted, own-long, own-whole, own-at      an interval that passed 1 to 7: what it gives the code
 use mathlib.Core.Path.{_≡_, refl, sym, ap, _∙_}
-use Prim.Native.Nat.{ℕ, _+_, _≤_, _<_}
+use Prim.Native.Nat.{ℕ, _+_, _*_, _≤_, _<_}
 use mathlib.Core.Bool.{Bool, true, false, not, cond, _&&_}
 use mathlib.Core.List.{List, []}
 use native.Mathlib.Omega.{arith}
@@ -18,11 +18,13 @@ use Rattle.columns.proofs.First.{left-true, right-true}
 use Rattle.columns.proofs.Checks.{Passes, append-first, append-next, append-passes, passes-placed, answer-no, answer-yes}
 use Rattle.columns.proofs.Checks.{rows-none, rows-next, rows-stop, renumbered-told, renumbered-passes}
 use Rattle.records.specs.Record.{marked}
-use Rattle.files.specs.Layout.{headSize, correctionHeadSize, letterK, rowAt, rowStart, correctionStart, correctionHeadAt, rowCount, correctionCount}
-use Rattle.files.specs.Terms.{termsOf}
+use Rattle.files.specs.Layout.{headSize, rowSize, correctionHeadSize, letterK, rowAt, correctionStart, correctionHeadAt}
+use Rattle.files.specs.Layout.{rowCount, correctionCount}
+use Rattle.files.specs.Form.{termsOf, formOf, startOf, rowsFrom}
+use Rattle.files.specs.declared.Form.{Form}
 use Rattle.files.specs.Range.{correctionHeadOk}
-use Rattle.files.specs.Walk.{idOf, Own, Theirs, Under, Sought}
-use Rattle.files.specs.Order.{headChecks, rowsOrder, intervalOrder, intervalFault, correctionStarts, correctionOrder, sameTime}
+use Rattle.files.specs.Walk.{idOf, Rows, Own, Theirs, Under, Sought}
+use Rattle.files.specs.Order.{headChecks, rowsOrder, ownOrder, theirOrder, intervalOrder, intervalFault, correctionStarts, correctionOrder, sameTime}
 use Rattle.files.specs.Order.{alike, corrects, nameChecks, besideOrder, presentOrder, fileOrder, verdict, verdictOf}
 use Rattle.files.specs.declared.CorrectionHead.{CorrectionHead}
 use Rattle.files.specs.declared.Row.{Row}
@@ -30,32 +32,32 @@ use Rattle.files.specs.declared.Terms.{Terms}
 use Rattle.files.specs.declared.Verdict.{Verdict}
 use Rattle.files.specs.declared.Verdict.the-variants.{Accepted, Refused}
 use Rattle.files.proofs.Answer.{accepted-of, refused-of}
-use Rattle.files.proofs.Passed.{HeadPassed, head-passed, rows-sound}
+use Rattle.files.proofs.Passed.{HeadPassed, from-least, head-passed, rows-sound}
 use Rattle.files.proofs.Found.{matches, corrects-sought}
 
 -- ---- 10
 
-pub record Beside (s k : List ℕ) (n m i j : ℕ) : Type 0 where
+pub record Beside (s k : List ℕ) (start n m i j : ℕ) : Type 0 where
   pub short : j ≤ m
   pub within : i ≤ n
-  pub next : j < m → Under s headSize i (idOf k correctionHeadSize j)
+  pub next : j < m → Under s start rowSize i (idOf k correctionHeadSize rowSize j)
   pub passes : Passes (rowByRow j (nameChecks s k))
 
-pub beside-none : (s k : List ℕ) (n m : ℕ) → Beside s k n m 0 0
-beside-none s k n m =
+pub beside-none : (s k : List ℕ) (start n m : ℕ) → Beside s k start n m 0 0
+beside-none s k start n m =
     record { short = omega arith; within = omega arith; next = λ l x o. absurd (omega arith); passes = rows-none (nameChecks s k) }
 
-pub under-beside : (s k : List ℕ) (n m i j : ℕ) (row : Row) → Beside s k n m i j → j < m → row ≡ rowAt k (correctionStart j)
-    → Under s headSize i (row .id)
-under-beside s k n m i j row b l e = rw e (b .next l)
+pub under-beside : (s k : List ℕ) (start n m i j : ℕ) (row : Row) → Beside s k start n m i j → j < m → row ≡ rowAt k (correctionStart j)
+    → Under s start rowSize i (row .id)
+under-beside s k start n m i j row b l e = rw e (b .next l)
 
-module _ (s k : List ℕ) (n m i j r : ℕ) (row : Row) (t : Bool) (b : Beside s k n m i j) (l : j < m)
-    (is-row : row ≡ rowAt k (correctionStart j)) (own : Own s n) (theirs : Theirs k m)
-    (w : Sought s headSize n (row .id) r) (told : t ≡ matches s n r row) where
+module _ (s k : List ℕ) (start n m i j r : ℕ) (row : Row) (t : Bool) (b : Beside s k start n m i j) (l : j < m)
+    (is-row : row ≡ rowAt k (correctionStart j)) (own : Own s n) (from : start ≡ rowsFrom s) (theirs : Theirs k m)
+    (w : Sought s start rowSize n (row .id) r) (told : t ≡ matches s start n r row) where
   corrected : corrects s (rowAt k (correctionStart j)) ≡ t
-  corrected = rw (← is-row) (corrects-sought s n r row own w ∙ sym told)
+  corrected = rw (← is-row) (corrects-sought s start n r row from own w ∙ sym told)
 
-  pub beside-next : not t ≡ false → Beside s k n m r (j + 1)
+  pub beside-next : not t ≡ false → Beside s k start n m r (j + 1)
   unfolding nameChecks
   beside-next e =
       record {
@@ -71,17 +73,18 @@ module _ (s k : List ℕ) (n m i j r : ℕ) (row : Row) (t : Bool) (b : Beside s
       sym (answer-no Refused (Accepted n) _ _ _
       (rows-stop (nameChecks s k) m j 10 l (b .passes) (rw (corrected, not-true t e)) (λ z. absurd (omega arith))))
 
-pub beside-ends : (s k : List ℕ) (n m i j : ℕ) → Beside s k n m i j → m ≤ j
+pub beside-ends : (s k : List ℕ) (start n m i j : ℕ) → Beside s k start n m i j → m ≤ j
     → Accepted n ≡ verdict n (firstRefusal (rowByRow m (nameChecks s k)))
-beside-ends s k n m i j b l =
+beside-ends s k start n m i j b l =
     let e : j ≡ m = omega (arith, b .short) in
     sym (answer-yes Refused (Accepted n) _ (rw e at (b .passes)))
 
-pub no-match : (s : List ℕ) (n i : ℕ) (r : Row) → n ≤ i → false ≡ matches s n i r
-no-match s n i r l = rw (le-ltb i n l)
+pub no-match : (s : List ℕ) (start n i : ℕ) (r : Row) → n ≤ i → false ≡ matches s start n i r
+no-match s start n i r l = rw (le-ltb i n l)
 
-pub match-told : (s : List ℕ) (n i : ℕ) (r q : Row) (t : Bool) → i < n → q ≡ rowAt s (rowStart i) → t ≡ alike q r → t ≡ matches s n i r
-match-told s n i r q t l e h = rw (lt-ltb i n l, ← e) h
+pub match-told : (s : List ℕ) (start n i : ℕ) (r q : Row) (t : Bool) → i < n → q ≡ rowAt s (start + i * rowSize) → t ≡ alike q r
+    → t ≡ matches s start n i r
+match-told s start n i r q t l e h = rw (lt-ltb i n l, ← e) h
 
 -- ---- 9, then 10
 
@@ -131,25 +134,28 @@ module _ (k : List ℕ) (b : Bool) (told : b ≡ correctionStarts k) (h : not b 
     pub theirs-there : correctionStart m ≤ length k
     theirs-there = omega (arith, starts-long k starts)
 
-    module _ (t : Terms) (v : Verdict) (rows : v ≡ verdict m (firstRefusal (rowsOrder t k correctionHeadSize m))) where
+    module _ (t : Terms) (v : Verdict) (rows : v ≡ verdict m (firstRefusal (rowsOrder t k correctionHeadSize rowSize m))) where
       pub theirs-sound : (a : ℕ) → v ≡ Accepted a → Theirs k m
       theirs-sound a q =
           record {
             long = correction-there;
             told = count;
-            rows = rows-sound t k correctionHeadSize m (accepted-of m a _ (sym rows ∙ q) .0) theirs-there;
+            rows = rows-sound t k correctionHeadSize rowSize m (accepted-of m a _ (sym rows ∙ q) .0) (omega arith) theirs-there;
           }
 
-      module _ (s : List ℕ) (n : ℕ) (terms : t ≡ termsOf s) where
+      module _ (s : List ℕ) (n : ℕ) (f : Form) (read : f ≡ formOf s) (same : t ≡ f .terms) where
+        terms : t ≡ termsOf s
+        terms = same ∙ ap (λ (x : Form). x .terms) read
+
         pub bad-row : (a p : ℕ) → v ≡ Refused a p → Refused 8 p ≡ verdict n (firstRefusal (presentOrder s k))
         unfolding presentOrder correctionOrder firstRefusal
         bad-row a p q =
-            let is : firstRefusal (rowsOrder (termsOf s) k correctionHeadSize (correctionCount k)) ≡ refusal true a p =
+            let is : firstRefusal (theirOrder (termsOf s) k) ≡ refusal true a p =
             rw (← terms, ← count) (refused-of m a p _ (sym rows ∙ q)) in
-            let eight = renumbered-told 8 a p (rowsOrder (termsOf s) k correctionHeadSize (correctionCount k)) is in
+            let eight = renumbered-told 8 a p (theirOrder (termsOf s) k) is in
             rw (
               starts,
-              append-first (renumbered 8 (rowsOrder (termsOf s) k correctionHeadSize (correctionCount k))) (besideOrder s k)
+              append-first (renumbered 8 (theirOrder (termsOf s) k)) (besideOrder s k)
                   (ap (λ (r : Refusal). r .applies) eight),
               eight,
             )
@@ -158,11 +164,11 @@ module _ (k : List ℕ) (b : Bool) (told : b ≡ correctionStarts k) (h : not b 
             → w ≡ verdict n (firstRefusal (presentOrder s k))
         unfolding presentOrder correctionOrder firstRefusal
         good-rows a w q p =
-            let passes : Passes (rowsOrder (termsOf s) k correctionHeadSize (correctionCount k)) =
+            let passes : Passes (theirOrder (termsOf s) k) =
             rw (← terms, ← count) (accepted-of m a _ (sym rows ∙ q) .0) in
             rw (
               starts,
-              append-next (renumbered 8 (rowsOrder (termsOf s) k correctionHeadSize (correctionCount k))) (besideOrder s k)
+              append-next (renumbered 8 (theirOrder (termsOf s) k)) (besideOrder s k)
                   (renumbered-passes 8 _ passes),
             ) p
 
@@ -171,25 +177,36 @@ pub bad-start : (s k : List ℕ) (n : ℕ) (b : Bool) → b ≡ correctionStarts
 unfolding presentOrder correctionOrder firstRefusal
 bad-start s k n b e h = let f : correctionStarts k ≡ false = sym e ∙ not-true b h in rw f
 
+-- ---- what an interval that passed gives the code
+
+pub own-long : (s : List ℕ) (n : ℕ) → Own s n → headSize ≤ length s
+own-long s n own = omega (arith, own .long, from-least s)
+
+pub own-whole : (s : List ℕ) (n : ℕ) → Own s n → rowsFrom s ≤ length s
+own-whole s n own = own .long
+
+pub own-at : (s : List ℕ) (start n : ℕ) → start ≡ rowsFrom s → Own s n → Rows s start rowSize n
+own-at s start n from own = rw from (own .rows)
+
 -- ---- 1 to 7, then the correction if there is one
 
 module _ (s : List ℕ) (h : Passes (intervalOrder s)) where
-  own-parts : Passes (placed 0 (headChecks s)) × Passes (rowsOrder (termsOf s) s headSize (rowCount s))
+  own-parts : Passes (placed 0 (headChecks s)) × Passes (ownOrder s)
   unfolding intervalOrder
-  own-parts = append-passes (placed 0 (headChecks s)) (rowsOrder (termsOf s) s headSize (rowCount s)) h
+  own-parts = append-passes (placed 0 (headChecks s)) (ownOrder s) h
 
   pub own-head : HeadPassed s
   own-head = head-passed s (passes-placed 0 (headChecks s) (own-parts .0))
 
-  pub own-rows : Passes (rowsOrder (termsOf s) s headSize (rowCount s))
+  pub own-rows : Passes (ownOrder s)
   own-rows = own-parts .1
 
   pub passed-own : Own s (rowCount s)
   passed-own =
       record {
-        long = own-head .long;
+        long = own-head .whole;
         told = refl;
-        rows = rows-sound (termsOf s) s headSize (rowCount s) own-rows (omega (arith, own-head .fits));
+        rows = rows-sound (termsOf s) s (rowsFrom s) rowSize (rowCount s) own-rows (omega arith) (omega (arith, own-head .fits));
       }
 
 module _ (s : List ℕ) (v : Verdict) (e : v ≡ verdict (rowCount s) (intervalFault s)) where

@@ -2,7 +2,7 @@
 --   head-ranges       a head in its ranges
 --   correction-few    a correction head in its ranges has at most 256 rows
 --   row-ranges        a row in its ranges, under any terms
---   sound-01          the terms of document 01 are sound; terms-sound: so are those of any file
+--   sound-of          terms in their ranges are sound; sound-01: so are those of document 01
 use mathlib.Core.Path.{_≡_, refl}
 use Prim.Native.Nat.{ℕ, _*_, _≤_, _<_}
 use mathlib.Core.Bool.{Bool, true, false}
@@ -10,11 +10,11 @@ use mathlib.Core.List.{List}
 use native.Mathlib.Omega.{arith}
 use lib.Dec.{leb, lit<, lit≤}
 use lib.ListN.{getD}
-use borrow.Author.Tests.{leb-true, eqb-true}
+use borrow.Author.Tests.{leb-true, ltb-true, eqb-true}
 use Rattle.columns.specs.Test.{within}
 use Rattle.columns.proofs.First.{each, left-true, right-true}
-use Rattle.files.specs.Terms.{terms01, termsOf, baseline, Sound}
-use Rattle.files.specs.Range.{headTests, headOk, correctionTests, correctionHeadOk, statusOk, idleTests}
+use Rattle.files.specs.Terms.{terms01, baseline, Sound}
+use Rattle.files.specs.Range.{headTests, headOk, termsTests, termsOk, correctionTests, correctionHeadOk, statusOk, idleTests}
 use Rattle.files.specs.Range.{notOffering, offerTests, offering, rowTests, rowOk}
 use Rattle.files.specs.declared.Head.{Head}
 use Rattle.files.specs.declared.CorrectionHead.{CorrectionHead}
@@ -163,19 +163,21 @@ row-ranges t r e =
           offers = λ p. f;
         }
 
--- the terms of document 01 are sound, and so are those of any file
-pub sound-01 : Sound terms01
-sound-01 =
+-- terms that pass their tests are sound
+pub sound-of : (t : Terms) → termsOk t ≡ true → Sound t
+unfolding termsOk termsTests
+sound-of t e =
+    let at = each (termsTests t) e in
     record {
-      above = lit≤ tt;
-      below = lit≤ tt;
-      first = lit≤ tt;
-      rising1 = lit< tt;
-      apart = lit≤ tt;
-      rising2 = lit< tt;
-      last = lit≤ tt;
+      above = within-low 41 50 (t .percent) (at 0 (lit< tt));
+      below = within-high 41 50 (t .percent) (at 0 (lit< tt));
+      first = leb-true 1 (t .lowest1 .0) (at 1 (lit< tt));
+      rising1 = ltb-true (t .lowest1 .0) (t .highest1 .0) (at 2 (lit< tt));
+      apart = leb-true (t .highest1 .0) (t .lowest2 .0) (at 3 (lit< tt));
+      rising2 = ltb-true (t .lowest2 .0) (t .highest2 .0) (at 4 (lit< tt));
+      last = leb-true (t .highest2 .0) 1000 (at 5 (lit< tt));
     }
 
-pub terms-sound : (s : List ℕ) → Sound (termsOf s)
-unfolding termsOf
-terms-sound s = sound-01
+pub sound-01 : Sound terms01
+unfolding termsOk termsTests
+sound-01 = sound-of terms01 refl

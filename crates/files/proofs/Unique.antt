@@ -11,7 +11,14 @@ use Rattle.files.proofs.read.head_at.Reads as head-at
 use Rattle.files.proofs.read.row_at.Reads as row-at
 use Rattle.files.proofs.read.correction_head_at.Reads as correction-head-at
 use Rattle.files.proofs.read.id_at.Reads as id-at
-use Rattle.files.proofs.read.terms_of.Reads as terms-of
+use Rattle.files.proofs.forms.form_of.Reads as form-of
+use Rattle.files.proofs.forms.known.Reads as known
+use Rattle.files.proofs.forms.start_of.Reads as start-of
+use Rattle.files.proofs.forms.rows_from.Reads as rows-from
+use Rattle.files.proofs.forms.ruling.Reads as ruling
+use Rattle.files.proofs.forms.terms_fields.Reads as terms-fields
+use Rattle.files.proofs.range.terms_ok.Reads as terms-ok
+use Rattle.files.proofs.refusal.front_fault.Reads as front-fault
 use Rattle.files.proofs.range.head_ok.Reads as head-ok
 use Rattle.files.proofs.range.correction_head_ok.Reads as correction-head-ok
 use Rattle.files.proofs.range.row_ok.Reads as row-ok
@@ -37,8 +44,29 @@ correction-head-at-unique κs a x y e f p q = p ∙ sym q
 pub id-at-unique : One-result id-at.Learnt
 id-at-unique κs a x y e f p q = p ∙ sym q
 
-pub terms-of-unique : One-result terms-of.Learnt
-terms-of-unique κs a x y e f p q = p ∙ sym q
+pub form-of-unique : One-result form-of.Learnt
+form-of-unique κs a x y e f p q = p ∙ sym q
+
+pub known-unique : One-result known.Learnt
+known-unique κs a x y e f p q = p ∙ sym q
+
+pub start-of-unique : One-result start-of.Learnt
+start-of-unique κs a x y e f p q = p .0 ∙ sym (q .0)
+
+pub rows-from-unique : One-result rows-from.Learnt
+rows-from-unique κs a x y e f p q = p .0 ∙ sym (q .0)
+
+pub ruling-unique : One-result ruling.Learnt
+ruling-unique κs a x y e f p q = p ∙ sym q
+
+pub terms-fields-unique : One-result terms-fields.Learnt
+terms-fields-unique κs a x y e f p q = p ∙ sym q
+
+pub terms-ok-unique : One-result terms-ok.Learnt
+terms-ok-unique κs a x y e f p q = p ∙ sym q
+
+pub front-fault-unique : One-result front-fault.Learnt
+front-fault-unique κs a x y e f p q = p ∙ sym q
 
 pub head-ok-unique : One-result head-ok.Learnt
 head-ok-unique κs a x y e f p q = p ∙ sym q
@@ -74,9 +102,9 @@ pub correction-count-unique : One-result correction-count.Learnt
 correction-count-unique κs a x y e f p q = p .0 ∙ sym (q .0)
 
 -- no row that is sought comes after another
-not-later : (s : List ℕ) (start n id r q : ℕ) → Sought s start n id r → Sought s start n id q → r ≤ q
-not-later s start n id r q w v =
+not-later : (s : List ℕ) (start size n id r q : ℕ) → Sought s start size n id r → Sought s start size n id q → r ≤ q
+not-later s start size n id r q w v =
     ⊎-elim (λ (l : q < r). absurd (omega (arith, w .under q l, v .reached (omega (arith, w .short))))) (λ (l : r ≤ q). l) (lt-or-le q r)
 
 pub seek-unique : One-result seek.Learnt
-seek-unique κs a x y e f p q = omega (arith, not-later _ _ _ _ _ _ p q, not-later _ _ _ _ _ _ q p)
+seek-unique κs a x y e f p q = omega (arith, not-later _ _ _ _ _ _ _ p q, not-later _ _ _ _ _ _ _ q p)

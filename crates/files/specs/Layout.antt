@@ -7,17 +7,14 @@ use Rattle.files.specs.declared.Head.{Head}
 use Rattle.files.specs.declared.Row.{Row}
 use Rattle.files.specs.declared.CorrectionHead.{CorrectionHead}
 
--- the letters of the marks PH, PR and PK
-abbrev pub letterH : ℕ
-letterH = 72
-
+-- the letters of the marks PR and PK; those of an interval's head are with its forms (specs/Form.antt)
 abbrev pub letterR : ℕ
 letterR = 82
 
 abbrev pub letterK : ℕ
 letterK = 75
 
--- an interval's head: day, quarter, tariff, need, rows
+-- what all heads of an interval share: day, quarter, tariff, need, rows
 abbrev pub headWidths : List ℕ
 headWidths = 4 ∷ 1 ∷ 2 ∷ 4 ∷ 2 ∷ []
 
@@ -39,10 +36,7 @@ rowSize = recordSize rowWidths
 abbrev pub correctionHeadSize : ℕ
 correctionHeadSize = recordSize correctionWidths
 
--- where row i of an interval file begins, and row j of a correction
-abbrev pub rowStart : ℕ → ℕ
-rowStart i = headSize + i * rowSize
-
+-- where row j of a correction begins
 abbrev pub correctionStart : ℕ → ℕ
 correctionStart j = correctionHeadSize + j * rowSize
 
@@ -93,10 +87,7 @@ rowAt s k = rowOf (recordAt rowWidths s k)
 unfoldable pub correctionHeadAt : List ℕ → CorrectionHead
 correctionHeadAt s = correctionHeadOf (recordAt correctionWidths s 0)
 
--- a head and a row in bytes
-unfoldable pub headBytes : Head → List ℕ
-headBytes h = recordBytes letterH headWidths (headFields h)
-
+-- a row in bytes
 unfoldable pub rowBytes : Row → List ℕ
 rowBytes r = recordBytes letterR rowWidths (rowFields r)
 

@@ -2,7 +2,7 @@
 use Prim.Native.Nat.{ℕ}
 use mathlib.Core.Bool.{Bool, _&&_, _||_}
 use mathlib.Core.List.{List, [], _∷_}
-use lib.Dec.{leb, eqb}
+use lib.Dec.{leb, ltb, eqb}
 use Rattle.columns.specs.Test.{within, allOf}
 use Rattle.units.specs.Load.{most}
 use Rattle.files.specs.Terms.{baseline}
@@ -33,6 +33,16 @@ correctionTests h = dayOk (h .day) ∷ quarterOk (h .quarter) ∷ within 1 256 (
 
 unfoldable pub correctionHeadOk : CorrectionHead → Bool
 correctionHeadOk h = allOf (correctionTests h)
+
+-- the tests that terms have to pass (02, request 6): a baseline of 41 to 50 percent, limits that rise from 1 to at most 1,000; tier 1 may
+-- end where tier 2 begins
+unfoldable pub termsTests : Terms → List Bool
+termsTests t =
+    within 41 50 (t .percent) ∷ leb 1 (t .lowest1 .0) ∷ ltb (t .lowest1 .0) (t .highest1 .0)
+    ∷ leb (t .highest1 .0) (t .lowest2 .0) ∷ ltb (t .lowest2 .0) (t .highest2 .0) ∷ leb (t .highest2 .0) 1000 ∷ []
+
+unfoldable pub termsOk : Terms → Bool
+termsOk t = allOf (termsTests t)
 
 -- status: 0 to 3 for thermal, 0 or 3 otherwise
 unfoldable pub statusOk : Row → Bool

@@ -1,7 +1,6 @@
--- The terms of a trade (01, Calls and prices; Articles 19 and 25): the baseline in percent of full load and the limits of both tiers' bids.
+-- The terms of a trade (01, Calls and prices; Articles 19, 25 and 64): the baseline in percent of full load and the limits of both tiers' bids.
 use Prim.Native.Nat.{ℕ, _≤_, _<_}
 use Rattle.units.specs.Load.{load}
-use mathlib.Core.List.{List}
 use Rattle.files.specs.declared.Terms.{Terms}
 
 -- those of document 01: half load; tier 1 bids 100 to 320 li, tier 2 bids 320 to 750
@@ -14,10 +13,6 @@ terms01 =
       lowest2 = record { 0 = 320 };
       highest2 = record { 0 = 750 };
     }
-
--- the terms that an interval file and its correction are checked against
-unfoldable pub termsOf : List ℕ → Terms
-termsOf s = terms01
 
 -- the baseline of a capacity of c MW, in kWh
 abbrev pub baseline : Terms → ℕ → ℕ

@@ -1,9 +1,10 @@
-// Interval files and corrections (01, The files): what their bytes say, which refusal they get, which row counts.
+// Interval files and corrections (01, The files; 02, request 6): their form, what their bytes say, which refusal they get, which row counts.
 use units::Hao;
 use units::Kwh;
 use units::Li;
 
 mod counts;
+mod forms;
 mod range;
 mod read;
 mod refusal;
@@ -11,26 +12,36 @@ mod refusal;
 pub use counts::counting;
 pub use counts::counting_row;
 pub use counts::sources;
+pub use forms::form_of;
+pub use forms::ruling;
+pub use forms::start_of;
+pub use forms::terms_fields;
 pub use range::correction_head_ok;
 pub use range::head_ok;
 pub use range::row_checks;
 pub use range::row_ok;
+pub use range::terms_ok;
 pub use read::correction_head_at;
 pub use read::head_at;
 pub use read::id_at;
 pub use read::row_at;
-pub use read::terms_of;
 pub use refusal::check;
+pub use refusal::front_fault;
 pub use refusal::interval_verdict;
 
-// The widths of the fields of an interval's head, of a row and of a correction's head, and how many bytes each takes with its mark.
+// The widths of the fields that all heads of an interval share, of the terms that a head may state, of a row and of a correction's head,
+// and how many bytes each takes, with its mark where it has one.
 pub const HEAD_WIDTHS: [u8; 5] = [4, 1, 2, 4, 2];
+
+pub const TERMS_WIDTHS: [u8; 5] = [1, 2, 2, 2, 2];
 
 pub const ROW_WIDTHS: [u8; 9] = [2, 1, 2, 4, 1, 1, 4, 2, 2];
 
 pub const CORRECTION_WIDTHS: [u8; 3] = [4, 1, 2];
 
 pub const HEAD: usize = 15;
+
+pub const TERMS: usize = 9;
 
 pub const ROW: usize = 21;
 
@@ -75,6 +86,12 @@ pub const TERMS_01: Terms = Terms {
     lowest2: Li(320),
     highest2: Li(750),
 };
+
+// How an interval file is laid out and by which terms: a head PG states its terms, a head PH states none and means document 01's.
+pub struct Form {
+    pub stated: bool,
+    pub terms: Terms,
+}
 
 // A correction's head, without its mark.
 pub struct CorrectionHead {

@@ -7,7 +7,7 @@ use units::load;
 use units::most;
 ghost use mathlib.Core.Path.{_≡_};
 ghost use Rattle.columns.specs.Test.{within, firstOf};
-ghost use Rattle.files.specs.Range.{headOk, correctionHeadOk, statusOk, notOffering, offering, rowOk};
+ghost use Rattle.files.specs.Range.{headOk, termsOk, correctionHeadOk, statusOk, notOffering, offering, rowOk};
 ghost use Rattle.files.specs.Order.{rowChecks};
 
 const LAST_DAY: u32 = 36524;
@@ -19,6 +19,12 @@ const HIGHEST_TARIFF: u64 = 10000;
 const HIGHEST_NEED: u32 = 64000000;
 
 const MOST_ROWS: u16 = 256;
+
+const LOWEST_PERCENT: u64 = 41;
+
+const HIGHEST_PERCENT: u64 = 50;
+
+const HIGHEST_LIMIT: u64 = 1000;
 
 const LARGEST_CAPACITY: u64 = 2000;
 
@@ -42,6 +48,18 @@ pub fn head_ok(h: Head) -> bool
         & within(1, HIGHEST_TARIFF, h.tariff.0 as u64)
         & (h.need.0 <= HIGHEST_NEED)
         & (h.rows <= MOST_ROWS)
+}
+
+// Terms that a head may state (02, request 6; Article 64).
+pub fn terms_ok(t: Terms) -> bool
+    ensures { λ r. ⌜ r ≡ termsOk t ⌝ }
+{
+    within(LOWEST_PERCENT, HIGHEST_PERCENT, t.percent as u64)
+        & (1 <= t.lowest1.0)
+        & (t.lowest1.0 < t.highest1.0)
+        & (t.highest1.0 <= t.lowest2.0)
+        & (t.lowest2.0 < t.highest2.0)
+        & (t.highest2.0 <= HIGHEST_LIMIT)
 }
 
 pub fn correction_head_ok(h: CorrectionHead) -> bool

@@ -5,8 +5,6 @@ use crate::HEAD_WIDTHS;
 use crate::Head;
 use crate::ROW_WIDTHS;
 use crate::Row;
-use crate::TERMS_01;
-use crate::Terms;
 use records::get_record;
 use records::number_at;
 use units::Hao;
@@ -16,7 +14,6 @@ ghost use mathlib.Core.Path.{_≡_};
 ghost use Prim.Native.Nat.{_+_, _≤_};
 ghost use lib.ListN.{length};
 ghost use Rattle.files.specs.Layout.{headSize, rowSize, correctionHeadSize, headAt, rowAt, correctionHeadAt};
-ghost use Rattle.files.specs.Terms.{termsOf};
 
 pub fn head_at(s: &[u8]) -> Head
     requires { ⌜ headSize ≤ length (now s) ⌝ }
@@ -71,11 +68,4 @@ pub fn id_at(s: &[u8], at: usize) -> u16
     ensures { λ r. ⌜ r ≡ rowAt (now (s .entry)) at .id ⌝ }
 {
     number_at(s, at + 2, 2) as u16
-}
-
-// The terms that an interval file and its correction are checked against: those of document 01, whatever the file says.
-pub fn terms_of(s: &[u8]) -> Terms
-    ensures { λ r. ⌜ r ≡ termsOf (now (s .entry)) ⌝ }
-{
-    TERMS_01
 }

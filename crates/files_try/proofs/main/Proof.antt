@@ -40,6 +40,15 @@ answer-requires-6 c κs = search needs
 expect-requires-6 : tie.Need-expect-requires-6
 expect-requires-6 c κs = told _ _ _ _ (figures .bid-321) (c .answer6 .ensures)
 
+try-terms-requires : tie.Need-try-terms-requires
+try-terms-requires c κs = search needs
+
+try-order-requires : tie.Need-try-order-requires
+try-order-requires c κs = search needs
+
+try-rows-requires : tie.Need-try-rows-requires
+try-rows-requires c κs = search needs
+
 returns : tie.Need-returns
 returns c = search needs
 
@@ -59,4 +68,7 @@ main-spec =
     expect-requires-5
     answer-requires-6
     expect-requires-6
+    try-terms-requires
+    try-order-requires
+    try-rows-requires
     returns)

@@ -2,17 +2,24 @@
 use Prim.Native.Nat.{_-_}
 use borrow.Author.Needs.{needs}
 use Rattle.contents.proofs.Walk.{Filled, fill-start, fill-next, fill-ends}
+use Rattle.contents.proofs.Answered.{read-head, read-whole}
 use Rattle.contents.proofs.reader.contents_of.Statement.{statement}
 use Rattle.contents.proofs.reader.contents_of.Tie as tie
 
 abbrev Inv-loop : tie.InvT-loop
-Inv-loop s head count rows₀ i₀ rows i = Filled s count rows i
+Inv-loop s form start head count rows₀ i₀ rows i = Filled s start count rows i
 
 abbrev μ-loop : tie.MeasureT-loop
-μ-loop s head count rows₀ i₀ rows i = count - i
+μ-loop s form start head count rows₀ i₀ rows i = count - i
+
+form-of-requires : tie.Need-form-of-requires Inv-loop μ-loop
+form-of-requires c κs = (search read-head, search read-whole)
+
+start-of-requires : tie.Need-start-of-requires Inv-loop μ-loop
+start-of-requires c κs = search needs
 
 head-at-requires : tie.Need-head-at-requires Inv-loop μ-loop
-head-at-requires c κs = search needs
+head-at-requires c κs = search read-head
 
 cast-count : tie.Need-cast-count Inv-loop μ-loop
 cast-count c = search needs
@@ -56,6 +63,8 @@ contents-of-spec =
     (tie.spec
     Inv-loop
     μ-loop
+    form-of-requires
+    start-of-requires
     head-at-requires
     cast-count
     zero-rows-requires

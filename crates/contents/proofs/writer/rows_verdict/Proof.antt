@@ -11,8 +11,8 @@ Inv-loop contents terms count last₀ i₀ last i = Checked contents last i
 abbrev μ-loop : tie.MeasureT-loop
 μ-loop contents terms count last₀ i₀ last i = count - i
 
-terms-in-requires : tie.Need-terms-in-requires Inv-loop μ-loop
-terms-in-requires c κs = search needs
+ruling-requires : tie.Need-ruling-requires Inv-loop μ-loop
+ruling-requires c κs = search needs
 
 cast-count : tie.Need-cast-count Inv-loop μ-loop
 cast-count c = search needs
@@ -29,8 +29,8 @@ element-copy-out-r c = search needs
 row-checks-requires : tie.Need-row-checks-requires Inv-loop μ-loop
 row-checks-requires c κs = search needs
 
-add-t15 : tie.Need-add-t15 Inv-loop μ-loop
-add-t15 c = search needs
+add-t16 : tie.Need-add-t16 Inv-loop μ-loop
+add-t16 c = search needs
 
 returns : tie.Need-returns Inv-loop μ-loop
 returns c = search check-stops
@@ -53,13 +53,13 @@ rows-verdict-spec =
     (tie.spec
     Inv-loop
     μ-loop
-    terms-in-requires
+    ruling-requires
     cast-count
     loop-holds
     mul-r
     element-copy-out-r
     row-checks-requires
-    add-t15
+    add-t16
     returns
     add-i
     loop-less

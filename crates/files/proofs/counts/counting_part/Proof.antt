@@ -1,7 +1,9 @@
 -- `files::counts::counting_part` meets its contract: row i stands where its source says.
-use Prim.Native.Nat.{_<_}
+use Prim.Native.Nat.{_+_, _≤_, _<_}
 use borrow.Author.Needs.{needs}
-use Rattle.files.proofs.Sourced.{own-small, own-in, their-in, own-source, their-source}
+use Rattle.files.specs.Layout.{headSize}
+use Rattle.files.specs.Form.{termsSize}
+use Rattle.files.proofs.Sourced.{own-small, own-near, own-in, their-in, own-source, their-source}
 use Rattle.files.proofs.counts.counting_part.Statement.{statement}
 use Rattle.files.proofs.counts.counting_part.Tie as tie
 
@@ -9,7 +11,11 @@ mul-part-at : tie.Need-mul-part-at
 mul-part-at c = let l : c .before .before .before .args .i < 256 = search own-small in search needs
 
 add-part-at : tie.Need-add-part-at
-add-part-at c = let l : c .before .before .before .args .i < 256 = search own-small in search needs
+add-part-at c =
+    let a = c .before .before .before .args in
+    let l : a .i < 256 = search own-small in
+    let m : a .start ≤ headSize + termsSize = search own-near in
+    search needs
 
 part-at-requires : tie.Need-part-at-requires
 part-at-requires c κs = search own-in

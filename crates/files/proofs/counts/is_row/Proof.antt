@@ -9,10 +9,10 @@ returns : tie.Need-returns
 returns c = search not-there
 
 mul-id-at : tie.Need-mul-id-at
-mul-id-at c = let l = row-in _ _ _ (c .before .before .args .i) (c .before .before .pre) (c .if1 .left) in search needs
+mul-id-at c = let l = row-in _ _ _ _ (c .before .before .args .i) (c .before .before .pre) (c .if1 .left) in search needs
 
 add-id-at : tie.Need-add-id-at
-add-id-at c = let l = row-in _ _ _ (c .before .before .args .i) (c .before .before .pre) (c .if1 .left) in search needs
+add-id-at c = let l = row-in _ _ _ _ (c .before .before .args .i) (c .before .before .pre) (c .if1 .left) in search needs
 
 id-at-requires : tie.Need-id-at-requires
 id-at-requires c κs = search row-in

@@ -1,8 +1,8 @@
 -- `files::counts::named_part` meets its contract.
-use Prim.Native.Nat.{_<_}
 use borrow.Author.Needs.{needs}
-use Rattle.files.proofs.Accepted.{accepted-few, accepted-rows, accepted-theirs}
-use Rattle.files.proofs.Sourced.{theirs-of, few-of, under-none, has-below, has-small, has-in, own-in, named-theirs, named-own, named-none}
+use Prim.Native.Nat.{_<_}
+use Rattle.files.proofs.Accepted.{accepted-few, accepted-long, accepted-theirs}
+use Rattle.files.proofs.Sourced.{theirs-of, few-of, under-none, has-below, has-small, has-in, named-theirs, named-own, named-none, own-found, own-in}
 use Rattle.files.proofs.counts.named_part.Statement.{statement}
 use Rattle.files.proofs.counts.named_part.Tie as tie
 
@@ -10,7 +10,7 @@ named-rows-requires : tie.Need-named-rows-requires
 named-rows-requires c κs = search accepted-theirs
 
 seek-requires : tie.Need-seek-requires
-seek-requires c κs = (search theirs-of, search needs, under-none _ _ _)
+seek-requires c κs = (search theirs-of, search needs, under-none _ _ _ _)
 
 is-row-requires : tie.Need-is-row-requires
 is-row-requires c κs = search theirs-of
@@ -27,11 +27,14 @@ part-at-requires c κs = search (has-in, theirs-of)
 returns : tie.Need-returns
 returns c = search named-theirs
 
+rows-from-requires : tie.Need-rows-from-requires
+rows-from-requires c κs = search accepted-long
+
 seek-requires-2 : tie.Need-seek-requires-2
-seek-requires-2 c κs = (search accepted-rows, search needs, under-none _ _ _)
+seek-requires-2 c κs = (search own-found, search needs, under-none _ _ _ _)
 
 is-row-requires-2 : tie.Need-is-row-requires-2
-is-row-requires-2 c κs = search accepted-rows
+is-row-requires-2 c κs = search own-found
 
 mul-part-at-2 : tie.Need-mul-part-at-2
 mul-part-at-2 c = let l : c .before .before .seek2 .result < 256 = search (has-small, accepted-few) in search needs
@@ -68,6 +71,7 @@ named-part-spec =
     add-part-at
     part-at-requires
     returns
+    rows-from-requires
     seek-requires-2
     is-row-requires-2
     mul-part-at-2

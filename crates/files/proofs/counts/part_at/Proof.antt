@@ -17,7 +17,7 @@ part-result-end : tie.Need-part-result-end
 part-result-end c = search needs
 
 returns : tie.Need-returns
-returns c = part-is (c .before .args .s .now) (c .before .args .at)
+returns c = part-is (c .before .args .s .now) (c .before .args .at) (c .before .args .size)
 
 pub part-at-spec : {M : Type 1} → statement M
 part-at-spec = tie.close (tie.spec add-result sub-result part-result-start part-result-end returns)

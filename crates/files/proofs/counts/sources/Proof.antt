@@ -1,19 +1,22 @@
 -- `files::counts::sources` meets its contract: the first i sources are put, and the rows passed in the correction lie below the next id.
 use Prim.Native.Nat.{_-_, _<_}
 use borrow.Author.Needs.{needs}
-use Rattle.files.proofs.Accepted.{accepted-theirs}
+use Rattle.files.proofs.Accepted.{accepted-long, accepted-theirs}
 use Rattle.files.proofs.Sourced.{Sourced, sourced-none, sourced-next, sourced-ends, under-sourced, theirs-of, few-of, own-small, own-in}
 use Rattle.files.proofs.counts.sources.Statement.{statement}
 use Rattle.files.proofs.counts.sources.Tie as tie
 
 abbrev Inv-loop : tie.InvT-loop
-Inv-loop interval correction n out₀ m j₀ i₀ out j i = Sourced interval correction n m out₀ out i j
+Inv-loop interval correction n out₀ m start j₀ i₀ out j i = Sourced interval correction n m out₀ out i j
 
 abbrev μ-loop : tie.MeasureT-loop
-μ-loop interval correction n out₀ m j₀ i₀ out j i = n - i
+μ-loop interval correction n out₀ m start j₀ i₀ out j i = n - i
 
 named-rows-requires : tie.Need-named-rows-requires Inv-loop μ-loop
 named-rows-requires c κs = search accepted-theirs
+
+rows-from-requires : tie.Need-rows-from-requires Inv-loop μ-loop
+rows-from-requires c κs = search accepted-long
 
 loop-holds : tie.Need-loop-holds Inv-loop μ-loop
 loop-holds c = search sourced-none
@@ -58,6 +61,7 @@ sources-spec =
     Inv-loop
     μ-loop
     named-rows-requires
+    rows-from-requires
     loop-holds
     mul-id-at
     add-id-at

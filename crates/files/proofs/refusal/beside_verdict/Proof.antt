@@ -1,11 +1,11 @@
 -- `files::refusal::beside_verdict` meets its contract.
 use borrow.Author.Needs.{needs}
-use Rattle.files.proofs.Named.{bad-time, good-time}
+use Rattle.files.proofs.Named.{own-long, bad-time, good-time}
 use Rattle.files.proofs.refusal.beside_verdict.Statement.{statement}
 use Rattle.files.proofs.refusal.beside_verdict.Tie as tie
 
 same-time-requires : tie.Need-same-time-requires
-same-time-requires c κs = search needs
+same-time-requires c κs = (search own-long, search needs)
 
 returns : tie.Need-returns
 returns c = search bad-time

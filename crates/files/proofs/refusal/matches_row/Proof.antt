@@ -9,10 +9,10 @@ returns : tie.Need-returns
 returns c = search no-match
 
 mul-row-at : tie.Need-mul-row-at
-mul-row-at c = let l = row-in _ _ _ (c .before .before .args .i) (c .before .before .pre) (c .if1 .left) in search needs
+mul-row-at c = let l = row-in _ _ _ _ (c .before .before .args .i) (c .before .before .pre) (c .if1 .left) in search needs
 
 add-row-at : tie.Need-add-row-at
-add-row-at c = let l = row-in _ _ _ (c .before .before .args .i) (c .before .before .pre) (c .if1 .left) in search needs
+add-row-at c = let l = row-in _ _ _ _ (c .before .before .args .i) (c .before .before .pre) (c .if1 .left) in search needs
 
 row-at-requires : tie.Need-row-at-requires
 row-at-requires c κs = search row-in

@@ -4,16 +4,16 @@ use Prim.Native.Nat.{_+_, _-_, _≤_}
 use lib.ListN.{length}
 use borrow.Author.Needs.{needs}
 use Rattle.files.specs.Layout.{correctionStart, rowSize}
-use Rattle.files.proofs.Named.{Beside, beside-none, beside-next, beside-stops, beside-ends, under-beside}
+use Rattle.files.proofs.Named.{Beside, own-at, beside-none, beside-next, beside-stops, beside-ends, under-beside}
 use Rattle.files.proofs.Passed.{row-in}
 use Rattle.files.proofs.refusal.names_verdict.Statement.{statement}
 use Rattle.files.proofs.refusal.names_verdict.Tie as tie
 
 abbrev Inv-loop : tie.InvT-loop
-Inv-loop interval correction n m i₀ j₀ i j = Beside interval correction n m i j
+Inv-loop interval correction start n m i₀ j₀ i j = Beside interval correction start n m i j
 
 abbrev μ-loop : tie.MeasureT-loop
-μ-loop interval correction n m i₀ j₀ i j = m - j
+μ-loop interval correction start n m i₀ j₀ i j = m - j
 
 loop-holds : tie.Need-loop-holds Inv-loop μ-loop
 loop-holds c = search beside-none
@@ -34,13 +34,13 @@ row-at-requires : tie.Need-row-at-requires Inv-loop μ-loop
 row-at-requires c κs = search row-in
 
 seek-requires : tie.Need-seek-requires Inv-loop μ-loop
-seek-requires c κs = (search needs, search needs, search under-beside)
+seek-requires c κs = (search own-at, search needs, search under-beside)
 
 add-j : tie.Need-add-j Inv-loop μ-loop
 add-j c = search needs
 
 matches-row-requires : tie.Need-matches-row-requires Inv-loop μ-loop
-matches-row-requires c κs = search needs
+matches-row-requires c κs = search own-at
 
 returns : tie.Need-returns Inv-loop μ-loop
 returns c = search beside-stops

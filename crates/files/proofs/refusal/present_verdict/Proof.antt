@@ -1,6 +1,7 @@
 -- `files::refusal::present_verdict` meets its contract.
 use borrow.Author.Needs.{needs}
-use Rattle.files.proofs.Named.{correction-there, theirs-there, theirs-sound, bad-start, bad-row, good-rows}
+use Rattle.files.proofs.Walked.{start-told}
+use Rattle.files.proofs.Named.{own-long, own-whole, correction-there, theirs-there, theirs-sound, bad-start, bad-row, good-rows}
 use Rattle.files.proofs.refusal.present_verdict.Statement.{statement}
 use Rattle.files.proofs.refusal.present_verdict.Tie as tie
 
@@ -13,11 +14,11 @@ returns c = search bad-start
 correction-count-requires : tie.Need-correction-count-requires
 correction-count-requires c κs = search correction-there
 
-terms-of-requires : tie.Need-terms-of-requires
-terms-of-requires c κs = search needs
+form-of-requires : tie.Need-form-of-requires
+form-of-requires c κs = (search own-long, search own-whole)
 
 rows-verdict-requires : tie.Need-rows-verdict-requires
-rows-verdict-requires c κs = search theirs-there
+rows-verdict-requires c κs = (search theirs-there, search needs)
 
 enum-known-rows : tie.Need-enum-known-rows
 enum-known-rows c = search needs
@@ -25,8 +26,11 @@ enum-known-rows c = search needs
 enum-told : tie.Need-enum-told
 enum-told c = search needs
 
+start-of-requires : tie.Need-start-of-requires
+start-of-requires c κs = search needs
+
 beside-verdict-requires : tie.Need-beside-verdict-requires
-beside-verdict-requires c κs = (search needs, search theirs-sound)
+beside-verdict-requires c κs = ((search needs, search start-told), search theirs-sound)
 
 returns-2 : tie.Need-returns-2
 returns-2 c = search bad-row
@@ -41,10 +45,11 @@ present-verdict-spec =
     correction-starts-requires
     returns
     correction-count-requires
-    terms-of-requires
+    form-of-requires
     rows-verdict-requires
     enum-known-rows
     enum-told
+    start-of-requires
     beside-verdict-requires
     returns-2
     returns-3)

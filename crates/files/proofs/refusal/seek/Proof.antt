@@ -11,10 +11,10 @@ use Rattle.files.proofs.refusal.seek.Statement.{statement}
 use Rattle.files.proofs.refusal.seek.Tie as tie
 
 abbrev Inv-loop : tie.InvT-loop
-Inv-loop s start from n id i₀ i = (i ≤ n) × Under s start i id
+Inv-loop s start size from n id i₀ i = (i ≤ n) × Under s start size i id
 
 abbrev μ-loop : tie.MeasureT-loop
-μ-loop s start from n id i₀ i = n - i
+μ-loop s start size from n id i₀ i = n - i
 
 loop-holds : tie.Need-loop-holds Inv-loop μ-loop
 loop-holds c = search needs
@@ -22,13 +22,13 @@ loop-holds c = search needs
 mul-id-at : tie.Need-mul-id-at Inv-loop μ-loop
 mul-id-at c =
     let a = c .before .before .before .args in
-    let l : a .start + c .before .loop .i * rowSize + rowSize ≤ length (a .s .now) = search row-in in
+    let l : a .start + c .before .loop .i * a .size + rowSize ≤ length (a .s .now) = search row-in in
     search needs
 
 add-id-at : tie.Need-add-id-at Inv-loop μ-loop
 add-id-at c =
     let a = c .before .before .before .args in
-    let l : a .start + c .before .loop .i * rowSize + rowSize ≤ length (a .s .now) = search row-in in
+    let l : a .start + c .before .loop .i * a .size + rowSize ≤ length (a .s .now) = search row-in in
     search needs
 
 id-at-requires : tie.Need-id-at-requires Inv-loop μ-loop
