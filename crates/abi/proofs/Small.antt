@@ -1,4 +1,4 @@
--- Every answer fits its word: numbers of refusal end at 11, places at 256, and counts of bytes are small.
+-- Every answer fits its word: numbers of refusal end at 23, places at 256, and counts of bytes are small.
 --   interval-near, file-near, writer-near        places of refusals: of an interval file, of a pair of files, of contents and their buffer
 --   answer-packs, written-packs, rewritten-packs     number and value of the engine's answer, of the writer's, of the rewriter's
 --   part-short                                   the bytes that count for a row are at most 21
@@ -11,24 +11,24 @@ use lib.Dec.{leb, ltb, eqb, lit≤}
 use lib.ListN.{length, drop, length-take}
 use borrow.Author.Tests.{not-false}
 use Rattle.columns.specs.Test.{Check}
-use Rattle.columns.specs.Checks.{Refusal, refusal, firstRefusal, orElse, placed, rowByRow, renumbered, answerBy, numbersIn}
+use Rattle.columns.specs.Checks.{Refusal, refusal, firstRefusal, orElse, placed, rowByRow, renumbered, answerBy, numbersIn, lastNumber}
 use Rattle.columns.proofs.Checks.{Passes, first-append, passes-none, passes-placed, cons-passes, append-passes}
-use Rattle.columns.proofs.Checks.{first-number, numbers-append, numbers-wider, renumbered-told, renumbered-passes}
+use Rattle.columns.proofs.Checks.{first-number, numbers-append, renumbered-told, renumbered-passes}
 use Rattle.columns.proofs.First.{left-true, right-true}
 use Rattle.records.specs.Record.{marked}
-use Rattle.files.specs.Layout.{headSize, correctionHeadSize, letterK, rowStart, correctionStart}
+use Rattle.files.specs.Layout.{rowSize, correctionHeadSize, letterK, correctionStart}
 use Rattle.files.specs.Layout.{headAt, correctionHeadAt, rowCount, correctionCount}
-use Rattle.files.specs.Terms.{termsOf}
-use Rattle.files.specs.Range.{headOk, correctionHeadOk}
+use Rattle.files.specs.Form.{states, termsOf, ruling, startOf, rowsFrom, rowStart}
+use Rattle.files.specs.Range.{headOk, termsOk, correctionHeadOk}
 use Rattle.files.specs.Walk.{inCorrection, inInterval}
-use Rattle.files.specs.Order.{headChecks, rowChecksOf, rowsOrder, intervalOrder, intervalFault, fileOrder, fileFault}
+use Rattle.files.specs.Order.{headChecks, rowChecksOf, ownOrder, theirOrder, intervalOrder, intervalFault, fileOrder, fileFault}
 use Rattle.files.specs.Order.{correctionStarts, correctionOrder, sameTime, nameChecks, besideOrder, presentOrder}
 use Rattle.files.specs.Counting.{part, named, countingBytes}
 use Rattle.files.specs.declared.Terms.{Terms}
 use Rattle.files.proofs.Answer.{interval-numbers, file-numbers}
 use Rattle.files.proofs.Passed.{head-passed}
 use Rattle.files.proofs.Ranges.{correction-few}
-use Rattle.contents.specs.Content.{readingOf, rowChecksIn, termsIn, writerOrder, writtenOf, rewrittenOf}
+use Rattle.contents.specs.Content.{readingOf, rowChecksIn, rowPlace, writerOrder, writtenOf, rewrittenOf}
 use Rattle.contents.specs.Content as write
 use Rattle.contents.specs.declared.Contents.{Contents}
 use Rattle.contents.specs.declared.Written.{Written}
@@ -36,8 +36,8 @@ use Rattle.contents.specs.declared.Written.the-variants as written
 use Rattle.contents.proofs.Record.{rows-few}
 use Rattle.contents.proofs.Refusal.{writer-passed, writer-numbers}
 use Rattle.contents.proofs.Said.{few}
-use Rattle.statement.specs.Statement.{lineStart}
-use Rattle.settle.specs.Answer.{settleOrder, answerOf, numberOf, valueOf}
+use Rattle.statement.specs.Statement.{extraOf}
+use Rattle.settle.specs.Answer.{sizeOf, settleOrder, answerOf, numberOf, valueOf}
 use Rattle.settle.specs.declared.Answer.the-variants as Answer
 use Rattle.abi.specs.Packed.{Packs}
 
@@ -88,8 +88,8 @@ head-few s e = rows-few (headAt s) (head-passed s (passes-placed 0 (headChecks s
 pub interval-near : (s : List ℕ) → Near (intervalOrder s)
 unfolding intervalOrder
 interval-near s =
-    append-near (placed 0 (headChecks s)) (rowsOrder (termsOf s) s headSize (rowCount s)) (placed-near 0 (headChecks s) zero-le)
-    (λ e. rows-near (rowCount s) (rowChecksOf (termsOf s) s headSize) (head-few s e))
+    append-near (placed 0 (headChecks s)) (ownOrder s) (placed-near 0 (headChecks s) zero-le)
+    (λ e. rows-near (rowCount s) (rowChecksOf (termsOf s) s (rowsFrom s) rowSize) (head-few s e))
 
 starts-few : (k : List ℕ) → correctionStarts k ≡ true → correctionCount k ≤ 256
 unfolding correctionStarts
@@ -105,16 +105,16 @@ begun k e = not-false (correctionStarts k) (cons-passes (refusal (not (correctio
 correction-near : (t : Terms) (k : List ℕ) → Near (correctionOrder t k)
 unfolding correctionOrder
 correction-near t k =
-    let rows = rowsOrder t k correctionHeadSize (correctionCount k) in
+    let rows = theirOrder t k in
     append-near (refusal (not (correctionStarts k)) 8 0 ∷ []) (renumbered 8 rows) (one-near (not (correctionStarts k)) 8)
-    (λ e. renumbered-near 8 rows (rows-near (correctionCount k) (rowChecksOf t k correctionHeadSize) (starts-few k (begun k e))))
+    (λ e. renumbered-near 8 rows (rows-near (correctionCount k) (rowChecksOf t k correctionHeadSize rowSize) (starts-few k (begun k e))))
 
 -- a correction that passed by itself: at most 256 rows
 passed-few : (t : Terms) (k : List ℕ) → Passes (correctionOrder t k) → correctionCount k ≤ 256
 unfolding correctionOrder
 passed-few t k e =
     let first = refusal (not (correctionStarts k)) 8 0 in
-    let rows = renumbered 8 (rowsOrder t k correctionHeadSize (correctionCount k)) in
+    let rows = renumbered 8 (theirOrder t k) in
     starts-few k (begun k (append-passes (first ∷ []) rows e .0))
 
 present-near : (s k : List ℕ) → Near (presentOrder s k)
@@ -138,58 +138,68 @@ pub writer-near : (c : Contents) (room : ℕ) → Near (writerOrder c room)
 unfolding writerOrder
 writer-near c room =
     let first = refusal (not (headOk (c .head))) 3 0 in
+    let second = refusal (not (termsOk (ruling (c .form)))) 14 0 in
     let rows = write.heldOrder c in
-    append-near (first ∷ rows) (refusal (ltb room (rowStart (c .head .rows))) 11 0 ∷ [])
-    (append-near (first ∷ []) rows (one-near (not (headOk (c .head))) 3)
-    (λ e. rows-near (c .head .rows) (rowChecksIn (termsIn (c .head)) (c .rows))
-    (rows-few (c .head) (not-false (headOk (c .head)) (cons-passes first [] e .0)))))
-    (λ e. one-near (ltb room (rowStart (c .head .rows))) 11)
+    append-near (first ∷ second ∷ rows) (refusal (ltb room (rowPlace c (c .head .rows))) 11 0 ∷ [])
+    (append-near (first ∷ []) (second ∷ rows) (one-near (not (headOk (c .head))) 3)
+    (λ e. append-near (second ∷ []) rows (one-near (not (termsOk (ruling (c .form)))) 14)
+    (λ f. rows-near (c .head .rows) (rowChecksIn (ruling (c .form)) (c .rows))
+    (rows-few (c .head) (not-false (headOk (c .head)) (cons-passes first [] e .0))))))
+    (λ e. one-near (ltb room (rowPlace c (c .head .rows))) 11)
 
 settle-near : (s k : List ℕ) (room : ℕ) → Near (settleOrder s k room)
 unfolding settleOrder
 settle-near s k room =
-    append-near (fileOrder s k) (refusal (ltb room (lineStart (rowCount s))) 11 0 ∷ []) (file-near s k)
-    (λ e. one-near (ltb room (lineStart (rowCount s))) 11)
+    append-near (fileOrder s k) (refusal (ltb room (sizeOf s)) 11 0 ∷ []) (file-near s k)
+    (λ e. one-near (ltb room (sizeOf s)) 11)
 
-settle-numbers : (s k : List ℕ) (room : ℕ) → numbersIn 1 11 (settleOrder s k room) ≡ true
+settle-numbers : (s k : List ℕ) (room : ℕ) → numbersIn 1 lastNumber (settleOrder s k room) ≡ true
 unfolding settleOrder
 settle-numbers s k room =
-    numbers-append 1 11 (fileOrder s k) (refusal (ltb room (lineStart (rowCount s))) 11 0 ∷ [])
-    (numbers-wider 1 10 11 (fileOrder s k) (lit≤ tt) (file-numbers s k)) refl
+    numbers-append 1 lastNumber (fileOrder s k) (refusal (ltb room (sizeOf s)) 11 0 ∷ []) (file-numbers s k) refl
 
 -- a pair of files that nothing refuses: at most 256 rows
 settled-few : (s k : List ℕ) (room : ℕ) → Passes (settleOrder s k room) → rowCount s ≤ 256
 unfolding settleOrder fileOrder
 settled-few s k room e =
-    let files = append-passes (fileOrder s k) (refusal (ltb room (lineStart (rowCount s))) 11 0 ∷ []) e .0 in
+    let files = append-passes (fileOrder s k) (refusal (ltb room (sizeOf s)) 11 0 ∷ []) e .0 in
     few s (append-passes (intervalOrder s) (cond (eqb (length k) 0) [] (presentOrder s k)) files .0)
 
 -- ---- numbers and values
 
+-- what terms add to a head is little
+extra-most : (b : Bool) → extraOf b ≤ 9
+extra-most true = lit≤ tt
+extra-most false = lit≤ tt
+
+start-most : (b : Bool) → startOf b ≤ 24
+start-most true = lit≤ tt
+start-most false = lit≤ tt
+
 -- an answer by a list of checks fits its word, if its value fits where nothing refuses
 module _ {A : Type 0} (refuse : ℕ → ℕ → A) (done : A) (number value : A → ℕ) (given : number done ≡ 0)
     (numbers : (a p : ℕ) → number (refuse a p) ≡ a) (places : (a p : ℕ) → value (refuse a p) ≡ p) where
-  by-list : (rs : List Refusal) → numbersIn 1 11 rs ≡ true → Near rs → (Passes rs → value done < 4294967296)
+  by-list : (rs : List Refusal) → numbersIn 1 lastNumber rs ≡ true → Near rs → (Passes rs → value done < 4294967296)
       → Packs (number (answerBy refuse done (firstRefusal rs))) (value (answerBy refuse done (firstRefusal rs)))
   by-list rs bound near fits = go (firstRefusal rs .applies) refl
     where
       go : (b : Bool) → firstRefusal rs .applies ≡ b
           → Packs (number (answerBy refuse done (firstRefusal rs))) (value (answerBy refuse done (firstRefusal rs)))
-      go true e = rw (e, numbers, places) (record { number-fits = first-number 1 11 rs bound e .1; value-fits = omega (arith, near) })
+      go true e = rw (e, numbers, places) (record { number-fits = first-number 1 lastNumber rs bound e .1; value-fits = omega (arith, near) })
       go false e = rw (e, given) (record { number-fits = zero-le; value-fits = fits e })
 
 pub answer-packs : (s k : List ℕ) (room : ℕ) → Packs (numberOf (answerOf s k room)) (valueOf (answerOf s k room))
 unfolding answerOf
 answer-packs s k room =
-    by-list Answer.Refused (Answer.Settled (lineStart (rowCount s))) numberOf valueOf refl (λ a p. refl) (λ a p. refl)
-    (settleOrder s k room) (settle-numbers s k room) (settle-near s k room) (λ e. omega (arith, settled-few s k room e))
+    by-list Answer.Refused (Answer.Settled (sizeOf s)) numberOf valueOf refl (λ a p. refl) (λ a p. refl)
+    (settleOrder s k room) (settle-numbers s k room) (settle-near s k room) (λ e. omega (arith, settled-few s k room e, extra-most (states s)))
 
 pub written-packs : (c : Contents) (room : ℕ) → Packs (write.numberOf (writtenOf c room)) (write.valueOf (writtenOf c room))
 unfolding writtenOf
 written-packs c room =
-    by-list written.Refused (written.Bytes (rowStart (c .head .rows))) write.numberOf write.valueOf refl (λ a p. refl) (λ a p. refl)
+    by-list written.Refused (written.Bytes (rowPlace c (c .head .rows))) write.numberOf write.valueOf refl (λ a p. refl) (λ a p. refl)
     (writerOrder c room) (writer-numbers c room) (writer-near c room)
-    (λ e. omega (arith, rows-few (c .head) (writer-passed c room e .head)))
+    (λ e. omega (arith, rows-few (c .head) (writer-passed c room e .head), start-most (c .form .stated)))
 
 pub rewritten-packs : (s : List ℕ) (room : ℕ) → Packs (write.numberOf (rewrittenOf s room)) (write.valueOf (rewrittenOf s room))
 unfolding rewrittenOf
@@ -200,13 +210,12 @@ rewritten-packs s room = go (intervalFault s .applies) refl
 
     go : (b : Bool) → intervalFault s .applies ≡ b → Packs (write.numberOf (answer b)) (write.valueOf (answer b))
     go true e =
-        let wider = numbers-wider 1 7 11 (intervalOrder s) (lit≤ tt) (interval-numbers s) in
-        record { number-fits = first-number 1 11 (intervalOrder s) wider e .1; value-fits = omega (arith, interval-near s) }
+        record { number-fits = first-number 1 lastNumber (intervalOrder s) (interval-numbers s) e .1; value-fits = omega (arith, interval-near s) }
     go false e = written-packs (readingOf s .contents) room
 
 -- ---- the row that counts
 
-taken-short : (s : List ℕ) (k : ℕ) → length (part s k) ≤ 21
+taken-short : (s : List ℕ) (k : ℕ) → length (part rowSize s k) ≤ 21
 taken-short s k = omega (arith, length-take 21 (drop k s))
 
 if-short : (t : Bool) (a b : List ℕ) → length a ≤ 21 → length b ≤ 21 → length (cond t a b) ≤ 21
@@ -216,11 +225,11 @@ if-short false a b l m = m
 named-short : (s k : List ℕ) (id : ℕ) → length (named s k id) ≤ 21
 unfolding named
 named-short s k id =
-    if-short (ltb (inCorrection k id) (correctionCount k)) (part k (correctionStart (inCorrection k id)))
-    (cond (ltb (inInterval s id) (rowCount s)) (part s (rowStart (inInterval s id))) [])
+    if-short (ltb (inCorrection k id) (correctionCount k)) (part rowSize k (correctionStart (inCorrection k id)))
+    (cond (ltb (inInterval s id) (rowCount s)) (part rowSize s (rowStart s (inInterval s id))) [])
     (taken-short k (correctionStart (inCorrection k id)))
-    (if-short (ltb (inInterval s id) (rowCount s)) (part s (rowStart (inInterval s id))) []
-    (taken-short s (rowStart (inInterval s id))) zero-le)
+    (if-short (ltb (inInterval s id) (rowCount s)) (part rowSize s (rowStart s (inInterval s id))) []
+    (taken-short s (rowStart s (inInterval s id))) zero-le)
 
 pub part-short : (s k : List ℕ) (id : ℕ) → length (countingBytes s k id) ≤ 21
 unfolding countingBytes

@@ -4,6 +4,7 @@ use mathlib.Core.Bool.{cond}
 use mathlib.Core.List.{List}
 use lib.Dec.{ltb}
 use lib.ListN.{length}
+use Rattle.columns.specs.Checks.{lastNumber}
 use Rattle.records.specs.Buffer.{put}
 use Rattle.files.specs.Counting.{countingBytes}
 use Rattle.contents.specs.Content.{rewrittenOf}
@@ -14,9 +15,9 @@ use Rattle.settle.specs.Answer.{answerOf, numberOf, valueOf}
 abbrev pub packed : ℕ → ℕ → ℕ
 packed number value = number * 4294967296 + value
 
--- what fits such a word: the numbers of refusal end at 11
+-- what fits such a word
 pub record Packs (number value : ℕ) : Type 0 where
-  pub number-fits : number ≤ 11
+  pub number-fits : number ≤ lastNumber
   pub value-fits : value < 4294967296
 
 -- the engine's answer: 0 and the count of bytes, or the refusal's number and place

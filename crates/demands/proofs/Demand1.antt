@@ -7,7 +7,7 @@
 --   short-refused      accepted files and a buffer that is too short: 11, place 0
 --   refused-by         and there is no other refusal
 --   refusal-keeps      a refusal leaves every byte of the buffer as it was
---   settled-buffer     a settlement: the statement's 39 + 42n bytes (`settled-count` of `settle`) are put in front of what the buffer held
+--   settled-buffer     a settlement: the statement's 39 + 42n bytes, 9 more with terms (`settled-count` of `settle`), are put in front of what the buffer held
 --   settled-front      so they stand at the front of the buffer
 --   settled-past       and every byte past them is as before
 --   buffer-length      the buffer keeps its length, whatever the answer
@@ -23,10 +23,10 @@ use native.Mathlib.Nat.{eq-zero-or-pos}
 use native.Mathlib.Omega.{arith}
 use lib.ListN.{length, take}
 use borrow.Author.Tests.{ltb-true, ltb-false}
-use Rattle.columns.specs.Checks.{Refusal, firstRefusal, numbersIn, Earliest, NoneApplies, Tells}
+use Rattle.columns.specs.Checks.{Refusal, firstRefusal, numbersIn, lastNumber, Earliest, NoneApplies, Tells}
 use Rattle.columns.specs.Table.{at}
 use Rattle.columns.proofs.Checks.{first-none, earliest-first, append-none, earliest-append}
-use Rattle.columns.proofs.Checks.{numbers-append, numbers-wider, answer-no, answer-yes, zero-none, number-earliest, earliest-number, refused-number}
+use Rattle.columns.proofs.Checks.{numbers-append, answer-no, answer-yes, zero-none, number-earliest, earliest-number, refused-number}
 use Rattle.columns.proofs.Rank.{test-or}
 use Rattle.records.specs.Buffer.{put}
 use Rattle.records.proofs.Buffer.{put-length, put-after, take-put}
@@ -34,10 +34,9 @@ use Rattle.files.specs.Layout.{rowCount}
 use Rattle.files.specs.Order.{fileOrder, fileFault, verdictOf}
 use Rattle.files.specs.declared.Verdict.the-variants.{Accepted, Refused as Refuses}
 use Rattle.files.proofs.Answer.{file-numbers}
-use Rattle.statement.specs.Statement.{lineStart}
-use Rattle.settle.specs.Answer.{statementOf, roomOrder, settleOrder, answerOf, bufferAfter, numberOf, valueOf}
+use Rattle.settle.specs.Answer.{statementOf, sizeOf, roomOrder, settleOrder, answerOf, bufferAfter, numberOf, valueOf}
 use Rattle.settle.specs.declared.Answer.the-variants.{Settled, Refused}
-use Rattle.settle.proofs.Answered.{accepted-free, files-stop, room-stop, none-stop, settled-count}
+use Rattle.settle.proofs.Answered.{files-stop, room-stop, none-stop, settled-count}
 
 tells : (c : ℕ) → Tells Refused (Settled c) numberOf valueOf
 tells c =
@@ -50,34 +49,34 @@ tells c =
 
 module _ (s k : List ℕ) (room : ℕ) where
   abbrev count : ℕ
-  count = lineStart (rowCount s)
+  count = sizeOf s
 
-  numbers : numbersIn 1 11 (settleOrder s k room) ≡ true
+  numbers : numbersIn 1 lastNumber (settleOrder s k room) ≡ true
   unfolding settleOrder
-  numbers = numbers-append 1 11 (fileOrder s k) (roomOrder s room) (numbers-wider 1 10 11 (fileOrder s k) (omega arith) (file-numbers s k)) refl
+  numbers = numbers-append 1 lastNumber (fileOrder s k) (roomOrder s room) (file-numbers s k) refl
 
   pub zero-free : numberOf (answerOf s k room) ≡ 0 → NoneApplies (settleOrder s k room)
   unfolding answerOf
-  zero-free = zero-none Refused (Settled count) numberOf valueOf (tells count) (settleOrder s k room) 11 numbers
+  zero-free = zero-none Refused (Settled count) numberOf valueOf (tells count) (settleOrder s k room) lastNumber numbers
 
-  pub free-zero : NoneApplies (settleOrder s k room) → (numberOf (answerOf s k room) ≡ 0) × (valueOf (answerOf s k room) ≡ lineStart (rowCount s))
+  pub free-zero : NoneApplies (settleOrder s k room) → (numberOf (answerOf s k room) ≡ 0) × (valueOf (answerOf s k room) ≡ sizeOf s)
   unfolding answerOf
   free-zero free = rw (first-none (settleOrder s k room) free) (refl, refl)
 
   pub refused-first : (a p : ℕ) → (a ≡ 0 → ⊥) → numberOf (answerOf s k room) ≡ a → valueOf (answerOf s k room) ≡ p → Earliest (settleOrder s k room) a p
   unfolding answerOf
-  refused-first = number-earliest Refused (Settled count) numberOf valueOf (tells count) (settleOrder s k room) 11 numbers
+  refused-first = number-earliest Refused (Settled count) numberOf valueOf (tells count) (settleOrder s k room) lastNumber numbers
 
   pub first-refused : (a p : ℕ) → Earliest (settleOrder s k room) a p → (numberOf (answerOf s k room) ≡ a) × (valueOf (answerOf s k room) ≡ p)
   unfolding answerOf
-  first-refused = earliest-number Refused (Settled count) numberOf valueOf (tells count) (settleOrder s k room) 11 numbers
+  first-refused = earliest-number Refused (Settled count) numberOf valueOf (tells count) (settleOrder s k room) lastNumber numbers
 
-  pub answered : ((numberOf (answerOf s k room) ≡ 0) × (valueOf (answerOf s k room) ≡ lineStart (rowCount s)))
-      ⊎ ((1 ≤ numberOf (answerOf s k room)) × (numberOf (answerOf s k room) ≤ 11))
+  pub answered : ((numberOf (answerOf s k room) ≡ 0) × (valueOf (answerOf s k room) ≡ sizeOf s))
+      ⊎ ((1 ≤ numberOf (answerOf s k room)) × (numberOf (answerOf s k room) ≤ lastNumber))
   answered =
       ⊎-elim (λ (z : numberOf (answerOf s k room) ≡ 0). inl (free-zero (zero-free z)))
       (λ (up : 0 < numberOf (answerOf s k room)).
-      inr (refused-number Refused (Settled count) numberOf valueOf (tells count) (settleOrder s k room) 11 numbers
+      inr (refused-number Refused (Settled count) numberOf valueOf (tells count) (settleOrder s k room) lastNumber numbers
       (numberOf (answerOf s k room)) (valueOf (answerOf s k room)) (refused-first _ _ (λ z. omega arith) refl refl)))
       (eq-zero-or-pos (numberOf (answerOf s k room)))
 
@@ -87,15 +86,14 @@ module _ (s k : List ℕ) (room : ℕ) where
   unfolding answerOf
   files-refused a p refused = answer-no Refused (Settled count) (firstRefusal (settleOrder s k room)) a p (files-stop s k room a p refused)
 
-  pub short-refused : (n : ℕ) → verdictOf s k ≡ Accepted n → room < lineStart n → answerOf s k room ≡ Refused 11 0
+  pub short-refused : (n : ℕ) → verdictOf s k ≡ Accepted n → room < sizeOf s → answerOf s k room ≡ Refused 11 0
   unfolding answerOf
   short-refused n ok short = answer-no Refused (Settled count) (firstRefusal (settleOrder s k room)) 11 0 (room-stop s k room n ok short)
 
-  pub accepted-settled : (n : ℕ) → verdictOf s k ≡ Accepted n → lineStart n ≤ room → answerOf s k room ≡ Settled (lineStart n)
+  pub accepted-settled : (n : ℕ) → verdictOf s k ≡ Accepted n → sizeOf s ≤ room → answerOf s k room ≡ Settled (sizeOf s)
   unfolding answerOf
   accepted-settled n ok enough =
       answer-yes Refused (Settled count) (firstRefusal (settleOrder s k room)) (none-stop s k room n ok enough)
-      ∙ ap (λ (m : ℕ). Settled (lineStart m)) (accepted-free s k room n ok .1)
 
   pub settled-accepted : numberOf (answerOf s k room) ≡ 0 → verdictOf s k ≡ Accepted (rowCount s)
   unfolding settleOrder verdictOf
@@ -103,13 +101,13 @@ module _ (s k : List ℕ) (room : ℕ) where
       answer-yes Refuses (Accepted (rowCount s)) (fileFault s k)
       (ap (λ (r : Refusal). r .applies) (first-none (fileOrder s k) (append-none (fileOrder s k) (roomOrder s room) (zero-free h) .0)))
 
-  pub settled-room : numberOf (answerOf s k room) ≡ 0 → lineStart (rowCount s) ≤ room
+  pub settled-room : numberOf (answerOf s k room) ≡ 0 → sizeOf s ≤ room
   unfolding settleOrder
-  settled-room h = ltb-false room (lineStart (rowCount s)) (append-none (fileOrder s k) (roomOrder s room) (zero-free h) .1 0 (omega arith))
+  settled-room h = ltb-false room (sizeOf s) (append-none (fileOrder s k) (roomOrder s room) (zero-free h) .1 0 (omega arith))
 
   -- and there is no other refusal
   pub refused-by : (a p : ℕ) → (a ≡ 0 → ⊥) → numberOf (answerOf s k room) ≡ a → valueOf (answerOf s k room) ≡ p
-      → (verdictOf s k ≡ Refuses a p) ⊎ ((verdictOf s k ≡ Accepted (rowCount s)) × (room < lineStart (rowCount s)) × (11 ≡ a) × (0 ≡ p))
+      → (verdictOf s k ≡ Refuses a p) ⊎ ((verdictOf s k ≡ Accepted (rowCount s)) × (room < sizeOf s) × (11 ≡ a) × (0 ≡ p))
   unfolding settleOrder verdictOf
   refused-by a p z n v =
       ⊎-elim
@@ -119,7 +117,7 @@ module _ (s k : List ℕ) (room : ℕ) where
       let only : w .1 .at ≡ 0 = omega (arith, w .1 .inside) in
       inr (
         answer-yes Refuses (Accepted (rowCount s)) (fileFault s k) free,
-        ltb-true room (lineStart (rowCount s)) (rw only at (w .1 .applies)),
+        ltb-true room (sizeOf s) (rw only at (w .1 .applies)),
         rw only at (w .1 .number),
         rw only at (w .1 .place),
       ))
@@ -129,7 +127,7 @@ module _ (s k : List ℕ) (room : ℕ) where
 
 module _ (s k out : List ℕ) where
   abbrev size : ℕ
-  size = lineStart (rowCount s)
+  size = sizeOf s
 
   pub refusal-keeps : (numberOf (answerOf s k (length out)) ≡ 0 → ⊥) → bufferAfter s k out ≡ out
   unfolding bufferAfter answerOf
@@ -143,12 +141,12 @@ module _ (s k out : List ℕ) where
     unfolding bufferAfter
     settled-buffer = rw (first-none (settleOrder s k (length out)) (zero-free s k (length out) h))
 
-    pub settled-front : take (lineStart (rowCount s)) (bufferAfter s k out) ≡ statementOf s k
+    pub settled-front : take (sizeOf s) (bufferAfter s k out) ≡ statementOf s k
     settled-front =
-        let e : 0 + length (statementOf s k) ≡ lineStart (rowCount s) = omega (arith, settled-count s k) in
+        let e : 0 + length (statementOf s k) ≡ sizeOf s = omega (arith, settled-count s k) in
         rw (settled-buffer, ← e) (take-put out 0 (statementOf s k) (omega arith))
 
-    pub settled-past : (j : ℕ) → lineStart (rowCount s) ≤ j → at (bufferAfter s k out) j ≡ at out j
+    pub settled-past : (j : ℕ) → sizeOf s ≤ j → at (bufferAfter s k out) j ≡ at out j
     settled-past j l = rw settled-buffer (put-after out 0 (statementOf s k) j 0 (omega arith) (omega (arith, settled-count s k)))
 
   pub buffer-length : length (bufferAfter s k out) ≡ length out

@@ -1,5 +1,6 @@
 -- The statement of an accepted pair of files: each field of its head and of its lines fits its width.
 --   accepted-long, accepted-sized      lengths and sizes of the figures
+--   accepted-terms-fit     the terms that a file states
 --   accepted-head-fits, accepted-figure-fits     each field of the head, and each figure of a line, whatever the file's numbers are
 --   id-fits            a row's id, of a file made of bytes
 use Prim.Native.Nat.{ℕ, zero, suc, _^_, _<_}
@@ -7,19 +8,20 @@ use mathlib.Core.Path.{_≡_}
 use mathlib.Core.List.{List}
 use native.Mathlib.Omega.{arith}
 use Rattle.columns.specs.Table.{at}
+use Rattle.records.specs.Record.{Fits}
 use Rattle.records.proofs.Record.{record-fits}
-use Rattle.files.specs.Layout.{rowWidths, rowStart, headAt, rowAt, rowCount}
-use Rattle.files.specs.Terms.{termsOf}
+use Rattle.files.specs.Layout.{rowWidths, headAt, rowAt, rowCount}
+use Rattle.files.specs.Form.{termsWidths, termsFields, termsOf, rowStart}
 use Rattle.files.specs.Order.{verdictOf}
 use Rattle.files.specs.Counting.{countingRow}
 use Rattle.files.specs.declared.Verdict.the-variants.{Accepted}
 use Rattle.files.proofs.Ranges.{HeadRanges}
-use Rattle.files.proofs.Laws.{accepted-head, counting-id}
+use Rattle.files.proofs.Laws.{accepted-head, accepted-sound, counting-id}
 use Rattle.duties.proofs.Laws.{duties-level}
 use Rattle.statement.specs.Statement.{lineWidths}
 use Rattle.statement.proofs.Laws.{HeadFits}
 use Rattle.settle.specs.Statement.{statementHead, lineOf}
-use Rattle.settle.specs.Answer.{dutiesIn, figuresOf}
+use Rattle.settle.specs.Answer.{dutiesIn, figuresOf, topOf}
 use Rattle.settle.proofs.Sizes.{Sized, Long, figures-long, figures-sized}
 use Rattle.settle.proofs.Accepted.{duties-within}
 use Rattle.demands.specs.Promise.{Bytes}
@@ -38,28 +40,37 @@ module _ (s k : List ℕ) (n : ℕ) (h : verdictOf s k ≡ Accepted n) where
   unfolding figuresOf
   accepted-sized = figures-sized (headAt s .need .0) _ (rowCount s) (dutiesIn s k) (duties-within s k n h)
 
-  pub accepted-head-fits : HeadFits (statementHead (headAt s) (rowCount s) (figuresOf s k))
-  unfolding statementHead
+  pub accepted-head-fits : HeadFits (topOf s k)
+  unfolding topOf statementHead
   accepted-head-fits =
-      let f = accepted-sized in (
-        omega (arith, head .day),
-        (
-          omega (arith, head .quarter),
+      let f = accepted-sized in
+      record {
+        front = (
+          omega (arith, head .day),
           (
-            omega (arith, f .price1),
+            omega (arith, head .quarter),
             (
-              omega (arith, f .price2),
+              omega (arith, f .price1),
               (
-                omega (arith, f .total),
+                omega (arith, f .price2),
                 (
-                  omega (arith, f .total, f .shortfall),
-                  (omega (arith, f .rounds, head .rows), (omega (arith, f .uncovered, head .need), (omega (arith, head .rows), (omega (arith, f .visits), tt)))),
+                  omega (arith, f .total),
+                  (
+                    omega (arith, f .total, f .shortfall),
+                    (omega (arith, f .rounds, head .rows), (omega (arith, f .uncovered, head .need), (omega (arith, head .rows), tt))),
+                  ),
                 ),
               ),
             ),
           ),
-        ),
-      )
+        );
+        visits = omega (arith, f .visits);
+      }
+
+  pub accepted-terms-fit : Fits termsWidths (termsFields (termsOf s))
+  accepted-terms-fit =
+      let t = accepted-sound s k n h in
+      (omega (arith, t .below), (omega (arith, t .rising1, t .apart, t .rising2, t .last), (omega (arith, t .apart, t .rising2, t .last), (omega (arith, t .rising2, t .last), (omega (arith, t .last), tt)))))
 
   pub accepted-figure-fits : (id j i : ℕ) → at (lineOf id (figuresOf s k) i) (suc j) < 256 ^ at lineWidths (suc j)
   accepted-figure-fits id zero i = omega (arith, accepted-sized .called1 i)
@@ -77,5 +88,5 @@ module _ (s k : List ℕ) (n : ℕ) (h : verdictOf s k ≡ Accepted n) where
   pub id-fits : Bytes s → (i : ℕ) → countingRow s k i .id < 65536
   id-fits bytes i = omega (arith, counting-id s k i, low)
     where
-      low : rowAt s (rowStart i) .id < 65536
-      low = unfold rowAt in record-fits rowWidths s (rowStart i) bytes .0
+      low : rowAt s (rowStart s i) .id < 65536
+      low = unfold rowAt in record-fits rowWidths s (rowStart s i) bytes .0

@@ -9,7 +9,7 @@ use lib.ListN.{length}
 use Rattle.columns.specs.Sum.{whole}
 use Rattle.columns.specs.Table.{at}
 use Rattle.files.specs.Layout.{headAt, rowCount}
-use Rattle.files.specs.Terms.{termsOf}
+use Rattle.files.specs.Form.{termsOf}
 use Rattle.files.specs.Counting.{countingRow}
 use Rattle.duties.specs.Duties.{Duties, Level}
 use Rattle.duties.proofs.Laws.{duties-level}

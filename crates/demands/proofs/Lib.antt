@@ -8,3 +8,4 @@ pub mod Penalties
 pub mod Visits
 pub mod InTurn
 pub mod Figures
+pub mod Forms

@@ -18,7 +18,7 @@ use Rattle.columns.specs.Sum.{whole}
 use Rattle.columns.specs.Table.{at, table}
 use Rattle.columns.proofs.Table.{table-at, table-length}
 use Rattle.files.specs.Layout.{headAt, rowCount}
-use Rattle.files.specs.Terms.{termsOf}
+use Rattle.files.specs.Form.{termsOf}
 use Rattle.files.specs.Order.{verdictOf}
 use Rattle.files.specs.Counting.{countingRow}
 use Rattle.files.specs.declared.Row.{Row}

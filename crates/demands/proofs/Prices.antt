@@ -11,13 +11,14 @@ use lib.ListN.{length}
 use Rattle.columns.specs.Table.{at, table, Below}
 use Rattle.columns.proofs.Table.{table-at, table-length}
 use Rattle.files.specs.Layout.{headAt, rowCount}
-use Rattle.files.specs.Terms.{termsOf}
+use Rattle.files.specs.Form.{termsOf}
 use Rattle.files.specs.Order.{verdictOf}
 use Rattle.files.specs.Counting.{countingRow}
 use Rattle.files.specs.declared.Row.{Row}
 use Rattle.files.specs.declared.Terms.{Terms}
 use Rattle.files.specs.declared.Verdict.the-variants.{Accepted}
-use Rattle.files.proofs.Ranges.{Offers, RowRanges, terms-sound}
+use Rattle.files.proofs.Ranges.{Offers, RowRanges}
+use Rattle.files.proofs.Laws.{accepted-sound}
 use Rattle.duties.specs.Duty.{thermal, normal, width1, width2, meterEnergy1, meterEnergy2, energy1, energy2}
 use Rattle.duties.specs.Duties.{Duties, dutiesOf}
 use Rattle.duties.proofs.Laws.{width1-offers, width2-offers, energy1-whose, energy2-whose, energy1-is, energy2-is}
@@ -106,7 +107,7 @@ module _ (s k : List ℕ) (n : ℕ) (h : verdictOf s k ≡ Accepted n) where
   unfolding figuresOf figures dutiesIn dutiesOf
   accepted-prices =
       let t = termsOf s in
-      let sound = terms-sound s in
+      let sound = accepted-sound s k n h in
       let of = set-by t (rowCount s) (countingRow s k) (rows-ranged s k n h) in
       record {
         tier1 =

@@ -1,16 +1,17 @@
--- What the promises of the engine speak of besides its definitions: the figures that a statement's bytes hold, how prices and penalties
+-- What the promises of the engine speak of besides its definitions: the figures that a statement's bytes hold, both forms of file, how prices and penalties
 -- follow from the rows, whose turn it is, how much work the rounds were, and demand 3 said of any figures.
 use Prim.Native.Nat.{ℕ, _+_, _-_, _*_, _/_, _≤_, _<_}
 use mathlib.Core.Path.{_≡_}
 use mathlib.Core.Bool.{Bool, cond}
-use mathlib.Core.List.{List}
+use mathlib.Core.List.{List, _∷_, _++_}
 use lib.Dec.{eqb}
-use lib.ListN.{length}
+use lib.ListN.{length, take, drop}
 use Rattle.columns.specs.Sum.{sumTo, sumWhere, maxTo}
-use Rattle.columns.specs.Table.{at}
+use Rattle.columns.specs.Table.{at, table}
 use Rattle.columns.specs.Sum.{whole}
-use Rattle.files.specs.Layout.{headAt, rowCount}
-use Rattle.files.specs.Terms.{termsOf}
+use Rattle.files.specs.Layout.{headSize, headAt, rowCount}
+use Rattle.files.specs.Terms.{terms01}
+use Rattle.files.specs.Form.{letterG, termsBytes, termsOf}
 use Rattle.files.specs.Counting.{countingRow}
 use Rattle.files.specs.declared.Row.{Row}
 use Rattle.files.specs.declared.Terms.{Terms}
@@ -20,21 +21,23 @@ use Rattle.pay.specs.Pay.{penalty}
 use Rattle.share.specs.Share.{turn, SameOrOneMore}
 use Rattle.levy.specs.Rounds.{payers, visitsTold}
 use Rattle.levy.specs.Capped.{hasClosed, outside, payersInside, capsInside, leftBy, weightsBeside, Capped}
+use Rattle.records.specs.Record.{letterP, recordsBytes}
 use Rattle.records.specs.Sheet.{columnOf}
-use Rattle.statement.specs.Statement.{statementHeadAt}
+use Rattle.statement.specs.Statement.{letterL, lineWidths, headIn, bodyIn}
 use Rattle.statement.specs.Line as line
 use Rattle.settle.specs.Settlement.{firstTurn, Figures, figures}
-use Rattle.settle.specs.Answer.{dutiesIn}
+use Rattle.settle.specs.Answer.{dutiesIn, lineIn}
 
 -- every number of the list is a byte, as it is in every file
 abbrev pub Bytes : List ℕ → Type 0
 Bytes s = (i : ℕ) → at s i < 256
 
--- the figures that a statement states, read from its bytes
+-- the figures that a statement states, read from its bytes by its mark
 unfoldable pub figuresAt : List ℕ → Figures
 figuresAt b =
-    let h = statementHeadAt b in
+    let h = headIn b in
     let n = h .rows in
+    let c = bodyIn b in
     record {
       price1 = h .price1 .0;
       price2 = h .price2 .0;
@@ -43,17 +46,27 @@ figuresAt b =
       rounds = h .rounds;
       uncovered = h .uncovered .0;
       visits = h .visits;
-      called1 = columnOf line.called1 n b;
-      called2 = columnOf line.called2 n b;
-      compensations = columnOf line.compensation n b;
-      cuts = columnOf line.cut n b;
-      weights = columnOf line.weight n b;
-      caps = columnOf line.cap n b;
-      paid = columnOf line.paid n b;
-      closing = columnOf line.closing n b;
-      penalties = columnOf line.penalty n b;
-      returned = columnOf line.returned n b;
+      called1 = columnOf line.called1 n c;
+      called2 = columnOf line.called2 n c;
+      compensations = columnOf line.compensation n c;
+      cuts = columnOf line.cut n c;
+      weights = columnOf line.weight n c;
+      caps = columnOf line.cap n c;
+      paid = columnOf line.paid n c;
+      closing = columnOf line.closing n c;
+      penalties = columnOf line.penalty n c;
+      returned = columnOf line.returned n c;
     }
+
+-- ---- both forms of file (02, request 6)
+
+-- the PG file that states document 01's terms, and else says what a PH file says
+unfoldable pub restated : List ℕ → List ℕ
+restated s = (letterP ∷ letterG ∷ take (headSize - 2) (drop 2 s)) ++ (termsBytes terms01 ++ drop headSize s)
+
+-- the lines of a pair's statement, in bytes
+unfoldable pub linesOf : List ℕ → List ℕ → List ℕ
+linesOf s k = recordsBytes letterL lineWidths (table (rowCount s) (lineIn s k))
 
 -- ---- a tier's price (02, request 1), said of the rows that count
 

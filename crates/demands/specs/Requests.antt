@@ -3,6 +3,7 @@
 use Prim.Native.Nat.{ℕ, _+_}
 use mathlib.Core.List.{List, [], _∷_, _++_}
 use lib.ListN.{length, replicate}
+use Rattle.records.specs.Fields.{fieldsBytes}
 use Rattle.records.specs.Record.{recordBytes, recordsBytes}
 use Rattle.records.specs.Sheet.{cell, columnOf}
 use Rattle.records.specs.declared.Field.{Field}
@@ -10,7 +11,9 @@ use Rattle.columns.specs.Sum.{whole}
 use Rattle.columns.specs.Table.{at}
 use Rattle.units.specs.Measure.{thermalCap, renewableCap}
 use Rattle.units.specs.Load.{load}
-use Rattle.files.specs.Layout.{letterH, letterR, headWidths, rowWidths, rowCount}
+use Rattle.files.specs.Layout.{letterR, headWidths, rowWidths, rowCount}
+use Rattle.files.specs.Terms.{terms01}
+use Rattle.files.specs.Form.{letterH, letterG, termsWidths, termsFields}
 use Rattle.share.specs.Share.{shares}
 use Rattle.merit.specs.Band.{one}
 use Rattle.merit.specs.Call.{calls}
@@ -18,10 +21,10 @@ use Rattle.merit.specs.Price.{price}
 use Rattle.pay.specs.Pay.{penalty}
 use Rattle.duties.specs.Duty.{thermalWeight}
 use Rattle.levy.specs.Rounds.{final, visits}
-use Rattle.statement.specs.Statement.{lineStart, statementHeadAt}
+use Rattle.statement.specs.Statement.{lineStart, headIn, termsIn, bodyIn}
 use Rattle.statement.specs.Line as line
 use Rattle.settle.specs.Settlement.{firstTurn}
-use Rattle.settle.specs.Answer.{answerOf, bufferAfter, numberOf, valueOf}
+use Rattle.settle.specs.Answer.{sizeOf, answerOf, bufferAfter, numberOf, valueOf}
 use Rattle.demands.specs.Table.{Entry, entry, intervalX, twoBands}
 
 -- the fields of a thermal row that offers down to 8,000 kWh, by its id, metered energy, status and bids; of one that does not offer;
@@ -45,9 +48,10 @@ fileOf quarter tariff need rows =
 -- the settlement of three rows read back: number, prices, total, shortfall, rounds; then for each row what it is paid, and what it pays
 unfoldable pub settledThree : List ℕ → List ℕ
 settledThree s =
-    let out = bufferAfter s [] (replicate 165 255) in
-    let h = statementHeadAt out in
-    numberOf (answerOf s [] 165) ∷ h .price1 .0 ∷ h .price2 .0 ∷ h .total .0 ∷ h .shortfall .0 ∷ h .rounds
+    let b = bufferAfter s [] (replicate (sizeOf s) 255) in
+    let h = headIn b in
+    let out = bodyIn b in
+    numberOf (answerOf s [] (sizeOf s)) ∷ h .price1 .0 ∷ h .price2 .0 ∷ h .total .0 ∷ h .shortfall .0 ∷ h .rounds
     ∷ cell line.compensation out 0 ∷ cell line.compensation out 1 ∷ cell line.compensation out 2
     ∷ cell line.paid out 0 ∷ cell line.paid out 1 ∷ cell line.paid out 2 ∷ []
 
@@ -75,7 +79,7 @@ sharedAt quarter a ws = shares a ws (firstTurn quarter (length ws))
 
 -- a field of each line of a file's statement
 unfoldable pub told : Field → List ℕ → List ℕ
-told f s = columnOf f (rowCount s) (bufferAfter s [] (replicate (lineStart (rowCount s)) 255))
+told f s = columnOf f (rowCount s) (bodyIn (bufferAfter s [] (replicate (sizeOf s) 255)))
 
 -- two rows that offer alike, of which 101 kWh are needed, and a wind farm
 abbrev pub tiedCalls : ℕ → List ℕ
@@ -99,7 +103,7 @@ tiedCuts quarter =
 unfoldable pub settledNone : ℕ → List ℕ
 settledNone quarter =
     let s = fileOf quarter 1300 3000 [] in
-    let h = statementHeadAt (bufferAfter s [] (replicate 39 255)) in
+    let h = headIn (bufferAfter s [] (replicate 39 255)) in
     numberOf (answerOf s [] 39) ∷ valueOf (answerOf s [] 39) ∷ h .quarter ∷ h .uncovered .0 ∷ []
 
 -- ---- request 4, penalty money first
@@ -109,7 +113,7 @@ settledNone quarter =
 unfoldable pub settledReduced : ℕ → ℕ → List ℕ
 settledReduced tariff metered =
     let out = bufferAfter (besideAt tariff 9000 metered 2) [] (replicate 165 255) in
-    let h = statementHeadAt out in
+    let h = headIn out in
     h .total .0 ∷ h .shortfall .0 ∷ h .rounds ∷ cell line.cut out 0 ∷ cell line.paid out 1 ∷ cell line.paid out 2
     ∷ cell line.penalty out 1 ∷ cell line.returned out 1 ∷ []
 
@@ -127,13 +131,51 @@ shortOf kwh =
     (offering 1 12460 0 105 400 ∷ offering 2 12460 0 105 400 ∷ offering 3 12499 0 105 400 ∷ windRow 4 3
     ∷ offering 5 (10000 + kwh) 2 105 400 ∷ [])
 
+-- ---- request 6, terms by date
+
+-- the file that states terms, percent and four limits, of a quarter, a tariff, a need and rows
+unfoldable pub statedFile : List ℕ → ℕ → ℕ → ℕ → List (List ℕ) → List ℕ
+statedFile terms quarter tariff need rows =
+    recordBytes letterG headWidths (0 ∷ quarter ∷ tariff ∷ need ∷ length rows ∷ [])
+    ++ (fieldsBytes termsWidths terms ++ recordsBytes letterR rowWidths rows)
+
+-- terms at 45 percent, limits equal in the middle, and those of document 01
+abbrev pub at45 : List ℕ
+at45 = 45 ∷ 150 ∷ 330 ∷ 330 ∷ 760 ∷ []
+
+abbrev pub at01 : List ℕ
+at01 = termsFields terms01
+
+-- the rows of interval X; and with the row between, which ran above 45 percent and below half load, in the place of row 2
+abbrev pub rowsX : List (List ℕ)
+rowsX = offering 1 9000 0 200 400 ∷ thermalRow 2 20000 ∷ windRow 3 5000 ∷ []
+
+abbrev pub rowsBetween : List (List ℕ)
+rowsBetween = offering 1 9000 0 200 400 ∷ offering 2 12000 0 200 400 ∷ windRow 3 5000 ∷ []
+
+-- number and value of the answer to a file alone, in a buffer of so many bytes
+abbrev pub answered : ℕ → List ℕ → List ℕ
+answered room s = numberOf (answerOf s [] room) ∷ valueOf (answerOf s [] room) ∷ []
+
+-- the number that a file with these terms and no rows gets, at a tariff
+abbrev pub termsAnswer : ℕ → List ℕ → ℕ
+termsAnswer tariff terms = numberOf (answerOf (statedFile terms 0 tariff 0 []) [] 48)
+
+-- the answer to one row of 1 MW at 45 percent, by its minimum and its bids
+abbrev pub rowAnswer : ℕ → ℕ → ℕ → List ℕ
+rowAnswer minimum bid1 bid2 = answered 90 (statedFile at45 0 1300 0 ((1 ∷ 1 ∷ 1 ∷ 100 ∷ 0 ∷ 1 ∷ minimum ∷ bid1 ∷ bid2 ∷ []) ∷ []))
+
+-- the terms that a file's statement says
+unfoldable pub ruled : List ℕ → List ℕ
+ruled s = termsFields (termsIn (bufferAfter s [] (replicate (sizeOf s) 255)))
+
 -- ---- request 8, how much work a quarter can take
 
 -- rounds and visits as a file's statement tells them, then the closing round of each line
 unfoldable pub visited : List ℕ → List ℕ
 visited s =
     let out = bufferAfter s [] (replicate (lineStart (rowCount s)) 255) in
-    let h = statementHeadAt out in
+    let h = headIn out in
     h .rounds ∷ h .visits ∷ columnOf line.closing (rowCount s) out
 
 -- interval X with row 2 at 110 percent and another thermal row at 60: payers of 37,500, 5,000 and 2,500 kWh, who owe 75,000, 10,000 and
@@ -249,6 +291,45 @@ requestTable =
     -- a penalty larger by 21 fen leaves 29 to cut in place of 50, and row 3 is cut by a fen more
     ∷ entry (told line.penalty (shortOf 38) ++ told line.cut (shortOf 38)) (0 ∷ 0 ∷ 0 ∷ 0 ∷ 798 ∷ 25 ∷ 25 ∷ 0 ∷ 0 ∷ 0 ∷ [])
     ∷ entry (told line.penalty (shortOf 39) ++ told line.cut (shortOf 39)) (0 ∷ 0 ∷ 0 ∷ 0 ∷ 819 ∷ 14 ∷ 14 ∷ 1 ∷ 0 ∷ 0 ∷ [])
+    -- request 6, terms by date. The baseline of 333, 1 and 7 MW at 41, 45, 49 and 50 percent: half a kWh is dropped
+    ∷ entry (load 333 41 ∷ load 333 45 ∷ load 333 49 ∷ load 333 50 ∷ []) (34132 ∷ 37462 ∷ 40792 ∷ 41625 ∷ [])
+    ∷ entry (load 1 41 ∷ load 1 45 ∷ load 1 49 ∷ load 1 50 ∷ []) (102 ∷ 112 ∷ 122 ∷ 125 ∷ [])
+    ∷ entry (load 7 41 ∷ load 7 45 ∷ load 7 49 ∷ load 7 50 ∷ []) (717 ∷ 787 ∷ 857 ∷ 875 ∷ [])
+    -- interval X at 45 percent: row 1 is paid for 1,250 and 1,000 kWh, row 2 weighs 3,750 + 2 × 2,500 + 3 × 2,500
+    ∷ entry (settledThree (statedFile at45 0 1300 3000 rowsX)) (0 ∷ 200 ∷ 400 ∷ 65000 ∷ 0 ∷ 0 ∷ 65000 ∷ 0 ∷ 0 ∷ 0 ∷ 49706 ∷ 15294 ∷ [])
+    ∷ entry (told line.weight (statedFile at45 0 1300 3000 rowsX)) (0 ∷ 16250 ∷ 5000 ∷ [])
+    -- a row of 12,000 kWh, between 45 percent and half load: paid for 500 kWh by document 01's terms, a payer of 750 kWh by the others
+    ∷ entry (settledThree (fileOf 0 1300 9000 rowsBetween)) (0 ∷ 200 ∷ 400 ∷ 100000 ∷ 67500 ∷ 1 ∷ 90000 ∷ 10000 ∷ 0 ∷ 0 ∷ 0 ∷ 32500 ∷ [])
+    ∷ entry (settledThree (statedFile at45 0 1300 9000 rowsBetween)) (0 ∷ 200 ∷ 400 ∷ 65000 ∷ 0 ∷ 1 ∷ 65000 ∷ 0 ∷ 0 ∷ 0 ∷ 32500 ∷ 32500 ∷ [])
+    ∷ entry (told line.called1 (statedFile at45 0 1300 9000 rowsBetween) ++ told line.called2 (statedFile at45 0 1300 9000 rowsBetween))
+    (1250 ∷ 1250 ∷ 0 ∷ 2000 ∷ 2000 ∷ 0 ∷ [])
+    -- document 01's terms, stated: interval X as it is, but for the head
+    ∷ entry (settledThree (statedFile at01 0 1300 3000 rowsX)) (0 ∷ 200 ∷ 400 ∷ 90000 ∷ 0 ∷ 1 ∷ 90000 ∷ 0 ∷ 0 ∷ 0 ∷ 65000 ∷ 25000 ∷ [])
+    -- the head says which terms ruled; a statement with terms has 9 bytes more, and a buffer a byte short of that is refused
+    ∷ entry (ruled (statedFile at45 0 1300 3000 rowsX) ++ ruled (intervalX 1300)) (45 ∷ 150 ∷ 330 ∷ 330 ∷ 760 ∷ 50 ∷ 100 ∷ 320 ∷ 320 ∷ 750 ∷ [])
+    ∷ entry (answered 174 (statedFile at45 0 1300 3000 rowsX) ++ answered 173 (statedFile at45 0 1300 3000 rowsX)) (0 ∷ 174 ∷ 11 ∷ 0 ∷ [])
+    -- 14: percent 40 and 51, first limit 0, limits equal or falling in a tier, tier 2 from below tier 1's end, last limit above 1,000
+    ∷ entry
+    (termsAnswer 1 (40 ∷ 1 ∷ 2 ∷ 3 ∷ 4 ∷ []) ∷ termsAnswer 1 (51 ∷ 1 ∷ 2 ∷ 3 ∷ 4 ∷ []) ∷ termsAnswer 1 (45 ∷ 0 ∷ 2 ∷ 3 ∷ 4 ∷ [])
+    ∷ termsAnswer 1 (45 ∷ 2 ∷ 2 ∷ 3 ∷ 4 ∷ []) ∷ termsAnswer 1 (45 ∷ 2 ∷ 1 ∷ 3 ∷ 4 ∷ []) ∷ termsAnswer 1 (45 ∷ 1 ∷ 3 ∷ 2 ∷ 4 ∷ [])
+    ∷ termsAnswer 1 (45 ∷ 1 ∷ 2 ∷ 3 ∷ 3 ∷ []) ∷ termsAnswer 1 (45 ∷ 1 ∷ 2 ∷ 4 ∷ 3 ∷ []) ∷ termsAnswer 1 (45 ∷ 1 ∷ 2 ∷ 3 ∷ 1001 ∷ []) ∷ [])
+    (14 ∷ 14 ∷ 14 ∷ 14 ∷ 14 ∷ 14 ∷ 14 ∷ 14 ∷ 14 ∷ [])
+    -- none of it at the edges: 41 and 50 percent, 1 to 1,000, limits equal in the middle
+    ∷ entry
+    (termsAnswer 1 (41 ∷ 1 ∷ 2 ∷ 2 ∷ 3 ∷ []) ∷ termsAnswer 1 (50 ∷ 1 ∷ 2 ∷ 2 ∷ 3 ∷ []) ∷ termsAnswer 1 (45 ∷ 997 ∷ 998 ∷ 999 ∷ 1000 ∷ []) ∷ [])
+    (0 ∷ 0 ∷ 0 ∷ [])
+    -- 3 comes before 14, and 14 before 4
+    ∷ entry (termsAnswer 0 (40 ∷ 1 ∷ 2 ∷ 3 ∷ 4 ∷ []) ∷ []) (3 ∷ [])
+    ∷ entry (answered 99 (statedFile (40 ∷ 1 ∷ 2 ∷ 3 ∷ 4 ∷ []) 0 1 0 [] ++ (0 ∷ [])) ++ answered 99 (statedFile at45 0 1 0 [] ++ (0 ∷ [])))
+    (14 ∷ 0 ∷ 4 ∷ 0 ∷ [])
+    -- a PG file of 14 and of 23 bytes is too short, whatever stands in it; one of 24 zeros behind its mark has no tariff; PF is no mark
+    ∷ entry (answered 99 (80 ∷ 71 ∷ replicate 12 0) ++ answered 99 (80 ∷ 71 ∷ replicate 21 0)) (1 ∷ 0 ∷ 1 ∷ 0 ∷ [])
+    ∷ entry (answered 99 (80 ∷ 71 ∷ replicate 22 0) ++ answered 99 (80 ∷ 70 ∷ replicate 21 0)) (3 ∷ 0 ∷ 2 ∷ 0 ∷ [])
+    -- a row of 1 MW: its minimum at 112 kWh and above, bids at the limits and past each of them
+    ∷ entry (rowAnswer 112 330 330 ++ rowAnswer 113 330 330) (0 ∷ 90 ∷ 6 ∷ 1 ∷ [])
+    ∷ entry
+    (rowAnswer 0 150 760 ++ rowAnswer 0 149 760 ++ rowAnswer 0 331 760 ++ rowAnswer 0 150 329 ++ rowAnswer 0 150 761)
+    (0 ∷ 90 ∷ 6 ∷ 1 ∷ 6 ∷ 1 ∷ 6 ∷ 1 ∷ 6 ∷ 1 ∷ [])
     -- request 8, how much work a quarter can take. P1 to P5: two payers are looked at; once row 2 has closed, the wind farm again
     ∷ entry (visited (intervalX 3545)) (0 ∷ 2 ∷ 0 ∷ 0 ∷ 0 ∷ [])
     ∷ entry (visited (intervalX 1350)) (1 ∷ 3 ∷ 0 ∷ 1 ∷ 0 ∷ [])

@@ -12,7 +12,7 @@ use Rattle.merit.specs.Band.{one, Bands}
 use Rattle.merit.specs.Call.{calls}
 use Rattle.duties.specs.Duty.{thermalWeight}
 use Rattle.records.specs.Sheet.{cell}
-use Rattle.statement.specs.Statement.{statementHeadAt}
+use Rattle.statement.specs.Statement.{headIn}
 use Rattle.statement.specs.Line as line
 use Rattle.settle.specs.Answer.{answerOf, bufferAfter, numberOf, valueOf}
 
@@ -29,7 +29,7 @@ unfoldable pub settledX : ℕ → List ℕ
 settledX tariff =
     let s = intervalX tariff in
     let out = bufferAfter s [] (replicate 165 255) in
-    let h = statementHeadAt out in
+    let h = headIn out in
     numberOf (answerOf s [] 165) ∷ valueOf (answerOf s [] 165) ∷ h .total .0 ∷ cell line.paid out 1 ∷ cell line.paid out 2
     ∷ h .rounds ∷ h .shortfall .0 ∷ []
 

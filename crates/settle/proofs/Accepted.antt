@@ -10,12 +10,12 @@ use native.Mathlib.Omega.{arith}
 use borrow.Author.Tests.{ne-eqb}
 use Rattle.columns.specs.Table.{Below}
 use Rattle.files.specs.Layout.{headAt, rowCount}
-use Rattle.files.specs.Terms.{termsOf}
+use Rattle.files.specs.Form.{termsOf}
 use Rattle.files.specs.Order.{verdictOf}
 use Rattle.files.specs.Counting.{countingRow}
 use Rattle.files.specs.declared.Verdict.the-variants.{Accepted}
-use Rattle.files.proofs.Ranges.{HeadRanges, RowRanges, terms-sound}
-use Rattle.files.proofs.Laws.{accepted-head, accepted-few, accepted-ranges, accepted-count}
+use Rattle.files.proofs.Ranges.{HeadRanges, RowRanges}
+use Rattle.files.proofs.Laws.{accepted-head, accepted-few, accepted-sound, accepted-ranges, accepted-count}
 use Rattle.duties.proofs.Laws.{duties-level, duties-sized, bids-apart}
 use Rattle.settle.specs.Settlement.{firstTurn}
 use Rattle.settle.specs.Answer.{dutiesIn}
@@ -40,7 +40,7 @@ module _ (s k : List ℕ) (n : ℕ) (h : verdictOf s k ≡ Accepted n) where
   duties-within =
       let t = termsOf s in
       let tariff = headAt s .tariff .0 in
-      let sound = terms-sound s in
+      let sound = accepted-sound s k n h in
       let sized = duties-sized t tariff (rowCount s) (countingRow s k) sound (head .tariff-high) rows-ranged in
       record {
         few = omega (arith, accepted-few s k n h, accepted-count s k n h);

@@ -1,9 +1,9 @@
 -- The stages of an accepted pair of files, one after the other as the code runs them: what each asks is there, and at the end the
--- buffer holds the statement. Each lemma takes what the stages before it left.
+-- buffer holds the statement's lines. Each lemma takes what the stages before it left.
 --   read-lines                      the first stage's lines are those of the columns of duties
 --   asked-trade                     both tiers
 --   asked-account, asked-levy, asked-divide    compensations and penalties, rounds and payments, cuts and what is returned
---   head-room, stated               the head may be put, and then the buffer holds the statement
+--   top-told, lines-told            what the head has to say, and the lines
 use Prim.Native.Nat.{ℕ, _-_, _≤_, _<_}
 use mathlib.Core.Path.{_≡_, refl, sym, ap, _∙_}
 use mathlib.Core.List.{List, []}
@@ -12,12 +12,10 @@ use lib.ListN.{length}
 use Rattle.columns.specs.Sum.{whole}
 use Rattle.columns.specs.Table.{at}
 use Rattle.columns.proofs.Table.{table-at}
-use Rattle.records.specs.Buffer.{put}
-use Rattle.records.specs.Sheet.{sheet}
-use Rattle.records.proofs.Sheet.{sheet-same, sheet-head}
+use Rattle.records.proofs.Sheet.{sheet-same}
 use Rattle.units.specs.declared.Fen.{Fen}
 use Rattle.files.specs.Layout.{headAt, rowCount}
-use Rattle.files.specs.Terms.{termsOf}
+use Rattle.files.specs.Form.{termsOf}
 use Rattle.files.specs.Order.{verdictOf}
 use Rattle.files.specs.Counting.{countingRow}
 use Rattle.files.specs.declared.Head.{Head}
@@ -29,11 +27,11 @@ use Rattle.levy.specs.Asked.{Short, Covered}
 use Rattle.levy.specs.Rounds.{toCut, toReturn}
 use Rattle.levy.specs.declared.Rest.{Rest}
 use Rattle.levy.specs.declared.Left.{Left}
-use Rattle.statement.specs.Statement.{letterL, lineWidths, headSize, lineStart, statementHeadBytes}
-use Rattle.statement.proofs.Laws.{head-length}
+use Rattle.statement.specs.Statement.{letterL, lineWidths, headSize, lineStart}
+use Rattle.statement.specs.declared.StatementHead.{StatementHead}
 use Rattle.settle.specs.Settlement.{firstTurn, Figures, figures}
-use Rattle.settle.specs.Statement.{statementHead, lineOf, statementBytes}
-use Rattle.settle.specs.Answer.{dutiesIn, figuresOf, statementOf}
+use Rattle.settle.specs.Statement.{statementHead, lineOf}
+use Rattle.settle.specs.Answer.{dutiesIn, figuresOf, topOf, lineIn}
 use Rattle.settle.specs.Within.{Turn, Within}
 use Rattle.settle.specs.Work.{lined, rowLine, tierOne, tierTwo, Offered, Called, Tradable, Traded, Accountable, Accounted, Leviable, Levied, dividedTo, Divisible}
 use Rattle.settle.specs.declared.market.Accounts.{Accounts}
@@ -198,13 +196,12 @@ module _ (s k : List ℕ) (n : ℕ) (ok : verdictOf s k ≡ Accepted n) (out : L
                     ∙ sheet-same headSize letterL lineWidths out n (stage.lines7 n d within need first turn id out room) (λ i. lineOf (id i) f i)
                     (λ i l. stage.figure-lines n d within need first turn id out room i)
 
-                room-head : headSize ≤ length t6
-                room-head =
-                    omega (arith, room, ap length lines-6, stage.lines-long n out room (λ i. lineOf (id i) f i) (λ i. refl))
+                all-lines : t6 ≡ lined out n (lineIn s k)
+                unfolding lineIn
+                all-lines = lines-6 ∙ (λ j. lined out n (λ i. lineOf (id i) (figures-are j) i))
 
-                all-stated : (t7 : List ℕ)
-                    → t7 ≡ put t6 0
-                    (statementHeadBytes
+                all-told :
+                    _≡_ {A = StatementHead}
                     (record {
                       day = h .day;
                       quarter = h .quarter;
@@ -216,16 +213,11 @@ module _ (s k : List ℕ) (n : ℕ) (ok : verdictOf s k ≡ Accepted n) (out : L
                       uncovered = c2 .left;
                       rows = n;
                       visits = r .visits;
-                    }))
-                    → t7 ≡ put out 0 (statementOf s k)
-                unfolding statementOf statementBytes statementHead
-                all-stated t7 seven =
-                    let top = statementHeadBytes (statementHead (headAt s) n f) in
-                    let lines : ℕ → List ℕ = λ i. lineOf (id i) f i in
-                    seven
-                    ∙ (λ j. put (lines-6 j) 0
-                    (statementHeadBytes
-                    (record {
+                    })
+                    (topOf s k)
+                unfolding topOf statementHead
+                all-told =
+                    (λ j. record {
                       day = is j .day;
                       quarter = is j .quarter;
                       price1 = record { 0 = price-1 j };
@@ -236,10 +228,8 @@ module _ (s k : List ℕ) (n : ℕ) (ok : verdictOf s k ≡ Accepted n) (out : L
                       uncovered = record { 0 = left-2 j };
                       rows = n;
                       visits = visits-5 j;
-                    })))
-                    ∙ ap (λ (m : ℕ). put (sheet m letterL lineWidths out n lines) 0 top) (sym (head-length (statementHead (headAt s) n f)))
-                    ∙ sheet-head top letterL lineWidths out n lines (omega (arith, room, head-length (statementHead (headAt s) n f)))
-                    ∙ (λ j. put out 0 (statementBytes (headAt s) (sym count j) id (figures-are j)))
+                    })
+                    ∙ (λ j. statementHead (headAt s) (sym count j) (figures-are j))
 
     -- ---- the same by the market that both tiers leave
 
@@ -268,13 +258,12 @@ module _ (s k : List ℕ) (n : ℕ) (ok : verdictOf s k ≡ Accepted n) (out : L
               divide-asked t1 (traded .one) (traded .called1) t2 (traded .two) (traded .called2) t3 a accounted t5 r five x short left covered
 
           module _ (t6 : List ℕ) (six : t6 ≡ dividedTo 2 n first left t5) where
-            pub head-room : headSize ≤ length t6
-            head-room =
-                room-head t1 (traded .one) (traded .called1) t2 (traded .two) (traded .called2) t3 a accounted t5 r five x short left covered t6 six
+            pub lines-told : t6 ≡ lined out n (lineIn s k)
+            lines-told =
+                all-lines t1 (traded .one) (traded .called1) t2 (traded .two) (traded .called2) t3 a accounted t5 r five x short left covered t6 six
 
-            pub stated : (t7 : List ℕ)
-                → t7 ≡ put t6 0
-                (statementHeadBytes
+            pub top-told :
+                _≡_ {A = StatementHead}
                 (record {
                   day = h .day;
                   quarter = h .quarter;
@@ -286,8 +275,8 @@ module _ (s k : List ℕ) (n : ℕ) (ok : verdictOf s k ≡ Accepted n) (out : L
                   uncovered = m .uncovered;
                   rows = n;
                   visits = r .visits;
-                }))
-                → t7 ≡ put out 0 (statementOf s k)
-            stated t7 seven =
-                all-stated t1 (traded .one) (traded .called1) t2 (traded .two) (traded .called2) t3 a accounted t5 r five x short left covered t6 six t7
-                (rw (traded .price1, traded .price2, traded .uncovered) at seven)
+                })
+                (topOf s k)
+            top-told =
+                rw (traded .price1, traded .price2, traded .uncovered)
+                (all-told t1 (traded .one) (traded .called1) t2 (traded .two) (traded .called2) t3 a accounted t5 r five x short left covered t6 six)

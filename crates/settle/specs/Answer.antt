@@ -1,19 +1,20 @@
 -- The engine's answer to any two files and any buffer, and the buffer afterwards (01, Numbers of refusal).
-use Prim.Native.Nat.{ℕ}
+use Prim.Native.Nat.{ℕ, _+_}
 use mathlib.Core.Bool.{cond}
 use mathlib.Core.List.{List, [], _∷_, _++_}
 use lib.Dec.{ltb}
 use lib.ListN.{length}
 use Rattle.records.specs.Buffer.{put}
 use Rattle.files.specs.Layout.{headAt, rowCount}
-use Rattle.files.specs.Terms.{termsOf}
+use Rattle.files.specs.Form.{states, termsOf, formOf}
 use Rattle.columns.specs.Checks.{Refusal, refusal, firstRefusal, answerBy}
 use Rattle.files.specs.Order.{fileOrder}
 use Rattle.files.specs.Counting.{countingRow}
 use Rattle.duties.specs.Duties.{Duties, dutiesOf}
-use Rattle.statement.specs.Statement.{lineStart}
+use Rattle.statement.specs.Statement.{lineStart, extraOf}
+use Rattle.statement.specs.declared.StatementHead.{StatementHead}
 use Rattle.settle.specs.Settlement.{Figures, firstTurn, figures}
-use Rattle.settle.specs.Statement.{statementBytes}
+use Rattle.settle.specs.Statement.{statementHead, lineOf, statementBytes}
 use Rattle.settle.specs.declared.Answer.{Answer}
 use Rattle.settle.specs.declared.Answer.the-variants.{Settled, Refused}
 
@@ -25,21 +26,31 @@ dutiesIn s k = dutiesOf (termsOf s) (headAt s .tariff .0) (rowCount s) (counting
 unfoldable pub figuresOf : List ℕ → List ℕ → Figures
 figuresOf s k = figures (headAt s .need .0) (firstTurn (headAt s .quarter) (rowCount s)) (dutiesIn s k)
 
--- its statement
+-- what the head of its statement says beside terms, and the fields of line i
+unfoldable pub topOf : List ℕ → List ℕ → StatementHead
+topOf s k = statementHead (headAt s) (rowCount s) (figuresOf s k)
+
+unfoldable pub lineIn : List ℕ → List ℕ → ℕ → List ℕ
+lineIn s k i = lineOf (countingRow s k i .id) (figuresOf s k) i
+
+-- its statement, and how long that is
 unfoldable pub statementOf : List ℕ → List ℕ → List ℕ
-statementOf s k = statementBytes (headAt s) (rowCount s) (λ i. countingRow s k i .id) (figuresOf s k)
+statementOf s k = statementBytes (formOf s) (topOf s k) (rowCount s) (lineIn s k)
+
+abbrev pub sizeOf : List ℕ → ℕ
+sizeOf s = extraOf (states s) + lineStart (rowCount s)
 
 -- 11: a buffer shorter than the statement
 abbrev pub roomOrder : List ℕ → ℕ → List Refusal
-roomOrder s room = refusal (ltb room (lineStart (rowCount s))) 11 0 ∷ []
+roomOrder s room = refusal (ltb room (sizeOf s)) 11 0 ∷ []
 
--- 1 to 10 of the files in their order, then 11
+-- 1 to 10 and 14 of the files in their order, then 11
 unfoldable pub settleOrder : List ℕ → List ℕ → ℕ → List Refusal
 settleOrder s k room = fileOrder s k ++ roomOrder s room
 
 -- the first of them that applies decides: settled with the count of bytes written, or the refusal's number and place
 unfoldable pub answerOf : List ℕ → List ℕ → ℕ → Answer
-answerOf s k room = answerBy Refused (Settled (lineStart (rowCount s))) (firstRefusal (settleOrder s k room))
+answerOf s k room = answerBy Refused (Settled (sizeOf s)) (firstRefusal (settleOrder s k room))
 
 -- the buffer afterwards: the statement at its front, every byte past it as before; a refusal changes nothing
 unfoldable pub bufferAfter : List ℕ → List ℕ → List ℕ → List ℕ

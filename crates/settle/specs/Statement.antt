@@ -1,10 +1,11 @@
--- The statement that the figures make (01, The files; 02, requests 4 and 8).
+-- The statement that the figures make (01, The files; 02, requests 4, 6 and 8).
 use Prim.Native.Nat.{ℕ}
 use mathlib.Core.List.{List, [], _∷_, _++_}
 use Rattle.columns.specs.Table.{at, table}
 use Rattle.records.specs.Record.{recordsBytes}
+use Rattle.files.specs.declared.Form.{Form}
 use Rattle.files.specs.declared.Head.{Head}
-use Rattle.statement.specs.Statement.{letterL, lineWidths, statementHeadBytes}
+use Rattle.statement.specs.Statement.{letterL, lineWidths, topBytes}
 use Rattle.statement.specs.declared.StatementHead.{StatementHead}
 use Rattle.settle.specs.Settlement.{Figures}
 
@@ -30,7 +31,6 @@ lineOf id f i =
     id ∷ at (f .called1) i ∷ at (f .called2) i ∷ at (f .compensations) i ∷ at (f .cuts) i ∷ at (f .weights) i ∷ at (f .caps) i
     ∷ at (f .paid) i ∷ at (f .closing) i ∷ at (f .penalties) i ∷ at (f .returned) i ∷ []
 
--- its bytes: the head, then a line for each of n rows
-unfoldable pub statementBytes : Head → ℕ → (ℕ → ℕ) → Figures → List ℕ
-statementBytes h n id f =
-    statementHeadBytes (statementHead h n f) ++ recordsBytes letterL lineWidths (table n (λ i. lineOf (id i) f i))
+-- its bytes: the head that the file's form asks for, then a line for each of n rows
+unfoldable pub statementBytes : Form → StatementHead → ℕ → (ℕ → List ℕ) → List ℕ
+statementBytes form top n line = topBytes form top ++ recordsBytes letterL lineWidths (table n line)

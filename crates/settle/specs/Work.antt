@@ -1,6 +1,6 @@
 -- The stages of a settlement over the sheet: what each asks of it, and what it leaves in it. Lines hold duties until the figures
 -- that belong there replace them. No promise of the engine speaks of this page.
-use Prim.Native.Nat.{ℕ, zero, suc, _-_, _≤_, _<_}
+use Prim.Native.Nat.{ℕ, zero, suc, _+_, _-_, _≤_, _<_}
 use mathlib.Core.Path.{_≡_}
 use mathlib.Core.Bool.{cond}
 use mathlib.Core.List.{List, [], _∷_}
@@ -10,7 +10,7 @@ use Rattle.columns.specs.Sum.{whole}
 use Rattle.columns.specs.Table.{at, table}
 use Rattle.records.specs.Sheet.{Lined, cell, columnOf, withColumn, fieldOf, sheet}
 use Rattle.records.specs.declared.Field.{Field}
-use Rattle.files.specs.Terms.{termsOf}
+use Rattle.files.specs.Form.{termsOf, rowsFrom}
 use Rattle.files.specs.Counting.{countingRow}
 use Rattle.duties.specs.Duty.{dutyOf}
 use Rattle.duties.specs.declared.Duty.{Duty}
@@ -30,10 +30,20 @@ use Rattle.settle.specs.declared.market.Cleared.{Cleared}
 use Rattle.settle.specs.declared.market.Market.{Market}
 use Rattle.settle.specs.declared.market.TierFields.{TierFields}
 use Rattle.settle.specs.declared.payers.Sharing.{Sharing}
+use Rattle.settle.specs.declared.rows.Job.{Job}
 
 -- n lines in a buffer
 abbrev pub lined : List ℕ → ℕ → (ℕ → List ℕ) → List ℕ
 lined out n f = sheet headSize letterL lineWidths out n f
+
+-- n lines in a buffer, so many bytes later
+abbrev pub linedBehind : ℕ → List ℕ → ℕ → (ℕ → List ℕ) → List ℕ
+linedBehind extra out n f = sheet (extra + headSize) letterL lineWidths out n f
+
+-- what all rows of a file are read by is the file's: where its rows begin, and its terms
+pub record Reads (j : Job) (s : List ℕ) : Type 0 where
+  pub start : j .start ≡ rowsFrom s
+  pub terms : j .terms ≡ termsOf s
 
 -- a row's line before the market: its id, then its duties in the places of called 1, called 2, compensation, cut, weight, cap, paid,
 -- closing round, penalty and what is returned

@@ -5,16 +5,24 @@ mod payers;
 mod rows;
 mod stages;
 
+use files::Form;
 use files::Verdict;
-use stages::write_statement;
+use files::form_of;
+use stages::write_lines;
 use statement::HEAD;
 use statement::LINE;
+use statement::StatementHead;
+use statement::extra_of;
+use statement::put_head;
 ghost use mathlib.Core.Path.{_≡_};
-ghost use Prim.Native.Nat.{_≤_};
+ghost use Prim.Native.Nat.{_+_, _≤_};
 ghost use lib.ListN.{length};
+ghost use Rattle.records.specs.Buffer.{put};
+ghost use Rattle.files.specs.Form.{formOf};
 ghost use Rattle.files.specs.Order.{verdictOf};
-ghost use Rattle.statement.specs.Statement.{lineStart};
-ghost use Rattle.settle.specs.Answer.{answerOf, bufferAfter};
+ghost use Rattle.statement.specs.Statement.{lineStart, extraOf};
+ghost use Rattle.settle.specs.Answer.{topOf, lineIn, statementOf, answerOf, bufferAfter};
+ghost use Rattle.settle.specs.Work.{linedBehind};
 
 // The engine's answer: settled, with the count of bytes written, or a refusal that carries its number and its place.
 pub enum Answer {
@@ -45,18 +53,52 @@ fn settle_rows<'a>(
     ensures { λ r. ⌜ r ≡ answerOf (now (interval .entry)) (now (correction .entry)) (length (now (statement .entry))) ⌝ }
     ensures { λ r. ⌜ now (statement .exit) ≡ bufferAfter (now (interval .entry)) (now (correction .entry)) (now (statement .entry)) ⌝ }
 {
-    let size = size_of(n);
+    let form = form_of(interval);
+    let size = size_of(form.stated, n);
     if statement.len() < size {
         return Answer::Refused(11, 0);
     }
-    write_statement(interval, correction, n, statement);
+    write_statement(interval, correction, form, n, statement);
     Answer::Settled(size)
 }
 
-// How long a statement of n rows is.
-fn size_of(n: usize) -> usize
+// How long a statement of n rows is, by whether it has terms.
+fn size_of(stated: bool, n: usize) -> usize
     requires { ⌜ n ≤ 256 ⌝ }
-    ensures { λ r. ⌜ r ≡ lineStart n ⌝ }
+    ensures { λ r. ⌜ r ≡ extraOf stated + lineStart n ⌝ }
 {
-    HEAD + n * LINE
+    extra_of(stated) + HEAD + n * LINE
+}
+
+// The statement of an accepted pair of n rows, into a buffer with room for it: lines first, then the head that its form asks for.
+fn write_statement<'a>(
+    interval: &'a [u8],
+    correction: &'a [u8],
+    form: Form,
+    n: usize,
+    statement: &mut [u8],
+)
+    requires { ⌜ (verdictOf (now interval) (now correction) ≡ Verdict.Accepted n) × (form ≡ formOf (now interval)) ⌝ }
+    requires { ⌜ extraOf (form .stated) + lineStart n ≤ length (now statement) ⌝ }
+    ensures { λ _. ⌜ now (statement .exit) ≡ put (now (statement .entry)) 0 (statementOf (now (interval .entry)) (now (correction .entry))) ⌝ }
+{
+    let top = write_behind(interval, correction, form, n, statement);
+    put_head(statement, form, top);
+}
+
+// The lines of a statement, behind the place of its terms if it has them.
+fn write_behind<'a>(
+    interval: &'a [u8],
+    correction: &'a [u8],
+    form: Form,
+    n: usize,
+    statement: &mut [u8],
+) -> StatementHead
+    requires { ⌜ (verdictOf (now interval) (now correction) ≡ Verdict.Accepted n) × (form ≡ formOf (now interval)) ⌝ }
+    requires { ⌜ extraOf (form .stated) + lineStart n ≤ length (now statement) ⌝ }
+    ensures { λ r. ⌜ r ≡ topOf (now (interval .entry)) (now (correction .entry)) ⌝ }
+    ensures { λ _. ⌜ now (statement .exit) ≡ linedBehind (extraOf (form .stated)) (now (statement .entry)) n (lineIn (now (interval .entry)) (now (correction .entry))) ⌝ }
+{
+    let extra = extra_of(form.stated);
+    write_lines(interval, correction, form, n, &mut statement[extra..])
 }

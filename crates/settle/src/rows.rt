@@ -2,9 +2,11 @@
 // places of the figures that will stand there. A row is decoded here, and nowhere after.
 use duties::Duty;
 use duties::duty_of;
+use files::Form;
+use files::Terms;
 use files::Verdict;
 use files::counting_row;
-use files::terms_of;
+use files::start_of;
 use records::put_record;
 use statement::HEAD;
 use statement::LINE;
@@ -17,10 +19,18 @@ ghost use lib.ListN.{length};
 ghost use Rattle.records.specs.Buffer.{put};
 ghost use Rattle.records.specs.Record.{recordBytes};
 ghost use Rattle.files.specs.Layout.{headAt};
+ghost use Rattle.files.specs.Form.{formOf};
 ghost use Rattle.files.specs.Order.{verdictOf};
 ghost use Rattle.files.specs.Counting.{sourceOf};
 ghost use Rattle.statement.specs.Statement.{letterL, lineWidths, lineStart};
-ghost use Rattle.settle.specs.Work.{lined, dutyLine, rowLine};
+ghost use Rattle.settle.specs.Work.{lined, dutyLine, rowLine, Reads};
+
+// What all rows of a file are read by: where they begin, the terms and the tariff.
+pub struct Job {
+    pub start: usize,
+    pub terms: Terms,
+    pub tariff: Hao,
+}
 
 // Puts one row's line: its id and its duties.
 fn put_duty(sheet: &mut [u8], i: usize, id: u16, d: Duty)
@@ -50,16 +60,19 @@ fn read_row<'a>(
     n: usize,
     i: usize,
     source: u16,
-    tariff: Hao,
+    job: Job,
     sheet: &mut [u8],
 )
     requires { ⌜ (verdictOf (now interval) (now correction) ≡ Verdict.Accepted n) × (i < n) × (source ≡ sourceOf (now interval) (now correction) i) ⌝ }
-    requires { ⌜ lineStart (i + 1) ≤ length (now sheet) ⌝ }
+    requires { ⌜ Reads job (now interval) × (lineStart (i + 1) ≤ length (now sheet)) ⌝ }
     ensures { λ _. ⌜ now (sheet .exit) ≡ put (now (sheet .entry)) (lineStart i)
-        (recordBytes letterL lineWidths (rowLine (tariff .0) (now (interval .entry)) (now (correction .entry)) i)) ⌝ }
+        (recordBytes letterL lineWidths (rowLine (job .tariff .0) (now (interval .entry)) (now (correction .entry)) i)) ⌝ }
 {
-    let row = counting_row(interval, correction, n, i, source);
-    let d = duty_of(terms_of(interval), tariff, row);
+    let start = job.start;
+    let row = counting_row(interval, correction, start, n, i, source);
+    let terms = job.terms;
+    let tariff = job.tariff;
+    let d = duty_of(terms, tariff, row);
     put_duty(sheet, i, row.id, d);
 }
 
@@ -70,28 +83,31 @@ fn read_own_row<'a>(
     correction: &'a [u8],
     n: usize,
     i: usize,
-    tariff: Hao,
+    job: Job,
     sheet: &mut [u8],
 )
     requires { ⌜ (verdictOf (now interval) (now correction) ≡ Verdict.Accepted n) × (i < n) × (length (now correction) ≡ 0) ⌝ }
-    requires { ⌜ lineStart (i + 1) ≤ length (now sheet) ⌝ }
+    requires { ⌜ Reads job (now interval) × (lineStart (i + 1) ≤ length (now sheet)) ⌝ }
     ensures { λ _. ⌜ now (sheet .exit) ≡ put (now (sheet .entry)) (lineStart i)
-        (recordBytes letterL lineWidths (rowLine (tariff .0) (now (interval .entry)) (now (correction .entry)) i)) ⌝ }
+        (recordBytes letterL lineWidths (rowLine (job .tariff .0) (now (interval .entry)) (now (correction .entry)) i)) ⌝ }
 {
-    let row = counting_row(interval, correction, n, i, 0);
-    let d = duty_of(terms_of(interval), tariff, row);
+    let start = job.start;
+    let row = counting_row(interval, correction, start, n, i, 0);
+    let terms = job.terms;
+    let tariff = job.tariff;
+    let d = duty_of(terms, tariff, row);
     put_duty(sheet, i, row.id, d);
 }
 
 // The duties of all rows of an interval without correction.
-fn read_own<'a>(interval: &'a [u8], correction: &'a [u8], n: usize, tariff: Hao, sheet: &mut [u8])
+fn read_own<'a>(interval: &'a [u8], correction: &'a [u8], n: usize, job: Job, sheet: &mut [u8])
     requires { ⌜ (verdictOf (now interval) (now correction) ≡ Verdict.Accepted n) × (length (now correction) ≡ 0) ⌝ }
-    requires { ⌜ lineStart n ≤ length (now sheet) ⌝ }
-    ensures { λ _. ⌜ now (sheet .exit) ≡ lined (now (sheet .entry)) n (rowLine (tariff .0) (now (interval .entry)) (now (correction .entry))) ⌝ }
+    requires { ⌜ Reads job (now interval) × (lineStart n ≤ length (now sheet)) ⌝ }
+    ensures { λ _. ⌜ now (sheet .exit) ≡ lined (now (sheet .entry)) n (rowLine (job .tariff .0) (now (interval .entry)) (now (correction .entry))) ⌝ }
 {
     let mut i = 0;
     while i < n {
-        read_own_row(interval, correction, n, i, tariff, sheet);
+        read_own_row(interval, correction, n, i, job, sheet);
         i += 1;
     }
 }
@@ -101,34 +117,41 @@ fn read_corrected<'a>(
     interval: &'a [u8],
     correction: &'a [u8],
     n: usize,
-    tariff: Hao,
+    job: Job,
     sheet: &mut [u8],
 )
     requires { ⌜ verdictOf (now interval) (now correction) ≡ Verdict.Accepted n ⌝ }
-    requires { ⌜ lineStart n ≤ length (now sheet) ⌝ }
-    ensures { λ _. ⌜ now (sheet .exit) ≡ lined (now (sheet .entry)) n (rowLine (tariff .0) (now (interval .entry)) (now (correction .entry))) ⌝ }
+    requires { ⌜ Reads job (now interval) × (lineStart n ≤ length (now sheet)) ⌝ }
+    ensures { λ _. ⌜ now (sheet .exit) ≡ lined (now (sheet .entry)) n (rowLine (job .tariff .0) (now (interval .entry)) (now (correction .entry))) ⌝ }
 {
     let mut sources = [0u16; 256];
     files::sources(interval, correction, n, &mut sources);
     let mut i = 0;
     while i < n {
-        read_row(interval, correction, n, i, sources[i], tariff, sheet);
+        read_row(interval, correction, n, i, sources[i], job, sheet);
         i += 1;
     }
 }
 
 // The duties of all rows of an accepted pair.
-pub fn read<'a>(interval: &'a [u8], correction: &'a [u8], n: usize, sheet: &mut [u8])
-    requires { ⌜ verdictOf (now interval) (now correction) ≡ Verdict.Accepted n ⌝ }
+pub fn read<'a>(interval: &'a [u8], correction: &'a [u8], form: Form, n: usize, sheet: &mut [u8])
+    requires { ⌜ (verdictOf (now interval) (now correction) ≡ Verdict.Accepted n) × (form ≡ formOf (now interval)) ⌝ }
     requires { ⌜ lineStart n ≤ length (now sheet) ⌝ }
     ensures { λ _. ⌜ now (sheet .exit) ≡ lined (now (sheet .entry)) n
         (rowLine (headAt (now (interval .entry)) .tariff .0) (now (interval .entry)) (now (correction .entry))) ⌝ }
 {
     let head = files::head_at(interval);
     let tariff = head.tariff;
+    let terms = form.terms;
+    let start = start_of(form.stated);
+    let job = Job {
+        start,
+        terms,
+        tariff,
+    };
     if correction.len() == 0 {
-        read_own(interval, correction, n, tariff, sheet);
+        read_own(interval, correction, n, job, sheet);
         return;
     }
-    read_corrected(interval, correction, n, tariff, sheet);
+    read_corrected(interval, correction, n, job, sheet);
 }

@@ -1,47 +1,134 @@
 -- Statements in bytes: lengths, and what is read back of what was written.
---   head-length       a head is as long as its table says
---   head-read         a head whose fields fit their widths, written and read again, is the same head
---   statement-length  a head and n lines are as long as their tables say
+--   top-length        a head is as long as its form says
+--   top-terms         a statement has terms exactly if the form states them
+--   top-read          a head whose fields fit their widths, written and read again, is the same head
+--   terms-read        and so are terms that fit theirs
+--   statement-length  a head and n lines are as long as form and count say
 --   statement-read    line i of a whole statement, read again, if its fields fit their widths
-use mathlib.Core.Path.{_≡_, refl, ap}
-use mathlib.Core.List.{List, [], _++_, append-assoc}
-use Prim.Native.Nat.{ℕ, _<_}
+use mathlib.Core.Path.{_≡_, refl, sym, ap, _∙_}
+use mathlib.Core.Bool.{Bool, true, false, cond}
+use mathlib.Core.List.{List, [], _∷_, _++_, append-assoc}
+use Prim.Native.Nat.{ℕ, _+_, _*_, _<_, _^_}
+use native.Mathlib.Nat.{add-assoc}
+use lib.Dec.{eqb}
 use native.Mathlib.Omega.{arith}
 use lib.ListN.{length, length-append}
 use Rattle.columns.specs.Table.{table}
-use Rattle.records.specs.Record.{recordAt, recordsBytes, Fits}
-use Rattle.records.proofs.Record.{record-length, record-read}
+use Rattle.records.specs.Number.{numberAt, numberBytes}
+use Rattle.records.specs.Fields.{fieldsBytes}
+use Rattle.records.specs.Record.{recordAt, recordBytes, recordsBytes, fieldsAt, Fits}
+use Rattle.records.proofs.Number.{number-length, number-read}
+use Rattle.records.proofs.Record.{fields-length, fields-read, record-length, record-read, record-drop}
 use Rattle.records.proofs.Sheet.{lines-length, lines-read}
-use Rattle.statement.specs.Statement.{letterS, letterL, headWidths, lineWidths, headSize, lineStart, headFields, headOf, statementHeadAt, statementHeadBytes}
+use Rattle.files.specs.Terms.{terms01}
+use Rattle.files.specs.Form.{termsWidths, termsSize, termsFields, termsFrom, termsBytes, ruling, statedBytes}
+use Rattle.files.specs.declared.Form.{Form}
+use Rattle.statement.specs.Statement.{frontWidths, frontSize, visitsWidth, letterL, letterT, lineWidths, headSize, lineSize, lineStart, extraOf}
+use Rattle.statement.specs.Statement.{frontFields, headFrom, headLetter, topBytes, hasTerms, headIn, termsIn, bodyIn}
 use Rattle.statement.specs.declared.StatementHead.{StatementHead}
 
 -- every field fits the width that it has in a statement
-abbrev pub HeadFits : StatementHead → Type 0
-HeadFits h = Fits headWidths (headFields h)
+pub record HeadFits (h : StatementHead) : Type 0 where
+  pub front : Fits frontWidths (frontFields h)
+  pub visits : h .visits < 256 ^ visitsWidth
 
 abbrev pub LineFits : List ℕ → Type 0
 LineFits xs = Fits lineWidths xs
 
-pub head-length : (h : StatementHead) → length (statementHeadBytes h) ≡ headSize
-unfolding statementHeadBytes
-head-length h = record-length letterS headWidths (headFields h) refl
+-- ---- the three parts of a head
 
-pub head-read : (h : StatementHead) (b : List ℕ) → HeadFits h → statementHeadAt (statementHeadBytes h ++ b) ≡ h
-unfolding statementHeadAt statementHeadBytes
-head-read h b f = ap headOf (record-read letterS headWidths (headFields h) [] b refl f)
+pub front-length : (b : Bool) (h : StatementHead) → length (recordBytes (headLetter b) frontWidths (frontFields h)) ≡ frontSize
+front-length b h = record-length (headLetter b) frontWidths (frontFields h) refl
 
-module _ (h : StatementHead) (n : ℕ) (f : ℕ → List ℕ) (full : (i : ℕ) → length (f i) ≡ 11) where
-  pub statement-length : length (statementHeadBytes h ++ recordsBytes letterL lineWidths (table n f)) ≡ lineStart n
-  statement-length =
+pub stated-length : (f : Form) → length (statedBytes f) ≡ extraOf (f .stated)
+unfolding termsBytes
+stated-length f = go (f .stated) where
+  go : (b : Bool) → length (cond b (termsBytes (f .terms)) []) ≡ extraOf b
+  go true = fields-length termsWidths (termsFields (f .terms)) refl
+  go false = refl
+
+module _ (f : Form) (h : StatementHead) where
+  abbrev front : List ℕ
+  front = recordBytes (headLetter (f .stated)) frontWidths (frontFields h)
+
+  abbrev visits : List ℕ
+  visits = numberBytes visitsWidth (h .visits)
+
+  pub top-length : length (topBytes f h) ≡ extraOf (f .stated) + headSize
+  unfolding topBytes
+  top-length =
       omega (
         arith,
-        length-append (statementHeadBytes h) (recordsBytes letterL lineWidths (table n f)),
-        head-length h,
-        lines-length letterL lineWidths n f full,
+        length-append front (statedBytes f ++ visits),
+        length-append (statedBytes f) visits,
+        front-length (f .stated) h,
+        stated-length f,
+        number-length visitsWidth (h .visits),
       )
 
-  pub statement-read : (b : List ℕ) (i : ℕ) → i < n → LineFits (f i)
-      → recordAt lineWidths ((statementHeadBytes h ++ recordsBytes letterL lineWidths (table n f)) ++ b) (lineStart i) ≡ f i
+  pub top-terms : (b : List ℕ) → hasTerms (topBytes f h ++ b) ≡ f .stated
+  unfolding hasTerms topBytes recordBytes
+  top-terms b = go (f .stated) where
+    go : (t : Bool) → eqb (headLetter t) letterT ≡ t
+    go true = refl
+    go false = refl
+
+  -- the head's bytes part by part, with what follows
+  front-first : (b : List ℕ) → topBytes f h ++ b ≡ front ++ ((statedBytes f ++ visits) ++ b)
+  unfolding topBytes
+  front-first b = append-assoc front (statedBytes f ++ visits) b
+
+  terms-next : (b : List ℕ) → topBytes f h ++ b ≡ front ++ (statedBytes f ++ (visits ++ b))
+  terms-next b = front-first b ∙ ap (λ (x : List ℕ). front ++ x) (append-assoc (statedBytes f) visits b)
+
+  visits-last : (b : List ℕ) → topBytes f h ++ b ≡ (front ++ statedBytes f) ++ (visits ++ b)
+  visits-last b = terms-next b ∙ sym (append-assoc front (statedBytes f) (visits ++ b))
+
+  pub top-read : (b : List ℕ) → HeadFits h → headIn (topBytes f h ++ b) ≡ h
+  unfolding headIn
+  top-read b fits =
+      let place : frontSize + extraOf (f .stated) ≡ length (front ++ statedBytes f) =
+      omega (arith, length-append front (statedBytes f), front-length (f .stated) h, stated-length f) in
+      let first : recordAt frontWidths (topBytes f h ++ b) 0 ≡ frontFields h =
+      rw (front-first b) (record-read (headLetter (f .stated)) frontWidths (frontFields h) [] ((statedBytes f ++ visits) ++ b) refl (fits .front)) in
+      let last : numberAt visitsWidth (topBytes f h ++ b) (frontSize + extraOf (f .stated)) ≡ h .visits =
+      rw (place, visits-last b) (number-read visitsWidth (h .visits) (front ++ statedBytes f) b (fits .visits)) in
+      rw (top-terms b, first, last)
+
+  stated-is : f .stated ≡ true → statedBytes f ≡ fieldsBytes termsWidths (termsFields (f .terms))
+  unfolding termsBytes
+  stated-is e = rw e
+
+  pub terms-read : (b : List ℕ) → Fits termsWidths (termsFields (f .terms)) → termsIn (topBytes f h ++ b) ≡ ruling f
+  unfolding termsIn
+  terms-read b fits = rw (top-terms b) (go (f .stated) refl) where
+    go : (t : Bool) → f .stated ≡ t → cond t (termsFrom (fieldsAt termsWidths (topBytes f h ++ b) frontSize)) terms01 ≡ cond t (f .terms) terms01
+    go true e =
+        let there : fieldsAt termsWidths (topBytes f h ++ b) frontSize ≡ termsFields (f .terms) =
+        rw (terms-next b, stated-is e, ← front-length (f .stated) h)
+        (fields-read termsWidths (termsFields (f .terms)) front (visits ++ b) refl fits) in
+        ap termsFrom there
+    go false e = refl
+
+-- ---- head and lines
+
+module _ (f : Form) (h : StatementHead) (n : ℕ) (line : ℕ → List ℕ) (full : (i : ℕ) → length (line i) ≡ 11) where
+  abbrev lines : List ℕ
+  lines = recordsBytes letterL lineWidths (table n line)
+
+  pub statement-length : length (topBytes f h ++ lines) ≡ extraOf (f .stated) + lineStart n
+  statement-length =
+      omega (arith, length-append (topBytes f h) lines, top-length f h, lines-length letterL lineWidths n line full)
+
+  pub statement-read : (b : List ℕ) (i : ℕ) → i < n → LineFits (line i)
+      → recordAt lineWidths (bodyIn ((topBytes f h ++ lines) ++ b)) (lineStart i) ≡ line i
+  unfolding bodyIn
   statement-read b i l fits =
-      rw (append-assoc (statementHeadBytes h) (recordsBytes letterL lineWidths (table n f)) b)
-      (lines-read letterL lineWidths n f full (statementHeadBytes h) b headSize i (head-length h) l fits)
+      let whole = append-assoc (topBytes f h) lines b in
+      rw (
+        whole,
+        top-terms f h (lines ++ b),
+        record-drop lineWidths (topBytes f h ++ (lines ++ b)) (extraOf (f .stated)) (lineStart i),
+        ← add-assoc (extraOf (f .stated)) headSize (i * lineSize),
+      )
+      (lines-read letterL lineWidths n line full (topBytes f h) b (extraOf (f .stated) + headSize) i (top-length f h) l fits)

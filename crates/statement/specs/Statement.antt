@@ -1,43 +1,66 @@
--- Statements in bytes (01, The files; 02, requests 4 and 8): a head, then a line for each row, each a record by its table of widths.
+-- Statements in bytes (01, The files; 02, requests 4, 6 and 8): a head, then a line for each row. A head PS is that of a file that states no
+-- terms; a head PT has the terms in front of the visits, and lines stand so many bytes later. A statement is read by its mark.
 use Prim.Native.Nat.{ℕ, _+_, _*_}
-use mathlib.Core.List.{List, [], _∷_}
+use mathlib.Core.Bool.{Bool, cond}
+use mathlib.Core.List.{List, [], _∷_, _++_}
+use lib.ListN.{drop}
 use Rattle.columns.specs.Table.{at}
-use Rattle.records.specs.Record.{recordSize, recordAt, recordBytes}
+use Rattle.records.specs.Number.{numberAt, numberBytes}
+use Rattle.records.specs.Record.{marked, recordSize, fieldsAt, recordAt, recordBytes}
+use Rattle.files.specs.Terms.{terms01}
+use Rattle.files.specs.Form.{termsWidths, termsSize, termsFrom, statedBytes}
+use Rattle.files.specs.declared.Form.{Form}
+use Rattle.files.specs.declared.Terms.{Terms}
 use Rattle.statement.specs.declared.StatementHead.{StatementHead}
 
--- the letters of their marks
+-- the letters of the marks PS, PT and PL
 abbrev pub letterS : ℕ
 letterS = 83
+
+abbrev pub letterT : ℕ
+letterT = 84
 
 abbrev pub letterL : ℕ
 letterL = 76
 
--- day, quarter, price of tier 1, of tier 2, total, shortfall, rounds, uncovered, rows, visits
-abbrev pub headWidths : List ℕ
-headWidths = 4 ∷ 1 ∷ 2 ∷ 2 ∷ 8 ∷ 8 ∷ 2 ∷ 4 ∷ 2 ∷ 4 ∷ []
+-- what stands in front of a head's terms: day, quarter, price of tier 1, of tier 2, total, shortfall, rounds, uncovered, rows
+abbrev pub frontWidths : List ℕ
+frontWidths = 4 ∷ 1 ∷ 2 ∷ 2 ∷ 8 ∷ 8 ∷ 2 ∷ 4 ∷ 2 ∷ []
+
+abbrev pub frontSize : ℕ
+frontSize = recordSize frontWidths
+
+-- and behind them: visits
+abbrev pub visitsWidth : ℕ
+visitsWidth = 4
 
 -- id, called in tier 1, in tier 2, compensation, cut, weight, cap, paid, closing round, penalty, returned
 abbrev pub lineWidths : List ℕ
 lineWidths = 2 ∷ 4 ∷ 4 ∷ 4 ∷ 4 ∷ 4 ∷ 4 ∷ 4 ∷ 2 ∷ 4 ∷ 4 ∷ []
 
+-- how many bytes a head PS takes, and a line
 abbrev pub headSize : ℕ
-headSize = recordSize headWidths
+headSize = frontSize + visitsWidth
 
 abbrev pub lineSize : ℕ
 lineSize = recordSize lineWidths
 
--- where line i begins, and how long a statement of so many lines is
+-- where line i begins behind a head PS, and how long such a statement of so many lines is
 abbrev pub lineStart : ℕ → ℕ
 lineStart i = headSize + i * lineSize
 
--- a head as its fields, and back
-abbrev pub headFields : StatementHead → List ℕ
-headFields h =
-    h .day ∷ h .quarter ∷ h .price1 .0 ∷ h .price2 .0 ∷ h .total .0 ∷ h .shortfall .0 ∷ h .rounds ∷ h .uncovered .0 ∷ h .rows
-    ∷ h .visits ∷ []
+-- how many bytes later lines stand in a statement with terms
+abbrev pub extraOf : Bool → ℕ
+extraOf b = cond b termsSize 0
 
-abbrev pub headOf : List ℕ → StatementHead
-headOf xs =
+-- the front of a head as its fields
+abbrev pub frontFields : StatementHead → List ℕ
+frontFields h =
+    h .day ∷ h .quarter ∷ h .price1 .0 ∷ h .price2 .0 ∷ h .total .0 ∷ h .shortfall .0 ∷ h .rounds ∷ h .uncovered .0 ∷ h .rows ∷ []
+
+-- and the head of these and of its visits
+abbrev pub headFrom : List ℕ → ℕ → StatementHead
+headFrom xs visits =
     record {
       day = at xs 0;
       quarter = at xs 1;
@@ -48,11 +71,30 @@ headOf xs =
       rounds = at xs 6;
       uncovered = record { 0 = at xs 7 };
       rows = at xs 8;
-      visits = at xs 9;
+      visits = visits;
     }
 
-unfoldable pub statementHeadBytes : StatementHead → List ℕ
-statementHeadBytes h = recordBytes letterS headWidths (headFields h)
+-- a head in bytes, by the form of the file that is settled
+abbrev pub headLetter : Bool → ℕ
+headLetter b = cond b letterT letterS
 
-unfoldable pub statementHeadAt : List ℕ → StatementHead
-statementHeadAt s = headOf (recordAt headWidths s 0)
+unfoldable pub topBytes : Form → StatementHead → List ℕ
+topBytes f h =
+    recordBytes (headLetter (f .stated)) frontWidths (frontFields h) ++ (statedBytes f ++ numberBytes visitsWidth (h .visits))
+
+-- a statement has terms, by its mark; so many bytes later its lines stand
+unfoldable pub hasTerms : List ℕ → Bool
+hasTerms b = marked b 0 letterT
+
+abbrev pub extraIn : List ℕ → ℕ
+extraIn b = extraOf (hasTerms b)
+
+-- the head of a statement, the terms that ruled, and its bytes from where lines stand as behind a head PS
+unfoldable pub headIn : List ℕ → StatementHead
+headIn b = headFrom (recordAt frontWidths b 0) (numberAt visitsWidth b (frontSize + extraIn b))
+
+unfoldable pub termsIn : List ℕ → Terms
+termsIn b = cond (hasTerms b) (termsFrom (fieldsAt termsWidths b frontSize)) terms01
+
+unfoldable pub bodyIn : List ℕ → List ℕ
+bodyIn b = drop (extraIn b) b

@@ -1,18 +1,28 @@
-// Statements in bytes (01, The files; 02, requests 4 and 8): a head and a line for each row, each a record by its table of widths. A line is its list of fields,
-// and a field of all lines is a column.
+// Statements in bytes (01, The files; 02, requests 4, 6 and 8): a head and a line for each row, each a record by its table of widths. A head
+// PS is that of a file that states no terms, a head PT has them too; lines are the same. A line is its list of fields, and a field of all
+// lines is a column.
+use files::Form;
+use files::TERMS;
+use files::TERMS_WIDTHS;
+use files::terms_fields;
 use records::Field;
 use records::get_record;
+use records::marked;
+use records::number_at;
+use records::put_fields;
+use records::put_number;
 use records::put_record;
 use units::Fen;
 use units::Kwh;
 use units::Li;
 ghost use mathlib.Core.Path.{_≡_};
-ghost use Prim.Native.Nat.{_≤_};
+ghost use Prim.Native.Nat.{_+_, _≤_};
 ghost use lib.ListN.{length};
 ghost use Rattle.records.specs.Buffer.{put};
-ghost use Rattle.statement.specs.Statement.{headSize, statementHeadAt, statementHeadBytes};
+ghost use Rattle.files.specs.Form.{statedBytes};
+ghost use Rattle.statement.specs.Statement.{frontSize, headSize, frontFields, headLetter, extraOf, extraIn, headIn, topBytes};
 
-// A statement's head, without its mark.
+// A statement's head, without its mark and without terms.
 pub struct StatementHead {
     pub day: u32,
     pub quarter: u8,
@@ -26,10 +36,17 @@ pub struct StatementHead {
     pub visits: u32,
 }
 
-// The widths of a head's fields and of a line's, and how many bytes each takes with its mark.
+// The widths of the fields that stand in front of a head's terms, of those of a whole head PS, of a whole head PT, and of a line.
+pub const FRONT_WIDTHS: [u8; 9] = [4, 1, 2, 2, 8, 8, 2, 4, 2];
+
 pub const HEAD_WIDTHS: [u8; 10] = [4, 1, 2, 2, 8, 8, 2, 4, 2, 4];
 
+pub const STATED_WIDTHS: [u8; 15] = [4, 1, 2, 2, 8, 8, 2, 4, 2, 1, 2, 2, 2, 2, 4];
+
 pub const LINE_WIDTHS: [u8; 11] = [2, 4, 4, 4, 4, 4, 4, 4, 2, 4, 4];
+
+// How many bytes the front of a head takes with its mark, a head PS, and a line.
+pub const FRONT: usize = 35;
 
 pub const HEAD: usize = 39;
 
@@ -38,7 +55,7 @@ pub const LINE: usize = 42;
 // The letter of a line's mark.
 pub const LINE_LETTER: u8 = b'L';
 
-// The columns of a statement's lines.
+// The columns of the lines behind a head PS. Behind a head PT lines stand so many bytes later as its terms take.
 pub const ID: Field = Field {
     start: HEAD,
     stride: LINE,
@@ -132,13 +149,35 @@ pub const OWED: Field = Field {
     width: 8,
 };
 
-// The head at the front of a statement.
-pub fn statement_head_at(s: &[u8]) -> StatementHead
-    requires { ⌜ headSize ≤ length (now s) ⌝ }
-    ensures { λ r. ⌜ r ≡ statementHeadAt (now (s .entry)) ⌝ }
+// How many bytes later lines stand in a statement with terms.
+pub fn extra_of(stated: bool) -> usize
+    ensures { λ r. ⌜ (r ≡ extraOf stated) × (r ≤ 9) ⌝ }
 {
-    let mut x = [0u64; 10];
-    get_record(s, 0, &HEAD_WIDTHS, &mut x);
+    if stated {
+        return TERMS;
+    }
+    0
+}
+
+// The letter of a head's mark: PT with terms, PS without.
+fn head_letter(stated: bool) -> u8
+    ensures { λ r. ⌜ r ≡ headLetter stated ⌝ }
+{
+    if stated {
+        return b'T';
+    }
+    b'S'
+}
+
+// The head at the front of a statement, by its mark.
+pub fn head_in(s: &[u8]) -> StatementHead
+    requires { ⌜ (headSize ≤ length (now s)) × (extraIn (now s) + headSize ≤ length (now s)) ⌝ }
+    ensures { λ r. ⌜ r ≡ headIn (now (s .entry)) ⌝ }
+{
+    let mut x = [0u64; 9];
+    get_record(s, 0, &FRONT_WIDTHS, &mut x);
+    let extra = extra_of(marked(s, 0, b'T'));
+    let visits = number_at(s, FRONT + extra, 4);
     StatementHead {
         day: x[0] as u32,
         quarter: x[1] as u8,
@@ -149,16 +188,15 @@ pub fn statement_head_at(s: &[u8]) -> StatementHead
         rounds: x[6] as u16,
         uncovered: Kwh(x[7] as u32),
         rows: x[8] as u16,
-        visits: x[9] as u32,
+        visits: visits as u32,
     }
 }
 
-// Puts a head at the front of a buffer.
-pub fn put_statement_head(out: &mut [u8], h: StatementHead)
-    requires { ⌜ headSize ≤ length (now out) ⌝ }
-    ensures { λ r. ⌜ now (out .exit) ≡ put (now (out .entry)) 0 (statementHeadBytes h) ⌝ }
+// The fields in front of a head's terms, in the order of their table.
+fn front_fields(h: StatementHead) -> [u64; 9]
+    ensures { λ r. ⌜ r ≡ frontFields h ⌝ }
 {
-    let fields = [
+    [
         h.day as u64,
         h.quarter as u64,
         h.price1.0,
@@ -168,7 +206,28 @@ pub fn put_statement_head(out: &mut [u8], h: StatementHead)
         h.rounds as u64,
         h.uncovered.0 as u64,
         h.rows as u64,
-        h.visits as u64,
-    ];
-    put_record(out, 0, b'S', &HEAD_WIDTHS, &fields);
+    ]
+}
+
+// The terms behind the front of a head, where the form states them.
+fn put_terms(out: &mut [u8], form: Form)
+    requires { ⌜ frontSize + extraOf (form .stated) ≤ length (now out) ⌝ }
+    ensures { λ r. ⌜ now (out .exit) ≡ put (now (out .entry)) frontSize (statedBytes form) ⌝ }
+{
+    if form.stated {
+        let fields = terms_fields(form.terms);
+        put_fields(out, FRONT, &TERMS_WIDTHS, &fields);
+    }
+}
+
+// Puts a head at the front of a buffer, by the form of the file that is settled: the front, the terms if it states them, the visits.
+pub fn put_head(out: &mut [u8], form: Form, h: StatementHead)
+    requires { ⌜ extraOf (form .stated) + headSize ≤ length (now out) ⌝ }
+    ensures { λ r. ⌜ now (out .exit) ≡ put (now (out .entry)) 0 (topBytes form h) ⌝ }
+{
+    let fields = front_fields(h);
+    let letter = head_letter(form.stated);
+    put_record(out, 0, letter, &FRONT_WIDTHS, &fields);
+    put_terms(out, form);
+    put_number(out, FRONT + extra_of(form.stated), 4, h.visits as u64);
 }

@@ -2,13 +2,14 @@
 -- refusal its number and its place. `tellText` is the whole of it.
 use mathlib.Core.Path.{_≡_}
 use Prim.Native.Nat.{ℕ, zero, suc, _+_, _-_, _*_, _/_, _%_, _≤_}
-use mathlib.Core.Bool.{cond}
+use mathlib.Core.Bool.{Bool, cond}
 use mathlib.Core.List.{List, [], _∷_, _++_}
 use lib.Dec.{ltb, eqb}
 use lib.ListN.{length, getD}
 use Rattle.records.specs.Buffer.{put}
 use Rattle.records.specs.Record.{recordAt}
-use Rattle.statement.specs.Statement.{headWidths, lineWidths, headSize, lineSize, lineStart}
+use Rattle.files.specs.Form.{termsWidths, termsSize}
+use Rattle.statement.specs.Statement.{frontWidths, visitsWidth, lineWidths, headSize, lineSize, lineStart, hasTerms, extraIn, bodyIn}
 use Rattle.settle.specs.Answer.{statementOf, answerOf}
 use Rattle.settle.specs.declared.Answer.{Answer}
 use Rattle.settle.specs.declared.Answer.the-variants.{Settled, Refused}
@@ -43,11 +44,24 @@ linesTo (suc i) b = linesTo i b ++ lineText (recordAt lineWidths b (lineStart i)
 -- how many lines a statement's bytes hold behind the head; counted by their length, so that no field of them has to be believed
 -- (`told-rows` of proofs/Printed.antt: where the engine settles, the head's field says the same)
 abbrev pub linesIn : List ℕ → ℕ
-linesIn b = (length b - headSize) / lineSize
+linesIn b = (length (bodyIn b) - headSize) / lineSize
+
+-- the widths of a whole head's fields, without terms or with them, and the text of a statement's head, by its mark
+abbrev pub headWidths : Bool → List ℕ
+headWidths terms = frontWidths ++ (cond terms termsWidths [] ++ (visitsWidth ∷ []))
+
+unfoldable pub headText : List ℕ → List ℕ
+headText b = lineText (recordAt (headWidths (hasTerms b)) b 0)
 
 -- a statement's text: the head's line, then the lines in order
 unfoldable pub statementText : List ℕ → List ℕ
-statementText b = lineText (recordAt headWidths b 0) ++ linesTo (linesIn b) b
+statementText b = headText b ++ linesTo (linesIn b) (bodyIn b)
+
+-- bytes with a whole head, by their mark, and at most 256 lines
+pub record Whole (b : List ℕ) : Type 0 where
+  pub plain : headSize ≤ length b
+  pub long : extraIn b + headSize ≤ length b
+  pub most : length b ≤ extraIn b + lineStart 256
 
 -- "refused" and a space
 abbrev pub refusedWord : List ℕ
@@ -62,9 +76,9 @@ unfoldable pub toldText : Answer → List ℕ → List ℕ
 toldText (Settled size) b = statementText b
 toldText (Refused number place) b = refusedText number place
 
--- the room that `tell` has for a statement: that of 256 rows
+-- the room that `tell` has for a statement: that of 256 rows, with terms
 abbrev pub room : ℕ
-room = lineStart 256
+room = termsSize + lineStart 256
 
 -- what `tell` prints for the interval file s, for which there is no correction
 unfoldable pub tellText : List ℕ → List ℕ
@@ -76,13 +90,13 @@ pub record Placed (before after : List ℕ) (from : ℕ) (text : List ℕ) (end 
   pub end-is : end ≡ from + length text
   pub fits : end ≤ from + most
 
--- how many bytes a number takes at most with the one after it, a record's line of at most eleven of them, a statement's text and a
+-- how many bytes a number takes at most with the one after it, a record's line of at most fifteen of them, a statement's text and a
 -- refusal's
 abbrev pub numberMost : ℕ
 numberMost = 20 + 1
 
 abbrev pub lineMost : ℕ
-lineMost = 11 * numberMost
+lineMost = 15 * numberMost
 
 abbrev pub textMost : ℕ
 textMost = (1 + 256) * lineMost

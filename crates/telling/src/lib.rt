@@ -1,33 +1,36 @@
 // What the program `tell` does (01, Checked figures): an interval file from standard input, its statement or its refusal as
 // text on standard output. The engine does the work; this reads, makes the whole text in one buffer and writes it.
 use records::get_record;
+use records::marked;
 use settle::Answer;
 use statement::HEAD;
 use statement::HEAD_WIDTHS;
 use statement::LINE;
 use statement::LINE_WIDTHS;
+use statement::STATED_WIDTHS;
+use statement::extra_of;
 ghost use mathlib.Core.Path.{_≡_};
 ghost use mathlib.Core.Bool.{true};
 ghost use mathlib.Core.List.{[], _∷_, _++_};
 ghost use Prim.Native.Nat.{_+_, _*_, _≤_, _<_};
 ghost use lib.ListN.{length};
 ghost use Rattle.records.specs.Record.{recordSize, recordAt, narrow};
-ghost use Rattle.statement.specs.Statement.{headSize, lineStart};
+ghost use Rattle.statement.specs.Statement.{lineStart};
 ghost use Rattle.settle.specs.Answer.{bufferAfter};
-ghost use Rattle.telling.specs.Text.{decimal, endOf, lineText, linesTo, statementText, refusedText, tellText, Placed};
+ghost use Rattle.telling.specs.Text.{decimal, endOf, lineText, linesTo, headText, statementText, Whole, refusedText, tellText, Placed};
 ghost use Rattle.telling.specs.Text.{room, numberMost, lineMost, textMost, refusalMost};
 
-// One byte more than the longest interval file has, a head of 15 and 256 rows of 21: a longer one is refused and never cut.
-const INTERVAL: usize = 5392;
+// One byte more than the longest interval file has, a head of 24 and 256 rows of 21: a longer one is refused and never cut.
+const INTERVAL: usize = 5401;
 
-// The statement of 256 rows: a head of 39 and 256 lines of 42.
-const STATEMENT: usize = 10791;
+// The longest statement of 256 rows: a head of 48 and 256 lines of 42.
+const STATEMENT: usize = 10800;
 
-// Its text: 257 records of at most eleven fields, each of at most twenty digits and one byte more.
-const TEXT: usize = 59367;
+// Its text: 257 records of at most fifteen fields, each of at most twenty digits and one byte more.
+const TEXT: usize = 80955;
 
-// The most fields that a record of a statement has: those of a line.
-const FIELDS: usize = 11;
+// The most fields that a record of a statement has: those of a head with terms.
+const FIELDS: usize = 15;
 
 // The most digits that a number of 64 bits has.
 const DIGITS: usize = 20;
@@ -75,11 +78,24 @@ fn tell_refusal(text: &mut [u8], number: usize, place: usize) -> usize
 
 // A statement's text. The lines are counted by the bytes that are there: no field of them has to be right for this to be safe.
 fn tell_statement(text: &mut [u8], statement: &[u8]) -> usize
-    requires { ⌜ (headSize ≤ length (now statement)) × (length (now statement) ≤ room) × (textMost ≤ length (now text)) ⌝ }
+    requires { ⌜ Whole (now statement) × (textMost ≤ length (now text)) ⌝ }
     ensures { λ r. ⌜ Placed (now (text .entry)) (now (text .exit)) 0 (statementText (now (statement .entry))) r textMost ⌝ }
 {
-    let at = tell_record(text, 0, statement, 0, &HEAD_WIDTHS);
-    tell_lines(text, at, statement, (statement.len() - HEAD) / LINE)
+    let extra = extra_of(marked(statement, 0, b'T'));
+    let at = tell_head(text, statement);
+    let body = &statement[extra..];
+    tell_lines(text, at, body, (body.len() - HEAD) / LINE)
+}
+
+// Its head's line, by its mark.
+fn tell_head(text: &mut [u8], statement: &[u8]) -> usize
+    requires { ⌜ Whole (now statement) × (lineMost ≤ length (now text)) ⌝ }
+    ensures { λ r. ⌜ Placed (now (text .entry)) (now (text .exit)) 0 (headText (now (statement .entry))) r lineMost ⌝ }
+{
+    if marked(statement, 0, b'T') {
+        return tell_record(text, 0, statement, 0, &STATED_WIDTHS);
+    }
+    tell_record(text, 0, statement, 0, &HEAD_WIDTHS)
 }
 
 // The first n lines of a statement, from a position on.
@@ -98,7 +114,7 @@ fn tell_lines(text: &mut [u8], from: usize, statement: &[u8], n: usize) -> usize
 
 // The record at a position of a statement, its fields read by their table of widths, as text from a position on.
 fn tell_record(text: &mut [u8], from: usize, statement: &[u8], at: usize, widths: &[u8]) -> usize
-    requires { ⌜ (at + recordSize (now widths) ≤ length (now statement)) × (length (now widths) ≤ 11) × (narrow (now widths) ≡ true) ⌝ }
+    requires { ⌜ (at + recordSize (now widths) ≤ length (now statement)) × (length (now widths) ≤ 15) × (narrow (now widths) ≡ true) ⌝ }
     requires { ⌜ from + lineMost ≤ length (now text) ⌝ }
     ensures { λ r. ⌜ Placed (now (text .entry)) (now (text .exit)) from (lineText (recordAt (now (widths .entry)) (now (statement .entry)) at)) r lineMost ⌝ }
 {
@@ -116,7 +132,7 @@ fn tell_read(
     widths: &[u8],
     fields: &mut [u64],
 ) -> usize
-    requires { ⌜ (at + recordSize (now widths) ≤ length (now statement)) × (length (now widths) ≤ 11) × (narrow (now widths) ≡ true) ⌝ }
+    requires { ⌜ (at + recordSize (now widths) ≤ length (now statement)) × (length (now widths) ≤ 15) × (narrow (now widths) ≡ true) ⌝ }
     requires { ⌜ (length (now fields) ≡ length (now widths)) × (from + lineMost ≤ length (now text)) ⌝ }
     ensures { λ r. ⌜ Placed (now (text .entry)) (now (text .exit)) from (lineText (recordAt (now (widths .entry)) (now (statement .entry)) at)) r lineMost ⌝ }
 {
@@ -126,7 +142,7 @@ fn tell_read(
 
 // The text of a record's fields, from a position on; hands back the position after it.
 fn tell_fields(text: &mut [u8], from: usize, fields: &[u64]) -> usize
-    requires { ⌜ (length (now fields) ≤ 11) × (from + lineMost ≤ length (now text)) ⌝ }
+    requires { ⌜ (length (now fields) ≤ 15) × (from + lineMost ≤ length (now text)) ⌝ }
     ensures { λ r. ⌜ Placed (now (text .entry)) (now (text .exit)) from (lineText (now (fields .entry))) r lineMost ⌝ }
 {
     let n = fields.len();

@@ -1,8 +1,11 @@
 -- `settle::settle_rows` meets its contract: too short a buffer gets 11 and is kept, any other holds the statement.
-use Rattle.settle.proofs.Answered.{few-rows, short-told, short-left, written-told, written-left}
 use borrow.Author.Needs.{needs}
+use Rattle.settle.proofs.Answered.{few-rows, head-there, form-there, short-told, short-left, written-told, written-left}
 use Rattle.settle.proofs.settle_rows.Statement.{statement}
 use Rattle.settle.proofs.settle_rows.Tie as tie
+
+form-of-requires : tie.Need-form-of-requires
+form-of-requires c κs = (search head-there, search form-there)
 
 size-of-requires : tie.Need-size-of-requires
 size-of-requires c κs = search few-rows
@@ -21,4 +24,11 @@ returns-2 c = (search written-told, search written-left)
 
 pub settle-rows-spec : {M : Type 1} → statement M
 settle-rows-spec =
-    tie.close (tie.spec size-of-requires returns write-statement-requires same-length returns-2)
+    tie.close
+    (tie.spec
+    form-of-requires
+    size-of-requires
+    returns
+    write-statement-requires
+    same-length
+    returns-2)

@@ -5,10 +5,8 @@ use Prim.Native.Nat.{ℕ, _≤_}
 use native.Mathlib.Omega.{arith}
 use lib.ListN.{length}
 use lib.Seq.{length-take-le}
-use Rattle.statement.specs.Statement.{headSize}
-use Rattle.telling.specs.Text.{room}
 use Rattle.telling.proofs.Size.{settled-size}
-use Rattle.telling.proofs.Printed.{settled-placed, refused-placed}
+use Rattle.telling.proofs.Printed.{settled-told, settled-placed, refused-placed}
 use borrow.Author.Needs.{needs}
 use Rattle.telling.proofs.told.Statement.{statement}
 use Rattle.telling.proofs.told.Tie as tie
@@ -20,12 +18,10 @@ size a = a .answer .given .0 .0
 abbrev left : tie.After-answer → List ℕ
 left a = a .before .before .before .before .settle .last .1 .1 .0
 
-held : (a : tie.After-answer) → (headSize ≤ size a) × (size a ≤ length (left a)) × (size a ≤ room)
+held : (a : tie.After-answer) → size a ≤ length (left a)
 held a =
     let call = a .before .before .before .before .settle in
-    let fits = settled-size _ _ _ (size a) _ (call .ensures .0) (a .answer .given .1) in
-    let start = a .before .before .before .before .before .before .before .before .before .before in
-    (fits .0, omega (arith, fits .1, call .kept .1 .1 .0), omega (arith, fits .1, start .pre .0))
+    omega (arith, settled-size _ _ _ (size a) _ (call .ensures .0) (a .answer .given .1), call .kept .1 .1 .0)
 
 slice-aggregate-settle : tie.Need-slice-aggregate-settle
 slice-aggregate-settle c = search needs
@@ -37,16 +33,15 @@ enum-known-answer : tie.Need-enum-known-answer
 enum-known-answer c = search needs
 
 slice-reshare-prefix-tell-statement : tie.Need-slice-reshare-prefix-tell-statement
-slice-reshare-prefix-tell-statement c = held (c .before .before) .1
+slice-reshare-prefix-tell-statement c = held (c .before .before)
 
 slice-aggregate-tell-statement : tie.Need-slice-aggregate-tell-statement
-slice-aggregate-tell-statement c = sym (length-take-le _ _ (held (c .before .before .before) .1))
+slice-aggregate-tell-statement c = sym (length-take-le _ _ (held (c .before .before .before)))
 
 tell-statement-requires : tie.Need-tell-statement-requires
 tell-statement-requires c κs =
-    let a = c .before .before .before in
-    let n = length-take-le (size a) (left a) (held a .1) in
-    (omega (arith, n, held a .0), omega (arith, n, held a .2), search needs)
+    let call = c .before .before .before .before .before .before .before .settle in
+    (settled-told _ _ _ _ _ (call .ensures .0) (call .ensures .1) (c .before .before .before .answer .given .1), search needs)
 
 enum-known-answer-2 : tie.Need-enum-known-answer-2
 enum-known-answer-2 c = search needs

@@ -6,10 +6,10 @@ use Rattle.settle.proofs.rows.read_corrected.Statement.{statement}
 use Rattle.settle.proofs.rows.read_corrected.Tie as tie
 
 abbrev Inv-loop : tie.InvT-loop
-Inv-loop interval correction n tariff sheet₀ sources i₀ sheet i = Sofar n (tariff .0) interval correction sheet₀ sheet i
+Inv-loop interval correction n job sheet₀ sources i₀ sheet i = Sofar n (job .tariff .0) interval correction sheet₀ sheet i
 
 abbrev μ-loop : tie.MeasureT-loop
-μ-loop interval correction n tariff sheet₀ sources i₀ sheet i = n - i
+μ-loop interval correction n job sheet₀ sources i₀ sheet i = n - i
 
 sources-requires : tie.Need-sources-requires Inv-loop μ-loop
 sources-requires c κs = search needs

@@ -1,15 +1,12 @@
 -- `settle::rows::read_own_row` meets its contract: without a correction the row that counts is the interval's own.
 use Rattle.files.proofs.Laws.{no-source}
-use Rattle.settle.proofs.Reading.{terms-low, row-ranged, row-inside, row-read}
+use Rattle.settle.proofs.Reading.{reads-start, terms-low, row-ranged, row-inside, row-read}
 use borrow.Author.Needs.{needs}
 use Rattle.settle.proofs.rows.read_own_row.Statement.{statement}
 use Rattle.settle.proofs.rows.read_own_row.Tie as tie
 
 counting-row-requires : tie.Need-counting-row-requires
-counting-row-requires c κs = search (no-source, needs)
-
-terms-of-requires : tie.Need-terms-of-requires
-terms-of-requires c κs = search needs
+counting-row-requires c κs = ((search needs, search reads-start), (search needs, search no-source))
 
 duty-of-requires : tie.Need-duty-of-requires
 duty-of-requires c κs = (search row-ranged, search terms-low)
@@ -28,7 +25,6 @@ read-own-row-spec =
     tie.close
     (tie.spec
     counting-row-requires
-    terms-of-requires
     duty-of-requires
     put-duty-requires
     same-length

@@ -1,14 +1,11 @@
 -- `settle::rows::read_row` meets its contract: the line is that of the duties of the row that counts.
-use Rattle.settle.proofs.Reading.{terms-low, row-ranged, row-inside, row-read}
+use Rattle.settle.proofs.Reading.{reads-start, terms-low, row-ranged, row-inside, row-read}
 use borrow.Author.Needs.{needs}
 use Rattle.settle.proofs.rows.read_row.Statement.{statement}
 use Rattle.settle.proofs.rows.read_row.Tie as tie
 
 counting-row-requires : tie.Need-counting-row-requires
-counting-row-requires c κs = search needs
-
-terms-of-requires : tie.Need-terms-of-requires
-terms-of-requires c κs = search needs
+counting-row-requires c κs = ((search needs, search reads-start), search needs)
 
 duty-of-requires : tie.Need-duty-of-requires
 duty-of-requires c κs = (search row-ranged, search terms-low)
@@ -27,7 +24,6 @@ read-row-spec =
     tie.close
     (tie.spec
     counting-row-requires
-    terms-of-requires
     duty-of-requires
     put-duty-requires
     same-length

@@ -1,11 +1,11 @@
--- `settle::stages::write_statement` meets its contract: each stage finds what the one before left (proofs/Stated.antt). The places are named
+-- `settle::stages::write_lines` meets its contract: each stage finds what the one before left (proofs/Stated.antt). The places are named
 -- on the way back, from a stage to the one before it.
 use native.Mathlib.Omega.{arith}
 use borrow.Author.Needs.{needs}
-use Rattle.settle.proofs.Answered.{few-rows, head-there, stated-long}
-use Rattle.settle.proofs.Stated.{asked-trade, asked-account, asked-levy, asked-divide, head-room, stated}
-use Rattle.settle.proofs.stages.write_statement.Statement.{statement}
-use Rattle.settle.proofs.stages.write_statement.Tie as tie
+use Rattle.settle.proofs.Answered.{few-rows, head-there, lined-long}
+use Rattle.settle.proofs.Stated.{asked-trade, asked-account, asked-levy, asked-divide, lines-told, top-told}
+use Rattle.settle.proofs.stages.write_lines.Statement.{statement}
+use Rattle.settle.proofs.stages.write_lines.Tie as tie
 
 abbrev before-divide : tie.After-divide → tie.After-cover
 before-divide c = c .before .before
@@ -46,7 +46,7 @@ trade-requires c κs =
     let h = before-first-turn o in
     let r = before-head-at h in
     let p = r .before .before .before .before .before .pre in
-    asked-trade _ _ _ (p .0) _ (p .1) _ (h .head-at .ensures) _ (o .first-turn .ensures) _ (r .read .ensures)
+    asked-trade _ _ _ (p .0 .0) _ (p .1) _ (h .head-at .ensures) _ (o .first-turn .ensures) _ (r .read .ensures)
 
 account-requires : tie.Need-account-requires
 account-requires c κs =
@@ -55,7 +55,7 @@ account-requires c κs =
     let h = before-first-turn o in
     let r = before-head-at h in
     let p = r .before .before .before .before .before .pre in
-    asked-account _ _ _ (p .0) _ (p .1) _ (h .head-at .ensures) _ (o .first-turn .ensures) _ (r .read .ensures) _ _ (a .trade .ensures)
+    asked-account _ _ _ (p .0 .0) _ (p .1) _ (h .head-at .ensures) _ (o .first-turn .ensures) _ (r .read .ensures) _ _ (a .trade .ensures)
 
 collect-requires : tie.Need-collect-requires
 collect-requires c κs =
@@ -65,7 +65,7 @@ collect-requires c κs =
     let h = before-first-turn o in
     let r = before-head-at h in
     let p = r .before .before .before .before .before .pre in
-    asked-levy _ _ _ (p .0) _ (p .1) _ (h .head-at .ensures) _ (o .first-turn .ensures) _ (r .read .ensures) _ _ (a .trade .ensures) _ _
+    asked-levy _ _ _ (p .0 .0) _ (p .1) _ (h .head-at .ensures) _ (o .first-turn .ensures) _ (r .read .ensures) _ _ (a .trade .ensures) _ _
     (e .account .ensures)
 
 shortfall-requires : tie.Need-shortfall-requires
@@ -85,34 +85,18 @@ divide-requires c κs =
     let h = before-first-turn o in
     let r = before-head-at h in
     let p = r .before .before .before .before .before .pre in
-    asked-divide _ _ _ (p .0) _ (p .1) _ (h .head-at .ensures) _ (o .first-turn .ensures) _ (r .read .ensures) _ _ (a .trade .ensures) _ _
+    asked-divide _ _ _ (p .0 .0) _ (p .1) _ (h .head-at .ensures) _ (o .first-turn .ensures) _ (r .read .ensures) _ _ (a .trade .ensures) _ _
     (e .account .ensures) _ _ (g .collect .ensures) _ (q .shortfall .ensures) _ (v .cover .ensures)
 
 cast-rows : tie.Need-cast-rows
 cast-rows c =
     let q = before-cover (before-divide (c .before .before)) in
     let r = before-head-at (before-first-turn (before-trade (before-account (before-collect (before-shortfall q))))) in
-    record { fits = omega (arith, few-rows _ _ _ (r .before .before .before .before .before .pre .0)) }
-
-put-statement-head-requires : tie.Need-put-statement-head-requires
-put-statement-head-requires c κs =
-    let w = c .before .before .before in
-    let v = before-divide w in
-    let q = before-cover v in
-    let g = before-shortfall q in
-    let e = before-collect g in
-    let a = before-account e in
-    let o = before-trade a in
-    let h = before-first-turn o in
-    let r = before-head-at h in
-    let p = r .before .before .before .before .before .pre in
-    head-room _ _ _ (p .0) _ (p .1) _ (h .head-at .ensures) _ (o .first-turn .ensures) _ (r .read .ensures) _ _ (a .trade .ensures) _ _
-    (e .account .ensures) _ _ (g .collect .ensures) _ (q .shortfall .ensures) _ (v .cover .ensures) _ (w .divide .ensures)
+    record { fits = omega (arith, few-rows _ _ _ (r .before .before .before .before .before .pre .0 .0)) }
 
 returns : tie.Need-returns
 returns c =
-    let t = c .before .before in
-    let w = t .before .before .before .before in
+    let w = c .before .before in
     let v = before-divide w in
     let q = before-cover v in
     let g = before-shortfall q in
@@ -121,21 +105,23 @@ returns c =
     let o = before-trade a in
     let h = before-first-turn o in
     let r = before-head-at h in
-    let p = r .before .before .before .before .before .pre in
-    stated _ _ _ (p .0) _ (p .1) _ (h .head-at .ensures) _ (o .first-turn .ensures) _ (r .read .ensures) _ _ (a .trade .ensures) _ _
-    (e .account .ensures) _ _ (g .collect .ensures) _ (q .shortfall .ensures) _ (v .cover .ensures) _ (w .divide .ensures) _
-    (t .put-statement-head .ensures)
+    let p = r .before .before .before .before .before .pre in (
+      top-told _ _ _ (p .0 .0) _ (p .1) _ (h .head-at .ensures) _ (o .first-turn .ensures) _ (r .read .ensures) _ _ (a .trade .ensures) _ _
+          (e .account .ensures) _ _ (g .collect .ensures) _ (q .shortfall .ensures) _ (v .cover .ensures) _ (w .divide .ensures),
+      lines-told _ _ _ (p .0 .0) _ (p .1) _ (h .head-at .ensures) _ (o .first-turn .ensures) _ (r .read .ensures) _ _ (a .trade .ensures) _ _
+          (e .account .ensures) _ _ (g .collect .ensures) _ (q .shortfall .ensures) _ (v .cover .ensures) _ (w .divide .ensures),
+    )
 
 same-length : tie.Need-same-length
 same-length c =
-    let w = c .before .before .before .before .before .before in
+    let w = c .before .before in
     let q = before-cover (before-divide w) in
     let r = before-head-at (before-first-turn (before-trade (before-account (before-collect (before-shortfall q))))) in
     let p = r .before .before .before .before .before .pre in
-    stated-long _ _ _ (p .0) _ (p .1) _ (returns c)
+    lined-long _ _ _ _ _ (p .1) (returns c .1)
 
-pub write-statement-spec : {M : Type 1} → statement M
-write-statement-spec =
+pub write-lines-spec : {M : Type 1} → statement M
+write-lines-spec =
     tie.close
     (tie.spec
     read-requires
@@ -148,6 +134,5 @@ write-statement-spec =
     cover-requires
     divide-requires
     cast-rows
-    put-statement-head-requires
     same-length
     returns)
