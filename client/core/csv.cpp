@@ -1,6 +1,7 @@
 #include "csv.h"
 
 #include "named.h"
+#include "rules.h"
 #include "sha256.h"
 
 #include <algorithm>
@@ -162,6 +163,23 @@ void put_row(Sheet &sheet, const std::optional<Row> &row) {
     sheet.number(row->metered);
 }
 
+Heads terms_heads() {
+    return {Word::csv_baseline, Word::csv_limit_1, Word::csv_limit_2, Word::csv_limit_3, Word::csv_limit_4};
+}
+
+// The terms that ruled, stated or not; none where nothing was settled.
+void put_terms(Sheet &sheet, const QuarterRead &quarter) {
+    if (!quarter.statement) {
+        sheet.blank(terms_heads().size());
+        return;
+    }
+    const Terms terms = terms_of(*quarter.statement);
+    sheet.number(terms.baseline);
+    for (const Li limit : terms.limits) {
+        sheet.number(limit.count);
+    }
+}
+
 std::string hash_of(const File &file) {
     return file.whole ? sha256(file.bytes) : "";
 }
@@ -190,6 +208,7 @@ Heads day_heads() {
                    {Word::csv_state, Word::csv_kind, Word::csv_status, {Word::csv_in_kwh, {Said(Word::csv_metered)}}},
                    line_heads(),
                    before,
+                   terms_heads(),
                    {Word::csv_interval, Word::csv_interval_hash, Word::csv_correction, Word::csv_correction_hash,
                     Word::csv_taken}});
 }
@@ -202,6 +221,7 @@ void put_quarter(Sheet &sheet, const PlantDay &day, unsigned number) {
     put_row(sheet, quarter.row);
     quarter.line ? put_line(sheet, *quarter.line) : sheet.blank(line_heads().size());
     quarter.before ? sheet.money(quarter.before->net()) : sheet.blank(2);
+    put_terms(sheet, *quarter.read);
     put_file(sheet, only(*day.reading, quarter.read->intervals));
     put_file(sheet, only(*day.reading, quarter.read->corrections));
     sheet.text(local_time(day.reading->taken));
@@ -212,6 +232,7 @@ Heads rows_heads() {
     return joined({slot_heads(),
                    {Word::csv_name, Word::csv_state},
                    line_heads(),
+                   terms_heads(),
                    {Word::csv_interval_hash, Word::csv_correction_hash, Word::csv_taken}});
 }
 
@@ -235,6 +256,7 @@ void put_rows(Sheet &sheet, const Reading &reading, Slot slot, const std::string
         sheet.text(name_in_both(reading.names, line.id));
         sheet.text(Said(name_of(quarter.state)));
         put_line(sheet, line);
+        put_terms(sheet, quarter);
         sheet.text(interval_hash);
         sheet.text(correction_hash);
         sheet.text(taken);
@@ -251,7 +273,7 @@ Heads files_heads() {
 
 void put_listed(Sheet &sheet, const File &file, const std::string &taken) {
     sheet.text(file.name);
-    sheet.text(Said(name_of(file.form)));
+    sheet.text(Said(name_of(file)));
     if (file.slot) {
         sheet.text(date(file.slot->day));
         sheet.number(file.slot->quarter.number);

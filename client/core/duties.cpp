@@ -25,7 +25,7 @@ std::string load_of(const Row &row, unsigned least, unsigned most) {
 }
 
 Kwh baseline_of(const Row &row, const Rules &rules) {
-    return row.at_percent(rules.baseline);
+    return row.at_percent(rules.terms.baseline);
 }
 
 Role role_of(const Row &row, const Rules &rules) {

@@ -18,12 +18,25 @@ Row row_of(View bytes) {
     };
 }
 
+// Nine bytes: the percent, and the four limits.
+Terms terms_at(const std::uint8_t *at) {
+    Terms terms{.baseline = wheatrudder_u8(at)};
+    for (std::size_t limit = 0; limit < terms.limits.size(); ++limit) {
+        terms.limits[limit] = {wheatrudder_u16(at + 1 + 2 * limit)};
+    }
+    return terms;
+}
+
 } // namespace
 
 Statement::Statement(Bytes bytes) : bytes_(std::move(bytes)) {}
 
 Slot Statement::slot() const {
     return {{wheatrudder_statement_day(bytes_.data())}, {wheatrudder_statement_quarter(bytes_.data())}};
+}
+
+std::optional<Terms> Statement::terms() const {
+    return states_terms(bytes_) ? std::optional(terms_at(bytes_.data() + WHEATRUDDER_HEAD_PERCENT_PT)) : std::nullopt;
 }
 
 std::array<Li, 2> Statement::prices() const {
@@ -99,7 +112,7 @@ std::optional<Line> Statement::of(RowId id) const {
 }
 
 std::variant<Statement, Refusal> settle(View interval, View correction) {
-    Bytes buffer(WHEATRUDDER_STATEMENT_LENGTH(WHEATRUDDER_MOST_ROWS));
+    Bytes buffer(WHEATRUDDER_STATEMENT_ROOM(WHEATRUDDER_MOST_ROWS));
     const std::uint64_t answer = wheatrudder_settle(interval.data(), interval.size(), correction.data(),
                                                     correction.size(), buffer.data(), buffer.size());
     if (const unsigned number = wheatrudder_number(answer)) {
@@ -109,7 +122,7 @@ std::variant<Statement, Refusal> settle(View interval, View correction) {
 }
 
 std::optional<Row> counting_row(View interval, View correction, RowId id) {
-    std::array<std::uint8_t, interval_form.row> bytes{};
+    std::array<std::uint8_t, WHEATRUDDER_ROW_LENGTH> bytes{};
     const std::uint64_t answer = wheatrudder_row(interval.data(), interval.size(), correction.data(), correction.size(),
                                                  id.number, bytes.data(), bytes.size());
     if (wheatrudder_number(answer) != 0 || wheatrudder_value(answer) != bytes.size()) {
@@ -129,16 +142,27 @@ std::vector<Row> counting_rows(View interval, View correction, const Statement &
     return rows;
 }
 
-Terms terms_of(View accepted_interval) {
-    const std::uint8_t *at = accepted_interval.data();
-    return {.tariff = {wheatrudder_u16(at + 7)}, .need = {wheatrudder_u32(at + 9)}};
-}
-
 std::optional<FileForm> form_of(View bytes) {
     const auto found = std::find_if(forms.begin(), forms.end(), [&](const FileForm &form) {
         return bytes.size() >= form.mark.size() && std::equal(form.mark.begin(), form.mark.end(), bytes.begin());
     });
     return found == forms.end() ? std::nullopt : std::optional(*found);
+}
+
+bool states_terms(View bytes) {
+    const auto form = form_of(bytes);
+    return form == pg_form || form == pt_form;
+}
+
+Head head_of(View accepted_interval) {
+    const std::uint8_t *at = accepted_interval.data();
+    return {
+        .form = form_of(accepted_interval).value(),
+        .tariff = {wheatrudder_u16(at + 7)},
+        .need = {wheatrudder_u32(at + 9)},
+        // They stand behind the fields that both heads have.
+        .terms = states_terms(accepted_interval) ? std::optional(terms_at(at + ph_form.head)) : std::nullopt,
+    };
 }
 
 } // namespace client

@@ -61,6 +61,15 @@ struct Line {
     Fen net() const { return compensation - cut - paid - penalty + returned; }
 };
 
+// What the regulator may move by a date (Article 64): the baseline of paid regulation, and between which bids a tier is
+// offered. They are published, unlike a plant's own bids.
+struct Terms {
+    int baseline = 0;           // in percent of full load
+    std::array<Li, 4> limits{}; // tier 1 lowest and highest, tier 2 lowest and highest
+
+    friend bool operator==(const Terms &, const Terms &) = default;
+};
+
 // A statement that the engine has written: its bytes, read by the header's readers.
 class Statement {
   public:
@@ -68,6 +77,7 @@ class Statement {
 
     View bytes() const { return bytes_; }
     Slot slot() const;
+    std::optional<Terms> terms() const; // where its head states them
     std::array<Li, 2> prices() const;
     Fen total() const;
     Fen shortfall() const;
@@ -102,17 +112,12 @@ std::optional<Row> counting_row(View interval, View correction, RowId id);
 // The rows that count for the lines of a statement made from the same files, in the same order.
 std::vector<Row> counting_rows(View interval, View correction, const Statement &statement);
 
-// The head of an interval file that was accepted.
-struct Terms {
-    Hao tariff;
-    Kwh need;
-};
-Terms terms_of(View accepted_interval);
-
 // How a file is laid out, for who looks at it before the engine does: a head that begins with a mark, and rows (in a
 // statement: lines) that are all of one length.
+enum class Sort { interval, correction, statement };
 struct FileForm {
     std::array<char, 2> mark{};
+    Sort sort = Sort::interval;
     std::size_t head = 0;
     std::size_t row = 0;
 
@@ -121,13 +126,33 @@ struct FileForm {
     constexpr std::size_t length(std::size_t rows) const { return head + row * rows; }
 };
 
-// Every form that the engine knows. A correction's rows are as long as those of its interval file.
-inline constexpr FileForm interval_form{{'P', 'H'}, WHEATRUDDER_INTERVAL_LENGTH(0), WHEATRUDDER_ROW_LENGTH};
-inline constexpr FileForm correction_form{{'P', 'K'}, WHEATRUDDER_CORRECTION_LENGTH(0), WHEATRUDDER_ROW_LENGTH};
-inline constexpr FileForm statement_form{{'P', 'S'}, WHEATRUDDER_HEAD_LENGTH, WHEATRUDDER_LINE_LENGTH};
-inline constexpr std::array forms{interval_form, correction_form, statement_form};
+// Every form that the engine knows. The heads of PG and PT state terms, and the statement of a PG file is a PT.
+// Lengths of two forms differ by more than a byte, whatever their numbers of rows: a byte that was changed, lost or
+// added never makes a whole file of one form a whole file of another.
+inline constexpr FileForm ph_form{
+    {'P', 'H'}, Sort::interval, WHEATRUDDER_INTERVAL_LENGTH_PH(0), WHEATRUDDER_ROW_LENGTH};
+inline constexpr FileForm pg_form{
+    {'P', 'G'}, Sort::interval, WHEATRUDDER_INTERVAL_LENGTH_PG(0), WHEATRUDDER_ROW_LENGTH};
+inline constexpr FileForm pk_form{
+    {'P', 'K'}, Sort::correction, WHEATRUDDER_CORRECTION_LENGTH(0), WHEATRUDDER_ROW_LENGTH};
+inline constexpr FileForm ps_form{
+    {'P', 'S'}, Sort::statement, WHEATRUDDER_STATEMENT_LENGTH_PS(0), WHEATRUDDER_LINE_LENGTH};
+inline constexpr FileForm pt_form{
+    {'P', 'T'}, Sort::statement, WHEATRUDDER_STATEMENT_LENGTH_PT(0), WHEATRUDDER_LINE_LENGTH};
+inline constexpr std::array forms{ph_form, pg_form, pk_form, ps_form, pt_form};
 
 // The form that the first two bytes name; none where there are fewer, or they name none.
 std::optional<FileForm> form_of(View bytes);
+// Whether the first two bytes name a form whose head states terms.
+bool states_terms(View bytes);
+
+// The head of an interval file that was accepted.
+struct Head {
+    FileForm form;
+    Hao tariff;
+    Kwh need;
+    std::optional<Terms> terms; // where it states them
+};
+Head head_of(View accepted_interval);
 
 } // namespace client

@@ -14,8 +14,8 @@ namespace client {
 namespace {
 
 // An interval file without rows that is accepted: day 0, quarter 0, tariff 1, need 0. Beside it a correction that
-// belongs to no quarter is judged as a correction.
-constexpr std::array<std::uint8_t, interval_form.head> no_rows{'P', 'H', 0, 0, 0, 0, 0, 1, 0, 0, 0, 0, 0, 0, 0};
+// belongs to no quarter is judged as a correction; it is refused by its head, so no terms are asked for.
+constexpr std::array<std::uint8_t, ph_form.head> no_rows{'P', 'H', 0, 0, 0, 0, 0, 1, 0, 0, 0, 0, 0, 0, 0};
 
 bool has_slot(Form form) {
     return form == Form::interval || form == Form::correction || form == Form::statement;
@@ -47,11 +47,12 @@ void blame(File &file, Said says, Said to_do, Fault fault = Fault::unaccounted) 
 }
 
 // The id of the entry at a place, counted from 1, where the bytes reach so far.
-std::optional<RowId> id_at(View bytes, const FileForm &form, unsigned place) {
-    if (place == 0 || form.length(place) > bytes.size()) {
+std::optional<RowId> id_at(View bytes, unsigned place) {
+    const auto form = form_of(bytes);
+    if (!form || place == 0 || form->length(place) > bytes.size()) {
         return std::nullopt;
     }
-    return RowId{wheatrudder_u16(bytes.data() + form.length(place - 1) + 2)};
+    return RowId{wheatrudder_u16(bytes.data() + form->length(place - 1) + 2)};
 }
 
 std::string_view as_text(View bytes) {
@@ -229,9 +230,8 @@ void Judge::refuse(QuarterRead &quarter, const Refusal &refusal, std::size_t int
                    std::optional<std::size_t> correction) {
     const bool is_correction = correction && refusal.number >= 8 && refusal.number <= 10;
     const std::size_t at_fault = is_correction ? *correction : interval;
-    const FileForm &form = is_correction ? correction_form : interval_form;
     File &file = files_[at_fault];
-    quarter.refused = Refused{refusal, at_fault, id_at(file.bytes, form, refusal.place)};
+    quarter.refused = Refused{refusal, at_fault, id_at(file.bytes, refusal.place)};
     // An entry may fit no row because the interval file is the one that is still arriving.
     const bool is_arriving = file.fresh || (refusal.number == 10 && files_[interval].fresh);
     quarter.state = is_arriving ? State::arriving : State::refused;

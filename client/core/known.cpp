@@ -145,8 +145,9 @@ std::optional<Known> known_as(const Glimpse &glimpse) {
     if (is_zip(front, letters_of(glimpse.ending))) {
         return Known::archive;
     }
-    // What is shorter than a head may be the front of one.
-    const bool is_long = glimpse.front.size() > interval_form.head;
+    // What is shorter than a head may be the front of one. The shorter head of an interval file is enough: its day is
+    // in it, which no text has.
+    const bool is_long = glimpse.front.size() > ph_form.head;
     return is_long && is_text(glimpse.front, glimpse.is_whole) ? std::optional(Known::text) : std::nullopt;
 }
 

@@ -38,6 +38,14 @@ Word status_word(Status status) {
     }
 }
 
+Said in_words(const Terms &terms) {
+    std::vector<Hole> holes{std::to_string(terms.baseline)};
+    for (const Li limit : terms.limits) {
+        holes.emplace_back(text(limit));
+    }
+    return {Word::terms, holes};
+}
+
 bool has_name(RowId id, const Namer &name_of) {
     return name_of && !name_of(id, Tongue::english).empty();
 }

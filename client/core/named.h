@@ -1,4 +1,4 @@
-// What rows, their kinds and their statuses are called.
+// What rows, their kinds and their statuses are called, and terms in words.
 #pragma once
 
 #include "engine.h"
@@ -11,6 +11,9 @@ namespace client {
 
 Word kind_word(Kind kind);
 Word status_word(Status status);
+
+// "baseline 45 percent of full load; bids from 0.150 to 0.300 yuan for each kWh in tier 1, ..."
+Said in_words(const Terms &terms);
 
 // A row's name in a tongue, empty where it has none; and nobody has one where there is no function.
 using Namer = std::function<std::string(RowId, Tongue)>;

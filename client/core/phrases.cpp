@@ -47,8 +47,8 @@ std::string number(RowId id) {
 }
 
 Said baseline(const Row &row, const Rules &rules) {
-    const Word word = row.is_whole_at(rules.baseline) ? Word::baseline : Word::baseline_cut;
-    return {word, {std::to_string(rules.baseline), text(baseline_of(row, rules))}};
+    const Word word = row.is_whole_at(rules.terms.baseline) ? Word::baseline : Word::baseline_cut;
+    return {word, {std::to_string(rules.terms.baseline), text(baseline_of(row, rules))}};
 }
 
 std::string rate(Fen money, Kwh weight) {

@@ -25,10 +25,10 @@ namespace client {
 
 // What a file is, by its content.
 enum class Form {
-    interval,   // PH
+    interval,   // PH, or PG, which states its terms
     correction, // PK
-    statement,  // PS: never used for a figure
-    coming,     // PG, PT, PU, PW: forms that are announced, and that this version does not know
+    statement,  // PS, or PT, the statement of a PG: never used for a figure
+    coming,     // PU, PW: forms that are announced, and that this version does not know
     names,      // plants.csv
     exported,   // a CSV that this program wrote
     text,       // these four are known to be none of ours (known.h)
@@ -71,7 +71,7 @@ struct File {
 
 // So many bytes of a file are read: one more than the longest form has, a statement of 256 rows. An interval file or a
 // correction that is cut here is still too long, and is refused as the whole of it would be.
-inline constexpr std::size_t most_bytes = 10'792;
+inline constexpr std::size_t most_bytes = pt_form.length(WHEATRUDDER_MOST_ROWS) + 1;
 // And so many of plants.csv.
 inline constexpr std::size_t most_name_bytes = 256 * 1024;
 // A file that was written less than this ago and is refused may still be arriving.
@@ -163,8 +163,9 @@ std::optional<Said> reservation(const Reading &reading, const QuarterRead &quart
 Said refusal_words(const Refused &refused);
 Said refusal_advice(const Refusal &refusal);
 
-// What a state and a form are called in lists.
+// What a state and a form are called in lists; of a file also whether it states its terms.
 Word name_of(State state);
 Word name_of(Form form);
+Word name_of(const File &file);
 
 } // namespace client

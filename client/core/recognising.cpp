@@ -3,6 +3,7 @@
 #include "balance.h"
 #include "csv.h"
 #include "known.h"
+#include "rules.h"
 #include "wheatrudder.h"
 
 #include <algorithm>
@@ -28,11 +29,23 @@ Form form_as(Known known) {
     return Form::archive;
 }
 
+Form form_as(Sort sort) {
+    switch (sort) {
+    case Sort::interval:
+        return Form::interval;
+    case Sort::correction:
+        return Form::correction;
+    case Sort::statement:
+        break;
+    }
+    return Form::statement;
+}
+
 Form form_by_mark(View bytes) {
     if (const auto form = form_of(bytes)) {
-        return *form == interval_form ? Form::interval : *form == correction_form ? Form::correction : Form::statement;
+        return form_as(form->sort);
     }
-    constexpr std::string_view coming = "GTUW";
+    constexpr std::string_view coming = "UW";
     const bool is_coming =
         bytes.size() > 1 && bytes[0] == 'P' && coming.find(static_cast<char>(bytes[1])) != std::string_view::npos;
     return bytes.empty() ? Form::empty : is_coming ? Form::coming : Form::unknown;
@@ -74,18 +87,20 @@ std::optional<Slot> slot_by_head(View bytes) {
 }
 
 bool is_whole_statement(View bytes) {
-    if (bytes.size() < statement_form.head || !slot_by_head(bytes)) {
+    const auto form = form_of(bytes);
+    const bool is_statement = form && form->sort == Sort::statement;
+    if (!is_statement || bytes.size() < form->head || !slot_by_head(bytes)) {
         return false;
     }
     const Statement statement(Bytes(bytes.begin(), bytes.end()));
-    if (bytes.size() != statement_form.length(statement.rows())) {
+    if (bytes.size() != form->length(statement.rows())) {
         return false;
     }
     const auto lines = statement.lines();
     const bool rises = std::adjacent_find(lines.begin(), lines.end(), [](const Line &one, const Line &next) {
                            return one.id >= next.id;
                        }) == lines.end();
-    return rises && !imbalance(statement);
+    return rises && are_allowed(terms_of(statement)) && !imbalance(statement);
 }
 
 } // namespace client

@@ -2,12 +2,18 @@
 
 namespace client {
 
+bool are_allowed(const Terms &terms) {
+    const auto &[lowest_1, highest_1, lowest_2, highest_2] = terms.limits;
+    return terms.baseline >= 41 && terms.baseline <= 50 && lowest_1 >= Li{1} && lowest_1 < highest_1 &&
+           highest_1 <= lowest_2 && lowest_2 < highest_2 && highest_2 <= Li{1'000};
+}
+
 Rules rules_of(View accepted_interval) {
-    // The one head that is known so far states none of this: it means the rules as they were issued.
+    const Head head = head_of(accepted_interval);
     return {
-        .form = interval_form,
-        .tariff = terms_of(accepted_interval).tariff,
-        .baseline = 50,
+        .form = head.form,
+        .tariff = head.tariff,
+        .terms = head.terms.value_or(issued_terms),
         .tier_2 = 40,
         .band_ends = {60, 70},
         .factors = {1, 2, 3},
@@ -15,6 +21,10 @@ Rules rules_of(View accepted_interval) {
         .renewable_cap = {1, 2},
         .penalty = 2,
     };
+}
+
+Terms terms_of(const Statement &statement) {
+    return statement.terms().value_or(issued_terms);
 }
 
 } // namespace client

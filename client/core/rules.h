@@ -16,12 +16,20 @@ struct Ratio {
     friend bool operator==(const Ratio &, const Ratio &) = default;
 };
 
+// The terms of a head that states none: the rules as they were issued (Articles 19 and 25).
+inline constexpr Terms issued_terms{50, {Li{100}, Li{320}, Li{320}, Li{750}}};
+
+// Whether a head may state these: what check 14 asks for.
+bool are_allowed(const Terms &terms);
+
 struct Rules {
     FileForm form; // of the interval file
     Hao tariff;
+    // A thermal unit is paid below the baseline, and pays from it upward (Articles 19 and 21). The limits say what may
+    // be bid: the engine holds bids to them, and nothing is worked out from them here.
+    Terms terms;
     // In percent of full load, from here to the bands.
-    int baseline = 0; // a thermal unit is paid below it, and pays from it upward (Articles 19 and 21)
-    int tier_2 = 0;   // where tier 1 ends and tier 2 begins (Article 25)
+    int tier_2 = 0; // where tier 1 ends and tier 2 begins (Article 25)
     // A thermal unit's energy from the baseline to the first end, from there to the second, and above it; and how often
     // each of these counts (Article 29).
     std::array<int, 2> band_ends{};
@@ -36,5 +44,8 @@ struct Rules {
 };
 
 Rules rules_of(View accepted_interval);
+
+// The terms under which a statement was made.
+Terms terms_of(const Statement &statement);
 
 } // namespace client

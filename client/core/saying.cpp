@@ -1,5 +1,8 @@
 #include "saying.h"
 
+#include "named.h"
+#include "rules.h"
+
 #include <algorithm>
 #include <iterator>
 #include <numeric>
@@ -48,6 +51,8 @@ std::optional<Said> words_of_check(const Refused &refused) {
         return Said(Word::refusal_10, {at_first(refused)});
     case 11:
         return Word::refusal_11;
+    case 14:
+        return Word::refusal_14;
     default:
         return std::nullopt;
     }
@@ -127,13 +132,41 @@ Said contradiction(const std::vector<File> &files, const Places &places) {
     return {word, {list(files, first), files[different.back()].name}};
 }
 
+namespace {
+
+// The terms under which an interval file would be settled; none where its head is cut, or states some that are not
+// allowed.
+std::optional<Terms> terms_of(const File &file) {
+    const auto form = form_of(file.bytes);
+    if (!form || file.bytes.size() < form->head) {
+        return std::nullopt;
+    }
+    const Terms terms = rules_of(file.bytes).terms;
+    return are_allowed(terms) ? std::optional(terms) : std::nullopt;
+}
+
+// Two interval files or more for one quarter. Two with other terms are hardly two copies: whoever has to take one away
+// is told both.
+Said contradiction_of_intervals(const std::vector<File> &files, const Places &places) {
+    const Said differ = contradiction(files, places);
+    const Places different = originals(files, places);
+    const File &one = files[different[0]], &other = files[different[1]];
+    const auto first = terms_of(one), second = terms_of(other);
+    if (different.size() != 2 || !first || !second || first == second) {
+        return differ;
+    }
+    return sentences(differ, {Word::state_two_terms, {one.name, in_words(*first), other.name, in_words(*second)}});
+}
+
+} // namespace
+
 std::optional<Said> hindrance(const Reading &reading, const QuarterRead &quarter) {
     switch (quarter.state) {
     case State::missing:
         return quarter.named.empty() ? Said(Word::state_missing)
                                      : Said(Word::state_missing_named, {list(reading.files, quarter.named)});
     case State::two_intervals:
-        return contradiction(reading.files, quarter.intervals);
+        return contradiction_of_intervals(reading.files, quarter.intervals);
     case State::two_corrections:
         return contradiction(reading.files, quarter.corrections);
     case State::arriving:
@@ -187,6 +220,7 @@ Said refusal_advice(const Refusal &refusal) {
     case 2:
         return Word::advice_right_file;
     case 3:
+    case 14:
         return Word::advice_sender;
     case 6:
         return Word::advice_sender_row;
@@ -217,6 +251,15 @@ Word name_of(Form form) {
                                Word::form_picture,  Word::form_archive,    Word::form_empty,     Word::form_unknown,
                                Word::form_unread};
     return names.at(static_cast<std::size_t>(form));
+}
+
+Word name_of(const File &file) {
+    if (!states_terms(file.bytes)) {
+        return name_of(file.form);
+    }
+    return file.form == Form::interval    ? Word::form_interval_stated
+           : file.form == Form::statement ? Word::form_statement_stated
+                                          : name_of(file.form);
 }
 
 } // namespace client

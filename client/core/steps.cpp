@@ -17,6 +17,7 @@ void Steps::end(Word word, std::vector<Hole> holes, Fen amount) {
 }
 
 void Steps::tell() {
+    terms();
     role();
     switch (role_here()) {
     case Role::payer:
@@ -32,6 +33,13 @@ void Steps::tell() {
         penalty();
     }
     result();
+}
+
+// A file that states the terms as issued is explained as one that states none.
+void Steps::terms() {
+    if (rules().terms != issued_terms) {
+        say(Word::terms_moved, {in_words(rules().terms)});
+    }
 }
 
 void Steps::role() {

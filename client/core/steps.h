@@ -17,6 +17,8 @@ class Steps {
     std::vector<Step> take() { return std::move(all_); }
 
   private:
+    // Terms that are not those of the rules as issued.
+    void terms();
     // What the row is, and what part it has in the quarter.
     void role();
     // A payer's share: weight, cap, rounds and leftover fen.

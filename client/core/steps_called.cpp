@@ -5,7 +5,7 @@
 namespace client {
 
 std::vector<Hole> Steps::calls_by_tier() const {
-    return {text(line().called[0]), text(line().called[1]), std::to_string(rules().baseline),
+    return {text(line().called[0]), text(line().called[1]), std::to_string(rules().terms.baseline),
             std::to_string(rules().tier_2)};
 }
 

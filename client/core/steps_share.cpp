@@ -17,7 +17,7 @@ constexpr std::size_t last_rounds_told = 2;
 
 void Steps::share() {
     if (is_called() && !is_liable(row())) {
-        say(Word::call_above, {text(line().called[0]), text(line().called[1]), std::to_string(rules().baseline)});
+        say(Word::call_above, {text(line().called[0]), text(line().called[1]), std::to_string(rules().terms.baseline)});
     }
     if (quarter_.total == Fen{0}) {
         return say(Word::share_nothing);
@@ -26,7 +26,7 @@ void Steps::share() {
         return row().kind == Kind::thermal ? say(Word::weight_baseline, {baseline(row(), rules())})
                                            : say(Word::weight_still);
     }
-    say(Word::share_total, {std::to_string(rules().baseline), text(quarter_.total)}, text(quarter_.total));
+    say(Word::share_total, {std::to_string(rules().terms.baseline), text(quarter_.total)}, text(quarter_.total));
     weight();
     cap();
     if (line().cap == Fen{0}) {
@@ -45,7 +45,7 @@ void Steps::weight() {
     if (row().kind != Kind::thermal) {
         return say(Word::weight_renewable, {text(line().weight)});
     }
-    std::vector<Hole> holes{std::to_string(rules().baseline)};
+    std::vector<Hole> holes{std::to_string(rules().terms.baseline)};
     for (const int end : rules().band_ends) {
         holes.emplace_back(std::to_string(end));
     }

@@ -12,7 +12,7 @@ namespace {
 
 // The plant at a place of an accepted interval file, counted from 0. A correction changes neither kind nor capacity.
 Plant plant_at(View interval, std::size_t index) {
-    const std::uint8_t *at = interval.data() + rules_of(interval).form.length(index);
+    const std::uint8_t *at = interval.data() + head_of(interval).form.length(index);
     return {{wheatrudder_u16(at + 2)}, static_cast<Kind>(wheatrudder_u8(at + 4)), wheatrudder_u16(at + 5)};
 }
 
@@ -67,11 +67,18 @@ Said amount_of(const Statement &statement, RowId id) {
                          : Said(Word::outdated_pays, {text(-net)});
 }
 
-// A statement of another time beside that of now.
+// A statement of another time beside that of now: both amounts, and both terms where the interval file was replaced by
+// one with others.
 Said outdated_by(const Reading &reading, const File &file, RowId id) {
-    const Said then = amount_of(Statement(file.bytes), id);
-    const Said now = amount_of(*reading.at(*file.slot).statement, id);
-    return {Word::outdated, {file.name, text(*file.slot), plant_name(reading, id), then, now}};
+    const Statement then(file.bytes);
+    const Statement &now = *reading.at(*file.slot).statement;
+    const Said amounts{Word::outdated,
+                       {file.name, text(*file.slot), plant_name(reading, id), amount_of(then, id), amount_of(now, id)}};
+    if (terms_of(then) == terms_of(now)) {
+        return amounts;
+    }
+    const Said terms{Word::outdated_terms, {in_words(terms_of(then)), in_words(terms_of(now))}};
+    return {Word::listing_sentences, {amounts, terms}};
 }
 
 } // namespace

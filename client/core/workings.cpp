@@ -11,9 +11,16 @@ namespace {
 
 using Failed = std::optional<Said>;
 
+// The form of the statement that the engine makes of an interval file.
+const FileForm &made_of(const FileForm &interval) {
+    return interval == pg_form ? pt_form : ps_form;
+}
+
 bool has_whole_lines(const Statement &statement) {
+    // The header's readers go by the mark, and take any but PT for PS.
+    const FileForm &form = states_terms(statement.bytes()) ? pt_form : ps_form;
     const std::size_t length = statement.bytes().size();
-    return length >= statement_form.head && length == statement_form.length(statement.rows());
+    return length >= form.head && length == form.length(statement.rows());
 }
 
 // The stages of a quarter, each of which works something out and checks it. Of the statement only calls and prices are
@@ -64,6 +71,9 @@ class Work {
 Failed Work::read() {
     if (!has_whole_lines(statement_)) {
         return Word::check_length;
+    }
+    if (form_of(statement_.bytes()) != made_of(is_.rules.form) || terms_of(statement_) != is_.rules.terms) {
+        return Word::check_terms;
     }
     is_.lines = statement_.lines();
     is_.prices = statement_.prices();

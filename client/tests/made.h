@@ -56,6 +56,21 @@ inline Bytes interval(client::Slot slot, unsigned tariff = 1'300, const std::vec
     return bytes;
 }
 
+// An interval file PH with its terms stated: PG.
+inline Bytes stating(const client::Terms &terms, Bytes bytes) {
+    bytes.at(1) = 'G';
+    Bytes stated;
+    put(stated, static_cast<std::uint64_t>(terms.baseline), 1);
+    for (const client::Li limit : terms.limits) {
+        put(stated, static_cast<std::uint64_t>(limit.count), 2);
+    }
+    bytes.insert(bytes.begin() + client::ph_form.head, stated.begin(), stated.end());
+    return bytes;
+}
+
+// Terms that differ from those as issued in every number.
+inline constexpr client::Terms other_terms{45, {{{150}, {300}, {350}, {650}}}};
+
 inline Bytes correction(client::Slot slot, const std::vector<Entry> &rows) {
     Bytes bytes{'P', 'K'};
     put(bytes, slot.day.number, 4);

@@ -284,12 +284,16 @@ QString DayModel::note(const PlantQuarter &quarter) const {
     if (!read.named.empty()) {
         return words({Word::note_named, {day_->reading->files.at(read.named.front()).name}}, tongue_);
     }
-    if (!quarter.before) {
-        return {};
+    std::vector<Said> notes;
+    if (quarter.before) {
+        const Fen was = quarter.before->net();
+        notes.push_back(was == quarter.line->net() ? Said(Word::note_corrected_same)
+                                                   : Said(Word::note_corrected, {text(was)}));
     }
-    const Fen was = quarter.before->net();
-    return was == quarter.line->net() ? words(Word::note_corrected_same, tongue_)
-                                      : words({Word::note_corrected, {text(was)}}, tongue_);
+    if (const Terms terms = terms_of(*read.statement); terms != issued_terms) {
+        notes.push_back({Word::note_terms, {std::to_string(terms.baseline)}});
+    }
+    return notes.empty() ? QString() : words(beside(notes), tongue_);
 }
 
 } // namespace client

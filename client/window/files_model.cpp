@@ -43,7 +43,7 @@ QString FilesModel::cell_text(const File &file, int column) const {
     case name:
         return text(file.name);
     case is:
-        return words(name_of(file.form), tongue_);
+        return words(name_of(file), tongue_);
     case whose:
         return file.slot ? text(text(*file.slot)) : QString();
     case says:

@@ -348,12 +348,20 @@ void QuarterPane::show_line(const At &at, const Line &line, const Row &row) {
 
 void QuarterPane::show_head(const At &at) {
     const Statement &statement = *at.read.statement;
-    const Terms terms = terms_of(at.reading.interval(at.read));
+    const Head head = head_of(at.reading.interval(at.read));
+    const Terms terms = terms_of(statement);
     const auto number = [](std::int64_t count) { return text(count); };
     std::vector<TextRow> rows;
     const auto add = [&](const Said &name, const std::string &value) { rows.push_back(named(name, value, at.tongue)); };
-    add(with_unit(Word::head_tariff, Word::unit_price), text(terms.tariff));
-    add(with_unit(Word::head_need, Word::unit_kwh), text(terms.need));
+    const auto add_limits = [&](Word name, Li lowest, Li highest) {
+        add(with_unit(name, Word::unit_price), Said(Word::head_limits, {text(lowest), text(highest)}).in(at.tongue));
+    };
+    add(with_unit(Word::head_tariff, Word::unit_price), text(head.tariff));
+    add(with_unit(Word::head_need, Word::unit_kwh), text(head.need));
+    add(Word::head_terms, Said(head.terms ? Word::head_terms_stated : Word::head_terms_issued).in(at.tongue));
+    add(Word::head_baseline, number(terms.baseline));
+    add_limits(Word::head_limits_1, terms.limits[0], terms.limits[1]);
+    add_limits(Word::head_limits_2, terms.limits[2], terms.limits[3]);
     add(with_unit(Word::head_price_1, Word::unit_price), text(statement.prices()[0]));
     add(with_unit(Word::head_price_2, Word::unit_price), text(statement.prices()[1]));
     add(with_unit(Word::head_total, Word::unit_yuan), text(statement.total()));
@@ -371,7 +379,7 @@ void QuarterPane::show_files(const At &at) {
         const File &file = at.reading.files.at(place);
         const QString hash = file.whole ? text(sha256(file.bytes)) : words(Word::quarter_not_whole, at.tongue);
         rows.push_back(
-            {.cells = {{.text = words(name_of(file.form), at.tongue)}, {.text = text(file.name)}, {.text = hash}}});
+            {.cells = {{.text = words(name_of(file), at.tongue)}, {.text = text(file.name)}, {.text = hash}}});
     };
     std::for_each(at.read.intervals.begin(), at.read.intervals.end(), add);
     std::for_each(at.read.corrections.begin(), at.read.corrections.end(), add);

@@ -17,8 +17,8 @@
 namespace {
 
 // One more than the longest file, so that a longer one is not taken for it.
-std::array<std::uint8_t, WHEATRUDDER_INTERVAL_LENGTH(WHEATRUDDER_MOST_ROWS) + 1> interval;
-std::array<std::uint8_t, WHEATRUDDER_STATEMENT_LENGTH(WHEATRUDDER_MOST_ROWS)> statement;
+std::array<std::uint8_t, WHEATRUDDER_INTERVAL_LENGTH_PG(WHEATRUDDER_MOST_ROWS) + 1> interval;
+std::array<std::uint8_t, WHEATRUDDER_STATEMENT_ROOM(WHEATRUDDER_MOST_ROWS)> statement;
 
 std::size_t read_file(const std::string &path) {
     const int file = open(path.c_str(), O_RDONLY | O_CLOEXEC);

@@ -47,14 +47,21 @@ const File &file_named(const ReadIn &reading, const std::string &name) {
     return *found;
 }
 
-// A whole day of two rows in each quarter, which is ready to book.
+// A whole day of two rows in each quarter, which is ready to book. From noon on the files state their terms.
 fs::path whole_day(Drawer &drawer) {
     const fs::path in = folder();
     for (std::uint8_t quarter = 0; quarter < quarters_of_day; ++quarter) {
-        put(in / std::to_string(quarter), drawer.interval(day, quarter, 2));
+        put(in / std::to_string(quarter),
+            quarter < 48 ? drawer.interval(day, quarter, 2) : drawer.stated_interval(day, quarter, 2));
     }
     holds(arrived(*read_now(in), {day}).is_ready(), "the whole day is not ready");
     return in;
+}
+
+Bytes statement_of(const Bytes &interval, const Bytes &correction = {}) {
+    const auto answer = settle(interval, correction);
+    const View bytes = std::get<Statement>(answer).bytes();
+    return {bytes.begin(), bytes.end()};
 }
 
 // ---- what is known ----
@@ -126,6 +133,9 @@ void texts() {
           "PK, PS and PG: so may this one"s}) {
         check::equal(form_of_text(text), Form::text, text);
     }
+    for (const std::string &text : {"PG: sixteen long"s, "PT; as long as the head of PG"s.substr(0, 24)}) {
+        check::equal(form_of_text(text), Form::text, text);
+    }
     for (const std::string &text : {"shorter"s, "as long as a head"s.substr(0, 15), "a text with a nought\0 in it"s,
                                     "a text with a bell\a in it"s, "not UTF-8, not GB18030: \xff\xff"s,
                                     "\xff\xfe"s + "i\0d\0;\0n\0a\0m\0e\0\n\0\0\xd8"s, "cut at its end: \xe7"s}) {
@@ -139,11 +149,11 @@ void texts() {
 // Damaged in one place, no file of ours is ever known to be something else.
 void nothing_of_ours() {
     Drawer drawer(4);
-    for (const std::uint32_t number : {0u, 0x0403u, 0x2020u, 0x4b50u, 0x7e7eu, 36'524u}) {
+    // Among the days are such as make a head look like something else: 0x4649 stands as "IF" behind the G of PG.
+    for (const std::uint32_t number : {0u, 0x0403u, 0x2020u, 0x4649u, 0x4b50u, 0x7e7eu, 36'524u}) {
         const Bytes interval = drawer.interval(number, 32, 2), correction = drawer.correction(interval);
-        const auto answer = settle(interval, {});
-        const View statement = std::get<Statement>(answer).bytes();
-        for (const Bytes &good : {interval, correction, Bytes(statement.begin(), statement.end())}) {
+        const Bytes stated = drawer.stated_interval(number, 32, 2);
+        for (const Bytes &good : {interval, stated, correction, statement_of(interval), statement_of(stated)}) {
             const auto is_ours = [&](const Bytes &bytes) {
                 const Form form = form_of_text({bytes.begin(), bytes.end()});
                 holds(form <= Form::coming || form == Form::empty || form == Form::unknown, "known as something else");
@@ -222,7 +232,10 @@ void one_file_for_all_days() {
     must_not_be_ready("of the other day", for_slot(correction, 5, 8));
     must_not_be_ready("out of range", for_slot(correction, 40'000, 3));
     must_not_be_ready("refused", with(for_slot(drawer.interval(day, 0, 2), 4'000, 0), 15, 'X', 1));
-    must_not_be_ready("coming", with(correction, 1, 'G', 1));
+    must_not_be_ready("coming", with(correction, 1, 'W', 1));
+    must_not_be_ready("stated terms", with(for_slot(drawer.stated_interval(day, 0, 2), 4'000, 0), 15, 40, 1));
+    must_not_be_ready("as an interval file", with(for_slot(correction, 4'000, 3), 1, 'G', 1));
+    must_not_be_ready("as a statement", with(correction, 1, 'T', 1));
     must_not_be_ready("random", {1, 2, 3, 4, 5, 6, 7, 8, 9, 10, 11, 12, 13, 14, 15, 16, 17, 18});
 }
 
@@ -318,12 +331,6 @@ void the_quarter_says_so() {
 
 // ---- statements ----
 
-Bytes statement_of(const Bytes &interval, const Bytes &correction = {}) {
-    const auto answer = settle(interval, correction);
-    const View bytes = std::get<Statement>(answer).bytes();
-    return {bytes.begin(), bytes.end()};
-}
-
 void statements_are_compared() {
     Drawer drawer(8);
     const fs::path in = whole_day(drawer);
@@ -360,6 +367,47 @@ void statements_are_compared() {
     holds(!corrected->at({{5}, {9}}).statement, "a figure of a statement");
 }
 
+// The same of statements of files that state their terms.
+void statements_with_terms() {
+    Drawer drawer(12);
+    const fs::path in = whole_day(drawer);
+    const Bytes interval = bytes_at(in / "60"), same = statement_of(interval);
+    equal(same.at(1), std::uint8_t{'T'});
+    put(in / "same", same);
+    put(in / "old", statement_of(drawer.interval(day, 60, 3))); // of the form that states none
+    put(in / "older", statement_of(drawer.stated_interval(day, 60, 3)));
+    put(in / "none", for_slot(same, 5, 60));
+    const ReadIn reading = read_now(in);
+    equal(english(file_named(reading, "same").says), "The same as worked out now.");
+    equal(say(name_of(file_named(reading, "same")), Tongue::english), "statement with stated terms (never used)");
+    equal(say(name_of(file_named(reading, "same")), Tongue::chinese), "结算单（载明基准和限价，从不采用）");
+    equal(say(name_of(file_named(reading, "old")), Tongue::english), "statement (never used)");
+    for (const char *name : {"old", "older"}) {
+        equal(english(file_named(reading, name).says),
+              "A statement of another time: the files give another one now. Somebody may have booked it.");
+    }
+    equal(english(file_named(reading, "none").says), "There is no statement for its quarter now to compare it with.");
+    equal(reading->outdated.size(), 2u);
+    holds(arrived(*reading, {day}).is_ready(), "whole statements are at fault");
+    // Cut, out of range, terms that no file may state, another total, a line lost, the mark of the other form.
+    for (const Bytes &half :
+         {cut(same, 47), bytes_of("PT"), with(same, 2, 40'000, 4), with(same, 6, 96, 1), with(same, 35, 40, 1),
+          with(same, 36, 0, 2), with(same, 42, 1'001, 2), with(same, 11, 1 + same[11], 1), cut(same, same.size() - 42),
+          with(same, 1, 'S', 1), with(statement_of(bytes_at(in / "9")), 1, 'T', 1)}) {
+        put(in / "half", half);
+        const ReadIn now = read_now(in);
+        equal(english(file_named(now, "half").says),
+              "It begins as a statement and is none that is whole. It may be a correction that was damaged.");
+        holds(!arrived(*now, {day}).is_ready(), "half a statement is harmless");
+    }
+    fs::remove(in / "half");
+    const Bytes longest = drawer.stated_interval(day, 70, 256);
+    put(in / "70", longest);
+    put(in / "long", statement_of(longest));
+    equal(statement_of(longest).size(), most_bytes - 1);
+    equal(english(file_named(read_now(in), "long").says), "The same as worked out now.");
+}
+
 // Both amounts are told.
 void an_old_statement_is_told(const fs::path &examples) {
     const fs::path in = folder();
@@ -382,6 +430,46 @@ void an_old_statement_is_told(const fs::path &examples) {
     holds(!outdated(*reading, Slot{{day}, {10}}, {3}), "of another quarter");
     holds(chinese(outdated(*reading, Day{day}, {77})[0]).find("不在文件中") != std::string::npos,
           "a row that is nowhere");
+}
+
+// An interval file is replaced by one with other terms: the statement of before is told with both amounts, and both
+// terms. By hand: interval X under 45 percent is 650.00 yuan by 21,250 kWh, of which row 3 has 5,000: 152.94 yuan.
+void an_interval_file_with_other_terms(const fs::path &examples) {
+    const fs::path in = folder();
+    const Bytes plain = for_slot(bytes_at(examples / "x.interval"), day, 9);
+    const Bytes stated = made::stating(made::other_terms, plain);
+    const std::string issued =
+        "baseline 50 percent of full load; bids from 0.100 to 0.320 yuan for each kWh in tier 1, "
+        "from 0.320 to 0.750 in tier 2";
+    const std::string other = "baseline 45 percent of full load; bids from 0.150 to 0.300 yuan for each kWh in tier 1, "
+                              "from 0.350 to 0.650 in tier 2";
+    const auto told = [&](const Bytes &then, const Bytes &now) {
+        put(in / "h", now);
+        put(in / "booked", statement_of(then));
+        return outdated(*read_now(in), Slot{{day}, {9}}, {3}).value();
+    };
+    equal(english(told(plain, stated)),
+          "booked is a statement of another time for 2026-10-31 02:15–02:30. By it Row 3 pays 250.00 yuan; now it pays "
+          "152.94 yuan. Somebody may have booked it. Its interval file was replaced by one with other terms (Article "
+          "64). "
+          "Then: " +
+              issued + ". Now: " + other + ".");
+    equal(english(told(stated, plain)),
+          "booked is a statement of another time for 2026-10-31 02:15–02:30. By it Row 3 pays 152.94 yuan; now it pays "
+          "250.00 yuan. Somebody may have booked it. Its interval file was replaced by one with other terms (Article "
+          "64). "
+          "Then: " +
+              other + ". Now: " + issued + ".");
+    equal(chinese(told(plain, stated)),
+          "booked 是 2026-10-31 02:15–02:30 的旧结算单：编号 3当时支付 250.00 元，现在支付 152.94 "
+          "元。可能已有人据此入账。"
+          "其时段文件已换成基准和限价不同的文件（第六十四条）。当时：有偿调峰基准为额定容量的 50%；报价下限至上限："
+          "第一档 0.100 至 0.320 元/kWh，第二档 0.320 至 0.750 元/kWh。现在：有偿调峰基准为额定容量的 45%；"
+          "报价下限至上限：第一档 0.150 至 0.300 元/kWh，第二档 0.350 至 0.650 元/kWh。");
+    // Terms as issued are the same terms, stated or not; the statement is another one all the same.
+    equal(english(told(plain, made::stating(issued_terms, plain))),
+          "booked is a statement of another time for 2026-10-31 02:15–02:30. By it Row 3 pays 250.00 yuan; now it pays "
+          "250.00 yuan. Somebody may have booked it.");
 }
 
 // ---- names of plants ----
@@ -445,7 +533,9 @@ int main(int argc, char **argv) {
     named_otherwise();
     the_quarter_says_so();
     statements_are_compared();
+    statements_with_terms();
     an_old_statement_is_told(argv[1]);
+    an_interval_file_with_other_terms(argv[1]);
     plants_are_named();
     return check::passed("accounting");
 }

@@ -146,14 +146,35 @@ void is_line(const std::map<std::string, std::string> &line, const Line &due) {
     is_money(line, "net", due.net());
 }
 
+// Bytes 15 to 23 of a file that states its terms, else those of document 01; nothing where nothing was settled.
+void are_terms(const std::map<std::string, std::string> &line, View interval) {
+    std::vector<std::string> due{"", "", "", "", ""};
+    if (!interval.empty() && interval[1] == 'G') {
+        due[0] = std::to_string(interval[15]);
+        for (std::size_t limit = 0; limit < 4; ++limit) {
+            due[1 + limit] = std::to_string(interval[16 + 2 * limit] + 256 * interval[17 + 2 * limit]);
+        }
+    } else if (!interval.empty()) {
+        due = {"50", "100", "320", "320", "750"};
+    }
+    equal(line.at("baseline_percent"), due[0]);
+    equal(line.at("tier1_lowest_li"), due[1]);
+    equal(line.at("tier1_highest_li"), due[2]);
+    equal(line.at("tier2_lowest_li"), due[3]);
+    equal(line.at("tier2_highest_li"), due[4]);
+}
+
 // ---- folders ----
 
-// A drawn day: quarter 7 is missing, 8 is refused, 9 has two files, 10 a correction that is refused.
+// A drawn day: quarter 7 is missing, 8 is refused, 9 has two files, 10 a correction that is refused. From noon on the
+// files state their terms.
 fs::path drawn_day(bool is_complete) {
     Drawer drawer(11);
     const fs::path in = folder();
     for (std::uint8_t quarter = 0; quarter < quarters_of_day; ++quarter) {
-        Bytes interval = drawer.interval(day.number, quarter, 4 + drawer.below(16));
+        const std::uint32_t rows = 4 + drawer.below(16);
+        Bytes interval = quarter < 48 ? drawer.interval(day.number, quarter, rows)
+                                      : drawer.stated_interval(day.number, quarter, rows);
         const Bytes correction = drawer.correction(interval);
         if (!is_complete && quarter == 7) {
             continue;
@@ -161,8 +182,7 @@ fs::path drawn_day(bool is_complete) {
         if (!is_complete && quarter == 9) {
             put(in / "second", with(interval, 7, 4'001, 2));
         }
-        interval[15] = !is_complete && quarter == 8 ? 'X' : 'P';
-        put(in / numbered("h", quarter), interval);
+        put(in / numbered("h", quarter), !is_complete && quarter == 8 ? with(interval, 15, 'X', 1) : interval);
         if (quarter % 3 == 0 || quarter == 10) {
             put(in / numbered("k", quarter), !is_complete && quarter == 10 ? with(correction, 9, 'X', 1) : correction);
         }
@@ -186,6 +206,7 @@ void is_quarter(const std::map<std::string, std::string> &line, const PlantDay &
     } else {
         equal(line.at("net_fen") + line.at("paid_yuan") + line.at("metered_kwh") + line.at("kind"), "");
     }
+    are_terms(line, plant.reading->interval(*quarter.read));
     if (quarter.before) {
         is_money(line, "before_net", quarter.before->net());
     } else {
@@ -271,6 +292,7 @@ void all_rows() {
                 is_whole(written.at("quarter"), number);
                 is_whole(written.at("row"), line.id.number);
                 is_line(written, line);
+                are_terms(written, reading->interval(quarter));
                 sum += line.net().count;
                 const std::string name = unguarded(written.at("name"));
                 equal(name, line.id.number == 1 ? "=1+1, or \"so\" =一厂" : line.id.number == 2 ? "二厂" : "");
@@ -321,6 +343,9 @@ void the_list_of_files() {
         equal(line.at("what_to_do_zh"), file.advice ? file.advice->in(Tongue::chinese) : "");
         equal(line.at("sha256"), file.whole ? sha256(file.bytes) : "");
         equal(line.at("quarter").empty(), !file.slot.has_value());
+        holds(!file.slot || (line.at("form") == "interval file with stated terms 时段文件（载明基准和限价）") ==
+                                (file.form == Form::interval && file.slot->quarter.number >= 48),
+              "which files state their terms: " + line.at("form"));
         equal(line.at("faulty"), file.is_faulty() ? "1" : "0");
         equal(line.at("accounted_for"), file.fault == Fault::unaccounted ? "0" : "1");
     }

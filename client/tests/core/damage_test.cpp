@@ -3,9 +3,10 @@
 //
 //   damage_test [DRAWS [SEED]]
 //
-// First every damage of one correction: each byte changed (to all other values within its head), each cut, each lost
-// byte, a byte added at each place; links, files that may not be read, other names. Then so many drawn damages of drawn
-// days, of interval files too.
+// A third of the interval files of a day state their terms. First every damage of one correction of either form of
+// interval file, and of one file that states its terms: each byte changed (to all other values within its head), each
+// cut, each lost byte, a byte added at each place; links, files that may not be read, other names. Then so many drawn
+// damages of drawn days, of interval files too.
 #include "check.h"
 #include "trial.h"
 #include "view.h"
@@ -30,7 +31,8 @@ using Statements = std::map<std::uint8_t, Bytes>;
 // How files are called: in any way, or as we write names.
 enum class Naming { plain, written };
 
-constexpr std::size_t correction_head_length = 9;
+// Two quarters that are always corrected, the second of a file that states its terms.
+constexpr std::uint8_t of_plain = 40, of_stated = 41;
 
 // A complete day of few rows, some of it corrected, and its folder.
 struct WholeDay {
@@ -43,9 +45,12 @@ struct WholeDay {
     WholeDay(Drawer &drawer, std::uint32_t number, Naming how) : day(number), names(how) {
         for (std::uint8_t quarter = 0; quarter < quarters_of_day; ++quarter) {
             Pair &pair = pairs[quarter];
-            pair.interval = drawer.interval(day, quarter, 1 + drawer.below(4));
+            const bool is_stated = quarter == of_stated || (quarter != of_plain && drawer.below(3) == 0);
+            const std::uint32_t rows = 1 + drawer.below(4);
+            pair.interval =
+                is_stated ? drawer.stated_interval(day, quarter, rows) : drawer.interval(day, quarter, rows);
             put(path(quarter, "interval"), pair.interval);
-            if (drawer.below(16) == 0 || quarter == 40) {
+            if (drawer.below(16) == 0 || quarter == of_plain || quarter == of_stated) {
                 pair.correction = drawer.correction(pair.interval);
                 put(path(quarter, "correction"), pair.correction);
             }
@@ -82,11 +87,11 @@ Statements statements_of(const Reading &reading, std::uint32_t day) {
 // Whether the engine accepts a file, instead of the one that it was, for a quarter of the day: told here once more, in
 // the plainest way.
 bool is_accepted(const WholeDay &whole, std::uint8_t was, const std::string &kind, const Bytes &damaged) {
-    if (damaged.size() < 7 || damaged[0] != 'P' || (damaged[1] != 'H' && damaged[1] != 'K')) {
+    if (damaged.size() < 7 || damaged[0] != 'P' || (damaged[1] != 'H' && damaged[1] != 'G' && damaged[1] != 'K')) {
         return false;
     }
     const std::uint32_t day = damaged[2] | damaged[3] << 8 | damaged[4] << 16 | static_cast<unsigned>(damaged[5]) << 24;
-    const bool is_interval = damaged[1] == 'H';
+    const bool is_interval = damaged[1] != 'K';
     const std::uint8_t quarter = damaged[6];
     const bool is_elsewhere = quarter != was && whole.names == Naming::written;
     if (day != whole.day || quarter >= quarters_of_day || is_elsewhere || is_interval != (kind == "interval")) {
@@ -155,13 +160,15 @@ std::vector<std::uint8_t> others_of(std::uint8_t byte, bool is_head) {
     return values;
 }
 
-void every_damage(const WholeDay &whole, std::uint8_t quarter, Tally &tally) {
-    const Bytes good = whole.pairs.at(quarter).correction;
+void every_damage(const WholeDay &whole, std::uint8_t quarter, const std::string &kind, Tally &tally) {
+    const Pair &pair = whole.pairs.at(quarter);
+    const Bytes good = kind == "interval" ? pair.interval : pair.correction;
+    const std::size_t head = form_of(good)->head;
     const auto attempt = [&](const Bytes &damaged, const std::string &what, std::size_t at) {
-        try_bytes(whole, quarter, "correction", damaged, what + " " + std::to_string(at), tally);
+        try_bytes(whole, quarter, kind, damaged, what + " " + std::to_string(at), tally);
     };
     for (std::size_t at = 0; at < good.size(); ++at) {
-        for (const std::uint8_t value : others_of(good[at], at < correction_head_length)) {
+        for (const std::uint8_t value : others_of(good[at], at < head)) {
             attempt(with(good, at, value, 1), std::string("byte ").append(std::to_string(value)).append(" at"), at);
         }
         attempt(cut(good, at), "cut to", at);
@@ -227,7 +234,7 @@ void other_names(const WholeDay &whole, std::uint8_t quarter, Tally &tally) {
 Bytes drawn_damage(Drawer &drawer, const Bytes &good) {
     const auto at = drawer.below(static_cast<std::uint32_t>(good.size()));
     // Half of the damages are in the head, where they do most.
-    const auto near = drawer.below(2) == 0 ? at : at % correction_head_length;
+    const auto near = drawer.below(2) == 0 ? at : at % static_cast<std::uint32_t>(form_of(good)->head);
     const auto byte = static_cast<std::uint8_t>(drawer.below(256));
     switch (drawer.below(6)) {
     case 0:
@@ -287,9 +294,15 @@ int main(int argc, char **argv) {
     Tally every, drawn;
     for (const auto &[number, names] : {std::pair{9'800u, Naming::plain}, std::pair{0x0403u, Naming::written}}) {
         const WholeDay whole(drawer, number, names);
-        every_damage(whole, 40, every);
-        hidden_files(whole, 40, every);
-        other_names(whole, 40, every);
+        every_damage(whole, of_plain, "correction", every);
+        every_damage(whole, of_stated, "correction", every);
+        if (names == Naming::plain) { // where no name helps
+            every_damage(whole, of_stated, "interval", every);
+        }
+        for (const std::uint8_t quarter : {of_plain, of_stated}) {
+            hidden_files(whole, quarter, every);
+            other_names(whole, quarter, every);
+        }
     }
     tell("every place", every);
     drawn_damages(draws, seed, drawn);

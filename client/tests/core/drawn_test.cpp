@@ -2,9 +2,12 @@
 //
 //     pairs SEED COUNT | drawn_test
 //
-// Standard input has pairs of files: an interval file and its correction, each behind its length in four bytes.
+// Standard input has pairs of files: an interval file of either form and its correction, each behind its length in four
+// bytes. A pair that states no terms is explained once more with the terms as issued stated: alike, word for word.
 #include "check.h"
+#include "duties.h"
 #include "explain.h"
+#include "made.h"
 
 #include "wheatrudder.h"
 
@@ -49,7 +52,9 @@ std::optional<Quarter> settled(const Bytes &interval, const Bytes &correction) {
 }
 
 struct Tally {
-    std::size_t refused = 0, statements = 0, rows = 0, steps = 0, reasons = 0, most_rounds = 0;
+    std::size_t refused = 0, statements = 0, stated = 0, rows = 0, steps = 0, reasons = 0, alike = 0, most_rounds = 0;
+    // Rows between the stated baseline and that of the rules as issued: they pay, and would be paid there.
+    std::size_t between = 0;
     std::map<std::string, std::size_t> moved; // and noticed
 };
 
@@ -124,8 +129,14 @@ class Moving {
         in_head("total", WHEATRUDDER_HEAD_TOTAL, 8);
         in_head("shortfall", WHEATRUDDER_HEAD_SHORTFALL, 8);
         in_head("rounds", WHEATRUDDER_HEAD_ROUNDS, 2);
-        in_head("visits", WHEATRUDDER_HEAD_VISITS, 4);
         in_head("rows", WHEATRUDDER_HEAD_ROWS, 2);
+        if (states_terms(quarter_.statement.bytes())) {
+            in_head("visits, with stated terms", WHEATRUDDER_HEAD_VISITS_PT, 4);
+            in_head("baseline", WHEATRUDDER_HEAD_PERCENT_PT, 1);
+            in_head("a limit of bids", WHEATRUDDER_HEAD_LIMITS_PT + 2 * below(4), 2);
+        } else {
+            in_head("visits", WHEATRUDDER_HEAD_VISITS_PS, 4);
+        }
         in_line("id", WHEATRUDDER_LINE_ID, 2);
         in_line("compensation", WHEATRUDDER_LINE_COMPENSATION, 4);
         in_line("cut", WHEATRUDDER_LINE_CUT, 4);
@@ -148,8 +159,8 @@ class Moving {
   private:
     std::size_t below(std::size_t count) { return random_() % count; }
 
-    static std::size_t place(std::size_t position, std::size_t field) {
-        return WHEATRUDDER_STATEMENT_LENGTH(position) + field;
+    std::size_t place(std::size_t position, std::size_t field) const {
+        return form_of(quarter_.statement.bytes())->length(position) + field;
     }
 
     // Adds to a little-endian number, round its end where it passes it.
@@ -234,6 +245,31 @@ class Moving {
     Tally &tally_;
 };
 
+std::string told(const Quarter &quarter, RowId id) {
+    const auto answer = quarter.explained(id);
+    check::holds(std::holds_alternative<Explanation>(answer), "no explanation");
+    const Explanation &explanation = std::get<Explanation>(answer);
+    return as_text(explanation, Tongue::english) + as_text(explanation, Tongue::chinese);
+}
+
+// The same rows with the terms as issued, which the head states.
+void check_alike(const Quarter &plain, const Bytes &interval, const Bytes &correction, Tally &tally) {
+    const auto stated = settled(made::stating(issued_terms, interval), correction);
+    check::holds(stated && stated->statement.terms() == issued_terms, "refused, or no terms are stated");
+    for (const std::size_t position : to_explain(plain)) {
+        const RowId id = plain.statement.line(position).id;
+        check::equal(told(*stated, id), told(plain, id));
+        ++tally.alike;
+    }
+}
+
+bool is_between(const Quarter &quarter, std::size_t position) {
+    const Row &row = quarter.rows[position];
+    Rules issued = quarter.rules;
+    issued.terms = issued_terms;
+    return role_of(row, quarter.rules) == Role::payer && role_of(row, issued) == Role::receiver;
+}
+
 void check_pair(const Bytes &interval, const Bytes &correction, std::mt19937 &random, Tally &tally) {
     const auto now = settled(interval, correction);
     if (!now) {
@@ -242,10 +278,15 @@ void check_pair(const Bytes &interval, const Bytes &correction, std::mt19937 &ra
     }
     const auto before = settled(interval, {});
     ++tally.statements;
+    tally.stated += states_terms(interval);
+    if (!states_terms(interval)) {
+        check_alike(*now, interval, correction, tally);
+    }
     tally.most_rounds = std::max<std::size_t>(tally.most_rounds, now->statement.rounds());
     for (const std::size_t position : to_explain(*now)) {
         const Line line = now->statement.line(position);
         check_row(*now, line, tally);
+        tally.between += is_between(*now, position);
         if (!correction.empty() && before) {
             check_reasons(*before, *now, line.id, tally);
         }
@@ -254,9 +295,11 @@ void check_pair(const Bytes &interval, const Bytes &correction, std::mt19937 &ra
 }
 
 void print(const Tally &tally) {
-    std::cout << tally.statements << " statements (" << tally.refused << " pairs refused), at most "
-              << tally.most_rounds << " rounds; " << tally.rows << " rows explained in " << tally.steps << " steps, "
-              << tally.reasons << " reasons\n";
+    std::cout << tally.statements << " statements (" << tally.refused << " pairs refused), of these " << tally.stated
+              << " with stated terms, at most " << tally.most_rounds << " rounds; " << tally.rows
+              << " rows explained in " << tally.steps << " steps, " << tally.reasons << " reasons; " << tally.alike
+              << " rows alike with the terms as issued stated; " << tally.between
+              << " that pay and would be paid under these\n";
     for (const auto &[kind, count] : tally.moved) {
         std::cout << "  moved and noticed: " << kind << ", " << count << "\n";
     }
@@ -274,6 +317,7 @@ int main() {
         check_pair(*interval, *correction, random, tally);
     }
     print(tally);
-    check::holds(tally.statements > 0, "nothing was drawn");
+    check::holds(tally.statements > tally.stated && tally.stated > 0, "one of the two forms was not drawn");
+    check::holds(tally.between > 0, "no row lies between a stated baseline and that of the rules as issued");
     return check::passed("drawn");
 }

@@ -7,6 +7,7 @@
 // once and read against the rules, sentence by sentence; a change of it is to be read in the same way.
 #include "check.h"
 #include "explain.h"
+#include "made.h"
 
 #include "wheatrudder.h"
 
@@ -179,6 +180,10 @@ void add_worked_figures(Book &book, const std::string &examples) {
     add("odd-return", {1, 2, 3});
     add("each-its-round", {1, 2, 3, 4});
     add("two-at-once", {3, 4});
+    add("stated-45", {1, 2, 3});
+    add("stated-01", {2});
+    add("between", {1, 2, 3});
+    add("limits-meet", {1, 2});
 }
 
 const Unit seller{1, Kind::thermal, 100, 9'000, Status::normal, Offer{8'000, 200, 400}};
@@ -226,6 +231,33 @@ void add_penalties(Book &book) {
                                           {3, Kind::thermal, 100, 12'500, Status::reduced, Offer{11'000, 110, 400}},
                                           {4, Kind::thermal, 100, 20'000, Status::reduced}}),
              {2, 3, 4});
+}
+
+// A quarter under a baseline of 45 percent, 11,250 kWh of 100 MW and 11,362 of 101 MW, by hand.
+//
+// Tier 1 is 1,250 kWh wide, of row 2, whose minimum is 11,000, 250. Rows 6, 1 and 2 are called for all of it, by rising
+// bids, then row 1 for 2,000 in tier 2; 1,250 of the need stay uncovered. Row 1 holds back 1,250 and 1,000 kWh at 200
+// and 400 li: 650.00 yuan. Row 2 ran at 48 percent: it pays. Rows 2, 3 and 4 weigh 750, 16,250 and 5,000 kWh and pay
+// 22.16, 480.11 and 147.73 yuan. Row 5 ran at its baseline. Row 6 holds back 250 kWh, and owes 2 × 0.200 yuan for each
+// of the other 1,000: 400.00 yuan, which nobody needs.
+//
+// As issued tier 1 is 2,500 kWh wide, of row 2 1,500. Rows 6, 1 and 2 are called for 2,500, 2,500 and 1,000; row 2 sets
+// the price, 210 li, and is paid for 500 kWh: 105.00 yuan.
+const std::vector<Unit> around_45{{1, Kind::thermal, 100, 9'000, Status::normal, Offer{8'000, 200, 400}},
+                                  {2, Kind::thermal, 100, 12'000, Status::normal, Offer{11'000, 210, 400}},
+                                  {3, Kind::thermal, 100, 20'000},
+                                  {4, Kind::wind, 100, 5'000},
+                                  {5, Kind::thermal, 101, 11'362},
+                                  {6, Kind::thermal, 100, 11'000, Status::reduced, Offer{10'000, 190, 400}}};
+
+void add_terms(Book &book) {
+    const Bytes issued = interval({9, 1'300, 6'000}, around_45), stated = made::stating(made::other_terms, issued);
+    book.add("Terms that the interval file states", stated, {1, 2, 3, 4, 5, 6});
+    book.add("The same rows under the terms as issued", issued, {1, 2, 5});
+    Unit lower = around_45[1];
+    lower.metered = 11'000;
+    book.add_reasons("Terms that the interval file states, a neighbour goes below the baseline", stated,
+                     correction(9, {lower}), {2, 4});
 }
 
 const Unit large_seller{1, Kind::thermal, 2'000, 0, Status::normal, Offer{0, 320, 750}};
@@ -316,6 +348,24 @@ void add_names(Book &book, const std::string &examples) {
                      name_in_folder);
 }
 
+// Files that state the terms as issued are explained as files that state none, word for word.
+void check_alike(const std::string &examples) {
+    std::vector<Bytes> files{read(examples + "/x.interval"), many_rows_in_one_round(),
+                             interval({9, 1'300, 6'000}, around_45)};
+    for (const char *name : {"no-payers", "undelivered", "outbid", "odd-fen", "odd-cut", "reduced", "reduced-payer",
+                             "odd-return", "each-its-round", "two-at-once", "full", "no-rows"}) {
+        files.push_back(read(examples + "/tell/" + name + ".interval"));
+    }
+    for (const Bytes &file : files) {
+        const Settled plain = settled(file), stated = settled(made::stating(issued_terms, file));
+        check::holds(stated.rules.form == pg_form && stated.statement.terms() == issued_terms, "no terms are stated");
+        check::holds(plain.statement.lines() == stated.statement.lines(), "other lines");
+        for (const Line &line : plain.statement.lines()) {
+            check::equal(explained(stated, line.id, name_in_folder), explained(plain, line.id, name_in_folder));
+        }
+    }
+}
+
 std::string check_failed(const Statement &statement, const std::vector<Row> &rows, const Rules &rules,
                          std::uint16_t id) {
     const auto answer = explain(statement, rows, rules, {id}, name_in_folder);
@@ -323,9 +373,9 @@ std::string check_failed(const Statement &statement, const std::vector<Row> &row
     return disagreement == nullptr ? "none" : disagreement->check.in(Tongue::english);
 }
 
-// What is said where statement and rows do not fit: no figure is ever explained then.
-void check_disagreements(const std::string &examples) {
-    const auto [statement, rows, rules] = settled(read(examples + "/x.interval"));
+// What is said where statement and rows do not fit: no figure is ever explained then. Of interval X in either form.
+void check_disagreements(const Bytes &x) {
+    const auto [statement, rows, rules] = settled(x);
     const Bytes bytes(statement.bytes().begin(), statement.bytes().end());
     const auto failed = [&, &rows = rows, &rules = rules](const Bytes &altered) {
         return check_failed(Statement(altered), rows, rules, 2);
@@ -345,12 +395,21 @@ void check_disagreements(const std::string &examples) {
         check::equal(failed(Bytes(bytes.begin(), bytes.begin() + static_cast<std::ptrdiff_t>(length))),
                      "length of the statement");
     }
-    // Any byte at any place: no figure of it may bring the explanation down.
+    // Any byte at any place: no figure of it may bring the explanation down. Another mark is noticed, and other terms.
+    const bool has_terms = statement.terms().has_value();
+    const std::size_t terms_end = has_terms ? WHEATRUDDER_HEAD_VISITS_PT : WHEATRUDDER_HEAD_PERCENT_PT;
     for (std::size_t place = 0; place < bytes.size(); ++place) {
+        const bool is_of_terms = place >= WHEATRUDDER_HEAD_PERCENT_PT && place < terms_end;
         for (unsigned byte = 0; byte < 256; ++byte) {
             Bytes altered = bytes;
             altered[place] = static_cast<std::uint8_t>(byte);
-            check::holds(!failed(altered).empty(), "an explanation, or a check in words");
+            const std::string check = failed(altered);
+            check::holds(!check.empty(), "an explanation, or a check in words");
+            if (altered != bytes && (place < 2 || is_of_terms)) {
+                // A mark that says PT, or no longer does, says another length too.
+                const bool is_other_form = place < 2 && has_terms != states_terms(altered);
+                check::equal(check, is_other_form ? "length of the statement" : "mark and terms of the statement");
+            }
         }
     }
 }
@@ -373,7 +432,7 @@ void check_notices(const Bytes &interval, const std::vector<Moved> &all) {
 }
 
 std::size_t at(std::size_t position, std::size_t field) {
-    return WHEATRUDDER_STATEMENT_LENGTH(position) + field;
+    return ps_form.length(position) + field;
 }
 
 // The check that notices a moved figure names it.
@@ -385,7 +444,7 @@ void check_names_of_checks(const std::string &examples) {
     check_notices(x, {{{{WHEATRUDDER_HEAD_TOTAL, 1}}, "sum of all compensations"},
                       {{{WHEATRUDDER_HEAD_SHORTFALL, 1}}, covered},
                       {{{WHEATRUDDER_HEAD_ROUNDS, 1}}, "number of rounds"},
-                      {{{WHEATRUDDER_HEAD_VISITS, 1}}, "number of visits to payers"},
+                      {{{WHEATRUDDER_HEAD_VISITS_PS, 1}}, "number of visits to payers"},
                       {{{at(0, WHEATRUDDER_LINE_COMPENSATION), 1}}, "sum of all compensations"},
                       {{{at(0, WHEATRUDDER_LINE_CUT), 1}}, "sum of all cuts"},
                       {{{at(1, WHEATRUDDER_LINE_WEIGHT), 1}}, "weight of row 2"},
@@ -394,6 +453,14 @@ void check_names_of_checks(const std::string &examples) {
                       {{{at(1, WHEATRUDDER_LINE_PAID), 1}, {at(2, WHEATRUDDER_LINE_PAID), -1}}, "payment of row 2"},
                       {{{at(2, WHEATRUDDER_LINE_CLOSING), -1}}, "round in which row 3 reached its cap"},
                       {{{at(2, WHEATRUDDER_LINE_RETURNED), 1}}, "sum of all that is returned"}});
+    const std::size_t nine = pt_form.head - ps_form.head; // by which all that follows is moved
+    check_notices(
+        made::stating(made::other_terms, interval({9, 1'300, 6'000}, around_45)),
+        {{{{WHEATRUDDER_HEAD_VISITS_PT, 1}}, "number of visits to payers"},
+         {{{WHEATRUDDER_HEAD_PERCENT_PT, 1}}, "mark and terms of the statement"},
+         {{{WHEATRUDDER_HEAD_LIMITS_PT + 6, -1}}, "mark and terms of the statement"},
+         {{{at(1, WHEATRUDDER_LINE_WEIGHT) + nine, 1}}, "weight of row 2"},
+         {{{at(2, WHEATRUDDER_LINE_PAID) + nine, 1}, {at(3, WHEATRUDDER_LINE_PAID) + nine, -1}}, "payment of row 3"}});
     check_notices(read(examples + "/tell/no-payers.interval"),
                   {{{{at(0, WHEATRUDDER_LINE_COMPENSATION), 1}, {at(1, WHEATRUDDER_LINE_COMPENSATION), -1}},
                     "compensation of row 1"},
@@ -429,6 +496,7 @@ int main(int count, char **words) {
     add_worked_figures(book, examples);
     add_roles(book);
     add_penalties(book);
+    add_terms(book);
     add_many_rounds(book);
     add_corrections(book, examples);
     add_names(book, examples);
@@ -438,7 +506,10 @@ int main(int count, char **words) {
     }
     const Bytes due = read(words[2]);
     compare(book.text(), {due.begin(), due.end()});
-    check_disagreements(examples);
+    check_alike(examples);
+    const Bytes x = read(examples + "/x.interval");
+    check_disagreements(x);
+    check_disagreements(made::stating(issued_terms, x));
     check_names_of_checks(examples);
     return check::passed("explain");
 }

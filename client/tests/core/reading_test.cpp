@@ -59,6 +59,12 @@ Bytes interval_of(std::uint8_t quarter = nine, std::uint32_t tariff = 1'300) {
     return with(for_slot(x_interval, day, quarter), 7, tariff, 2);
 }
 
+// The same rows under 45 percent and other limits, which its head states: row 1 holds back 1,250 and 1,000 kWh at 200
+// and 400 li, 650.00 yuan, by 16,250 kWh of row 2 and 5,000 of row 3. Row 2 pays 497.06 yuan, and row 3 152.94.
+Bytes stated_interval_of(std::uint8_t quarter = nine) {
+    return made::stating(made::other_terms, interval_of(quarter));
+}
+
 Bytes correction_of(std::uint8_t quarter = nine) {
     return for_slot(x_correction, day, quarter);
 }
@@ -203,6 +209,58 @@ void states() {
     equal(english(*hindrance(*corrected, quarter_of(corrected, 10))),
           "No interval file for this quarter yet. Nothing can be said about it.");
     equal(chinese(*hindrance(*corrected, quarter_of(corrected, 10))), "本时段文件未到，暂无结果。");
+}
+
+// A file that states its terms is an interval file like any other, and its statement says the terms.
+void stated_terms() {
+    const ReadIn reading = read_pair(stated_interval_of(), correction_of());
+    const QuarterRead &quarter = quarter_of(reading);
+    equal(quarter.state, State::corrected);
+    holds(quarter.statement->terms() == made::other_terms && quarter.before->terms() == made::other_terms, "the terms");
+    equal(quarter.before->of({1})->compensation.count, 65'000);
+    equal(quarter.before->of({2})->paid.count, 49'706);
+    equal(quarter.before->of({3})->paid.count, 15'294);
+    const File &file = file_named(reading, "h");
+    equal(file.form, Form::interval);
+    equal(english(file.says), "Counts.");
+    equal(say(name_of(file), Tongue::english), "interval file with stated terms");
+    equal(say(name_of(file), Tongue::chinese), "时段文件（载明基准和限价）");
+    equal(say(name_of(file_named(reading, "k")), Tongue::english), "correction");
+    equal(reading->count(Form::interval), 1u);
+    holds(!quarter_of(read_pair(interval_of())).statement->terms(), "a head PH states terms");
+}
+
+// The control centre has sent the file again with other terms: nobody chooses, and both terms are told.
+void two_terms() {
+    const fs::path in = folder();
+    put(in / "a", interval_of());
+    put(in / "b", stated_interval_of());
+    ReadIn reading = read_now(in);
+    equal(quarter_of(reading).state, State::two_intervals);
+    equal(
+        english(*hindrance(*reading, quarter_of(reading))),
+        "No statement: a and b are both for this quarter and differ. Take away the wrong one. Their terms differ "
+        "(Article 64). a: baseline 50 percent of full load; bids from 0.100 to 0.320 yuan for each kWh in tier 1, from "
+        "0.320 to 0.750 in tier 2. b: baseline 45 percent of full load; bids from 0.150 to 0.300 yuan for each kWh in "
+        "tier 1, from 0.350 to 0.650 in tier 2.");
+    equal(
+        chinese(*hindrance(*reading, quarter_of(reading))),
+        "无结算单：a 与 b 同属本时段但内容不同，请移走错误的文件。两者的基准和限价不同（第六十四条）。"
+        "a：有偿调峰基准为额定容量的 50%；报价下限至上限：第一档 0.100 至 0.320 元/kWh，第二档 0.320 至 0.750 元/kWh。"
+        "b：有偿调峰基准为额定容量的 45%；报价下限至上限：第一档 0.150 至 0.300 元/kWh，第二档 0.350 至 0.650 "
+        "元/kWh。");
+    // The same terms, terms that are out of range, a head that is cut: nothing is said of them.
+    const std::string plain = "No statement: a and b are both for this quarter and differ. Take away the wrong one.";
+    for (const Bytes &other : {made::stating(issued_terms, interval_of()), with(stated_interval_of(), 15, 40, 1),
+                               cut(stated_interval_of(), 20)}) {
+        put(in / "b", other);
+        reading = read_now(in);
+        equal(english(*hindrance(*reading, quarter_of(reading))), plain);
+    }
+    // Once the old one is taken away the new one counts.
+    put(in / "b", stated_interval_of());
+    fs::remove(in / "a");
+    equal(quarter_of(read_now(in)).statement->of({3})->paid.count, 15'294);
 }
 
 void two_interval_files() {
@@ -356,8 +414,8 @@ void refusals_of_interval_files() {
     is_refused({good.begin(), good.begin() + 14}, correction_of(),
                {{1, 0},
                 "h",
-                "Check 1: The file is shorter than a head (15 bytes).",
-                "第 1 项检查：文件不足文件头长度（15 字节）。"});
+                "Check 1: The file is shorter than its head (15 bytes, or 24 if it begins with PG).",
+                "第 1 项检查：文件不足文件头长度（15 字节，以 PG 开头的为 24 字节）。"});
     is_refused(with(good, 7, 0, 2), correction_of(),
                {{3, 0},
                 "h",
@@ -383,6 +441,78 @@ void refusals_of_interval_files() {
                 "h",
                 "Check 7: The id of entry 2 (id 1) is not above the one before.",
                 "第 7 项检查：第 2 条（编号 1）的编号不大于上一条。"});
+}
+
+// The same checks of a file that states its terms, whose rows begin at byte 24; and that of the terms.
+void refusals_of_stated_terms() {
+    const Bytes good = stated_interval_of();
+    const Bytes row_2 = with(good, 24 + 21 + 2, 753, 2);
+    Bytes longer = good;
+    longer.push_back(0);
+    const Due too_short{{1, 0},
+                        "h",
+                        "Check 1: The file is shorter than its head (15 bytes, or 24 if it begins with PG).",
+                        "第 1 项检查：文件不足文件头长度（15 字节，以 PG 开头的为 24 字节）。"};
+    is_refused(cut(good, 14), correction_of(), too_short);
+    is_refused(cut(good, 15), {}, too_short);
+    is_refused(cut(good, 23), correction_of(), too_short);
+    const Due out_of_range{{3, 0},
+                           "h",
+                           "Check 3: Day, quarter, tariff, need or number of rows is out of range.",
+                           "第 3 项检查：文件头的日期、时段、电价、需求或行数越界。"};
+    is_refused(with(good, 7, 0, 2), correction_of(), out_of_range);
+    is_refused(with(with(good, 7, 0, 2), 15, 40, 1), {}, out_of_range); // before the terms
+    const Due terms{
+        {14, 0},
+        "h",
+        "Check 14: The terms that the head states are not allowed: the baseline or a limit of bids is out of "
+        "range, or the limits do not rise.",
+        "第 14 项检查：文件头载明的有偿调峰基准或报价上下限越界，或各限值未依次递增。"};
+    is_refused(with(good, 15, 40, 1), correction_of(), terms);
+    is_refused(with(good, 15, 51, 1), {}, terms);
+    is_refused(with(good, 16, 0, 2), {}, terms);
+    is_refused(with(good, 16, 300, 2), {}, terms);
+    is_refused(with(good, 18, 351, 2), {}, terms);
+    is_refused(with(good, 20, 650, 2), {}, terms);
+    is_refused(with(good, 22, 1'001, 2), {}, terms);
+    is_refused(with(longer, 15, 40, 1), {}, terms); // before the length
+    is_refused(longer, {},
+               {{4, 0},
+                "h",
+                "Check 4: The length does not fit the number of rows: bytes were lost or added.",
+                "第 4 项检查：文件长度与行数不符，字节丢失或多余。"});
+    is_refused(with(row_2, 24 + 21, 'Q', 1), {},
+               {{5, 2},
+                "h",
+                "Check 5: Entry 2 (id 753) does not begin with PR: damaged.",
+                "第 5 项检查：第 2 条（编号 753）不以 PR 开头，文件损坏。"});
+    const Due row_1{{6, 1},
+                    "h",
+                    "Check 6: A figure of entry 1 (id 1) is out of range.",
+                    "第 6 项检查：第 1 条（编号 1）的数值越界。"};
+    is_refused(with(good, 24 + 13, 11'251, 4), {}, row_1); // its minimum
+    is_refused(with(good, 24 + 17, 149, 2), {}, row_1);    // its bids
+    is_refused(with(good, 24 + 19, 651, 2), {}, row_1);
+    is_refused(with(good, 24 + 21 + 2, 1, 2), correction_of(),
+               {{7, 2},
+                "h",
+                "Check 7: The id of entry 2 (id 1) is not above the one before.",
+                "第 7 项检查：第 2 条（编号 1）的编号不大于上一条。"});
+    // A correction's row, held to the terms of the interval file: a minimum that the rules as issued would allow.
+    Bytes offering = made::correction({{day}, {nine}}, {made::rows_of_x()[0]});
+    set(offering, 9 + 13, 11'251, 4);
+    is_refused(good, offering,
+               {{8, 1},
+                "k",
+                "Check 8: The correction itself is faulty, at entry 1 (id 1).",
+                "第 8 项检查：更正文件第 1 条（编号 1）有误。"});
+    is_refused(
+        good, with(correction_of(), 9 + 2, 753, 2),
+        {{10, 1},
+         "k",
+         "Check 10: Entry 1 (id 753) of the correction names no row, or changes more than meter reading and status.",
+         "第 10 项检查：更正文件第 1 条（编号 753）无对应机组，或改动了电量和状态以外的内容。"});
+    equal(english(*file_named(read_pair(with(good, 15, 40, 1), {}), "h").advice), "Ask the sender.");
 }
 
 void refusals_of_corrections() {
@@ -414,27 +544,28 @@ void words_of_every_number() {
     const auto words = [](unsigned number, unsigned place, std::optional<RowId> id = {}) {
         return refusal_words({{number, place}, 0, id});
     };
-    equal(english(words(2, 0)), "Check 2: It does not begin with PH: no interval file.");
-    equal(chinese(words(2, 0)), "第 2 项检查：文件不以 PH 开头，不是时段文件。");
+    equal(english(words(2, 0)), "Check 2: It begins with neither PH nor PG: no interval file.");
+    equal(chinese(words(2, 0)), "第 2 项检查：文件不以 PH 或 PG 开头，不是时段文件。");
     equal(english(words(9, 0)), "Check 9: The correction is for another day or quarter.");
     equal(chinese(words(9, 0)), "第 9 项检查：更正文件的日期或时段不符。");
     equal(english(words(11, 0)), "Check 11: The client lent too short a buffer: our fault.");
     equal(chinese(words(11, 0)), "第 11 项检查：客户端缓冲区过短，属程序缺陷。");
     equal(english(words(5, 256)), "Check 5: Entry 256 does not begin with PR: damaged.");
     equal(chinese(words(5, 256)), "第 5 项检查：第 256 条不以 PR 开头，文件损坏。");
-    for (const unsigned number : {0u, 12u, 23u, 4'000'000'000u}) {
+    for (const unsigned number : {0u, 12u, 13u, 15u, 23u, 4'000'000'000u}) {
         const std::string text = std::to_string(number);
         equal(english(words(number, 2)), "Refused by check " + text + ", entry 2; this version has no words for it.");
         equal(chinese(words(number, 2)), "第 " + text + " 项检查未通过（第 2 条），本版本暂无说明。");
     }
     std::set<std::string> said;
-    for (unsigned number = 1; number <= 11; ++number) {
+    for (const unsigned number : {1u, 2u, 3u, 4u, 5u, 6u, 7u, 8u, 9u, 10u, 11u, 14u}) {
         holds(said.insert(english(words(number, 3, RowId{753}))).second, "said before");
         holds(!english(refusal_advice({number, 3})).empty() && !chinese(refusal_advice({number, 3})).empty(), "advice");
     }
     equal(english(refusal_advice({10, 1})), "Ask the control centre.");
     equal(chinese(refusal_advice({10, 1})), "请联系调控中心。");
-    equal(english(refusal_advice({14, 1})), "Ask for a newer version of this program.");
+    equal(chinese(refusal_advice({14, 0})), "请与发送方核对。");
+    equal(english(refusal_advice({12, 1})), "Ask for a newer version of this program.");
 }
 
 // ---- files of other kinds ----
@@ -449,24 +580,29 @@ void files_of_no_quarter() {
     put(in / "h", interval_of());
     put(in / "other", bytes_of("a text"));
     put(in / "p", bytes_of("P"));
-    for (const char mark : {'G', 'T', 'U', 'W'}) {
+    put(in / "far-g", for_slot(stated_interval_of(), 36'525, 0));
+    put(in / "cut-g", Bytes{'P', 'G', 0, 0, 0, 0});
+    for (const char mark : {'U', 'W'}) {
         put(in / std::string(1, mark), with(interval_of(), 1, static_cast<std::uint8_t>(mark), 1));
     }
     const ReadIn reading = read_now(in);
     equal(reading->days.size(), 1u);
     equal(english(file_named(reading, "cut").says),
-          "It names no day and quarter. Check 1: The file is shorter than a head (15 bytes).");
+          "It names no day and quarter. Check 1: The file is shorter than its head (15 bytes, or 24 if it begins with "
+          "PG).");
+    equal(english(file_named(reading, "cut-g").says), english(file_named(reading, "cut").says));
     equal(english(file_named(reading, "cut-k").says),
           "It names no day and quarter. Check 8: The correction itself is faulty, at its head or length.");
     equal(english(file_named(reading, "far").says),
           "It names no day and quarter. Check 3: Day, quarter, tariff, need or number of rows is out of range.");
+    equal(english(file_named(reading, "far-g").says), english(file_named(reading, "far").says));
     equal(chinese(file_named(reading, "far-k").says),
           "文件未指明有效的日期和时段。第 8 项检查：更正文件的文件头或长度有误。");
     equal(english(file_named(reading, "empty").says),
           "Empty. It may be an interval file or a correction that did not arrive.");
     equal(file_named(reading, "empty").form, Form::empty);
-    equal(reading->count(Form::coming), 4u);
-    equal(english(file_named(reading, "G").says), "This version does not know this form.");
+    equal(reading->count(Form::coming), 2u);
+    equal(english(file_named(reading, "W").says), "This version does not know this form.");
     equal(english(file_named(reading, "other").says),
           "Nobody knows what this is. It may be a correction that was damaged.");
     equal(file_named(reading, "p").form, Form::unknown);
@@ -857,7 +993,9 @@ void drawn_transitions() {
                             correction_of(10),
                             bytes_of("text"),
                             {},
-                            with(interval_of(), 15, 0, 1)};
+                            with(interval_of(), 15, 0, 1),
+                            stated_interval_of(),
+                            stated_interval_of(10)};
     for (int pair = 0; pair < 500; ++pair) {
         const Content one = draw_content(drawer, pool), other = draw_content(drawer, pool);
         const fs::path in = folder(), fresh = folder();
@@ -1087,7 +1225,9 @@ void drawn_day() {
     const fs::path in = folder();
     std::vector<Drawn> due;
     for (std::uint8_t quarter = 0; quarter < quarters_of_day; ++quarter) {
-        Drawn drawn{drawer.interval(day, quarter, 1 + drawer.below(40)), {}};
+        const std::uint32_t rows = 1 + drawer.below(40);
+        Drawn drawn{quarter % 2 == 0 ? drawer.interval(day, quarter, rows) : drawer.stated_interval(day, quarter, rows),
+                    {}};
         put(in / numbered("h", quarter), drawn.interval);
         if (drawer.below(3) == 0) {
             drawn.correction = drawer.correction(drawn.interval);
@@ -1110,12 +1250,15 @@ void drawn_day() {
 
 void all_states() {
     states();
+    stated_terms();
     two_interval_files();
+    two_terms();
     two_corrections();
     equal_copies();
     corrections_left_over();
     arriving();
     refusals_of_interval_files();
+    refusals_of_stated_terms();
     refusals_of_corrections();
     words_of_every_number();
 }

@@ -1,8 +1,12 @@
-// Rules other than those that the engine settles by today. Every figure here was worked out by hand from document 01
-// with 45 percent in the place of 50: 45, 40, 60 and 70 percent of 100 MW are 11,250, 10,000, 15,000 and 17,500 kWh.
+// The rules of a quarter, from the head of its interval file. Every figure here was worked out by hand from document 01
+// with 45 percent in the place of 50 (document 02, request 6): 45, 40, 60 and 70 percent of 100 MW are 11,250, 10,000,
+// 15,000 and 17,500 kWh.
 #include "check.h"
 #include "duties.h"
 #include "explain.h"
+#include "made.h"
+
+#include <map>
 
 using namespace client;
 
@@ -16,16 +20,12 @@ void set(Bytes &bytes, std::size_t at, std::uint64_t number, std::size_t width) 
 
 // An interval file without rows, at 0.1300 yuan for each kWh.
 Bytes interval() {
-    Bytes bytes(interval_form.length(0));
-    bytes[0] = 'P', bytes[1] = 'H';
-    set(bytes, 7, 1'300, 2);
-    return bytes;
+    return made::interval({{0}, {0}}, 1'300, {}, 0);
 }
 
+// The rules of one that states this baseline.
 Rules rules_at(int baseline) {
-    Rules rules = rules_of(interval());
-    rules.baseline = baseline;
-    return rules;
+    return rules_of(made::stating({baseline, made::other_terms.limits}, interval()));
 }
 
 Row thermal(std::int64_t metered, Status status = Status::normal, std::int64_t capacity = 100) {
@@ -38,26 +38,123 @@ void check_forms() {
         return form ? std::to_string(form->head) + " + " + std::to_string(form->row) : "none";
     };
     check::equal(lengths({'P', 'H'}), "15 + 21");
+    check::equal(lengths({'P', 'G'}), "24 + 21");
     check::equal(lengths({'P', 'K', 0}), "9 + 21");
     check::equal(lengths({'P', 'S'}), "39 + 42");
-    for (const Bytes &other : {Bytes{}, Bytes{'P'}, Bytes{'P', 'G'}, Bytes{'H', 'P'}, Bytes{'P', 'h'}, Bytes{'K'}}) {
+    check::equal(lengths({'P', 'T'}), "48 + 42");
+    for (const Bytes &other : {Bytes{}, Bytes{'P'}, Bytes{'P', 'W'}, Bytes{'H', 'P'}, Bytes{'P', 'h'}, Bytes{'K'}}) {
         check::equal(lengths(other), "none");
     }
-    check::equal(interval_form.length(256), std::size_t{5'391});
-    check::equal(interval_form.head, std::size_t{15});
-    check::equal(correction_form.head, std::size_t{9});
+    check::equal(ph_form.length(256), std::size_t{5'391});
+    check::equal(pg_form.length(256), std::size_t{5'400});
+    check::equal(pt_form.length(256), std::size_t{10'800});
+}
+
+// A whole file of one form has never, and not with a byte more or less either, the length of another form.
+void check_lengths() {
+    std::map<std::size_t, FileForm> near;
+    for (const FileForm &form : forms) {
+        for (std::size_t rows = 0; rows <= 256; ++rows) {
+            for (const std::size_t length : {form.length(rows) - 1, form.length(rows), form.length(rows) + 1}) {
+                const auto [found, is_new] = near.emplace(length, form);
+                check::holds(is_new || found->second == form, "two forms of nearly one length");
+            }
+        }
+    }
+}
+
+std::string described(const Terms &terms) {
+    std::string all = std::to_string(terms.baseline);
+    for (const Li limit : terms.limits) {
+        all.append(" ").append(std::to_string(limit.count));
+    }
+    return all;
 }
 
 // What a head PH means.
 void check_rules_as_issued() {
     const Rules rules = rules_of(interval());
-    check::holds(rules.form == interval_form, "the form");
+    check::holds(rules.form == ph_form, "the form");
     check::equal(rules.tariff.count, 1'300);
-    check::equal(rules.baseline, 50);
+    check::equal(described(rules.terms), "50 100 320 320 750");
     check::equal(rules.tier_2, 40);
     check::holds(rules.band_ends == std::array{60, 70} && rules.factors == std::array{1, 2, 3}, "the weights");
     check::holds(rules.thermal_cap == Ratio{1, 4} && rules.renewable_cap == Ratio{1, 2}, "the caps");
     check::equal(rules.penalty, 2);
+    check::holds(!head_of(interval()).terms, "a head PH states terms");
+}
+
+// A head PG states its terms, and means the same by all else.
+void check_rules_as_stated() {
+    const Bytes stating = made::stating({41, {Li{1}, Li{258}, Li{259}, Li{1'000}}}, interval());
+    check::equal(stating.size(), std::size_t{24});
+    check::equal(described(head_of(stating).terms.value()), "41 1 258 259 1000");
+    Rules rules = rules_of(stating);
+    check::holds(rules.form == pg_form, "the form");
+    check::equal(described(rules.terms), "41 1 258 259 1000");
+    rules.form = ph_form;
+    rules.terms = issued_terms;
+    check::holds(rules == rules_of(interval()), "something but the terms differs");
+}
+
+// Check 14, number by number.
+void check_terms_allowed() {
+    const auto are = [](int baseline, std::int64_t first, std::int64_t second, std::int64_t third, std::int64_t last) {
+        return are_allowed({baseline, {Li{first}, Li{second}, Li{third}, Li{last}}});
+    };
+    check::holds(are(50, 100, 320, 320, 750) && are(41, 1, 2, 2, 3) && are(45, 150, 300, 350, 1'000), "allowed");
+    check::holds(!are(40, 100, 320, 320, 750) && !are(51, 100, 320, 320, 750) && !are(0, 100, 320, 320, 750),
+                 "baseline");
+    check::holds(!are(45, 0, 320, 320, 750) && !are(45, 320, 320, 320, 750) && !are(45, 100, 321, 320, 750) &&
+                     !are(45, 100, 320, 750, 750) && !are(45, 100, 320, 320, 1'001),
+                 "limits");
+    // The engine says the same of a file that states them.
+    for (const int baseline : {40, 41, 45, 50, 51, 255}) {
+        for (const auto &limits : std::vector<std::array<Li, 4>>{{Li{100}, Li{320}, Li{320}, Li{750}},
+                                                                 {Li{0}, Li{1}, Li{1}, Li{2}},
+                                                                 {Li{1}, Li{1}, Li{2}, Li{3}},
+                                                                 {Li{1}, Li{3}, Li{2}, Li{4}},
+                                                                 {Li{1}, Li{2}, Li{3}, Li{3}},
+                                                                 {Li{997}, Li{998}, Li{999}, Li{1'000}},
+                                                                 {Li{998}, Li{999}, Li{1'000}, Li{1'001}}}) {
+            const Terms terms{baseline, limits};
+            const auto answer = settle(made::stating(terms, interval()), {});
+            const auto *refusal = std::get_if<Refusal>(&answer);
+            check::equal(refusal == nullptr ? 0 : refusal->number, are_allowed(terms) ? 0u : 14u, described(terms));
+        }
+    }
+}
+
+// Minimum and bids of an offering row of 101 MW under 45 percent: its baseline is 11,362.5 kWh, cut.
+void check_offers() {
+    const auto number = [](unsigned minimum, unsigned bid1, unsigned bid2) {
+        const Bytes file = made::interval({{0}, {0}}, 1'300, {{1, 1, 101, 9'000, 0, 1, minimum, bid1, bid2}});
+        const auto answer = settle(made::stating(made::other_terms, file), {});
+        const auto *refusal = std::get_if<Refusal>(&answer);
+        return refusal == nullptr ? 0 : refusal->number;
+    };
+    check::equal(number(11'362, 150, 350), 0u);
+    check::equal(number(11'363, 150, 350), 6u);
+    check::equal(number(0, 300, 650), 0u);
+    check::equal(number(0, 149, 350), 6u);
+    check::equal(number(0, 301, 350), 6u);
+    check::equal(number(0, 150, 349), 6u);
+    check::equal(number(0, 150, 651), 6u);
+    // A correction's row is held to the terms of its interval file.
+    const made::Entry row{1, 1, 100, 9'000, 0, 1, 8'000, 160, 360};
+    const Bytes file = made::stating(made::other_terms, made::interval({{0}, {0}}, 1'300, {row}));
+    const auto corrected = [&](unsigned minimum, unsigned bid1) {
+        made::Entry other = row;
+        other.minimum = minimum;
+        other.bid1 = bid1;
+        const auto answer = settle(file, made::correction({{0}, {0}}, {other}));
+        const auto *refusal = std::get_if<Refusal>(&answer);
+        return refusal == nullptr ? 0 : refusal->number;
+    };
+    check::equal(corrected(8'000, 160), 0u);
+    check::equal(corrected(11'251, 160), 8u);
+    check::equal(corrected(11'250, 160), 10u); // within the terms, and not the row's
+    check::equal(corrected(8'000, 149), 8u);
 }
 
 void check_roles() {
@@ -155,16 +252,25 @@ const std::vector<Given> quarter{
     {{{6}, Kind::thermal, 100, {11'000}, Status::reduced}, 1'250, 0, 0, 0, 0, 0, 40'000, 40'000},
 };
 
-Statement statement() {
-    Bytes bytes(statement_form.length(quarter.size()));
+// With a head PT that states the terms, or with a head PS.
+Statement statement(const FileForm &form) {
+    Bytes bytes(form.length(quarter.size()));
+    std::copy(form.mark.begin(), form.mark.end(), bytes.begin());
     set(bytes, WHEATRUDDER_HEAD_PRICE1, 200, 2);
     set(bytes, WHEATRUDDER_HEAD_PRICE2, 400, 2);
     set(bytes, WHEATRUDDER_HEAD_TOTAL, 65'000, 8);
     set(bytes, WHEATRUDDER_HEAD_ROWS, quarter.size(), 2);
-    set(bytes, WHEATRUDDER_HEAD_VISITS, 3, 4);
+    if (form == pt_form) {
+        set(bytes, WHEATRUDDER_HEAD_PERCENT_PT, 45, 1);
+        for (std::size_t limit = 0; limit < 4; ++limit) {
+            const auto li = static_cast<std::uint64_t>(made::other_terms.limits[limit].count);
+            set(bytes, WHEATRUDDER_HEAD_LIMITS_PT + 2 * limit, li, 2);
+        }
+    }
+    set(bytes, form == pt_form ? WHEATRUDDER_HEAD_VISITS_PT : WHEATRUDDER_HEAD_VISITS_PS, 3, 4);
     for (std::size_t position = 0; position < quarter.size(); ++position) {
         const Given &is = quarter[position];
-        const std::size_t line = statement_form.length(position);
+        const std::size_t line = form.length(position);
         set(bytes, line + WHEATRUDDER_LINE_ID, is.row.id.number, 2);
         set(bytes, line + WHEATRUDDER_LINE_CALLED1, is.called_1, 4);
         set(bytes, line + WHEATRUDDER_LINE_CALLED2, is.called_2, 4);
@@ -178,17 +284,17 @@ Statement statement() {
     return Statement(bytes);
 }
 
-std::variant<Explanation, Disagreement> explained(std::uint16_t id, int baseline) {
+std::variant<Explanation, Disagreement> explained(std::uint16_t id, const FileForm &form, const Rules &rules) {
     std::vector<Row> rows;
     for (const Given &is : quarter) {
         rows.push_back(is.row);
     }
-    return explain(statement(), rows, rules_at(baseline), {id});
+    return explain(statement(form), rows, rules, {id});
 }
 
 // Whether a row's steps have this sentence, in both tongues.
 void has(std::uint16_t id, const std::string &english, const std::string &chinese) {
-    const auto answer = explained(id, 45);
+    const auto answer = explained(id, pt_form, rules_at(45));
     if (const auto *disagreement = std::get_if<Disagreement>(&answer)) {
         check::holds(false, disagreement->check.in(Tongue::english));
     }
@@ -202,6 +308,14 @@ void has(std::uint16_t id, const std::string &english, const std::string &chines
 }
 
 void check_words() {
+    for (const Given &is : quarter) {
+        has(is.row.id.number,
+            "For this quarter the interval file states other terms than the rules as issued (Article 64): baseline 45 "
+            "percent of full load; bids from 0.150 to 0.300 yuan for each kWh in tier 1, from 0.350 to 0.650 in tier "
+            "2.",
+            "本时段文件载明的基准和限价与原规则不同（第六十四条）：有偿调峰基准为额定容量的 45%；报价下限至上限："
+            "第一档 0.150 至 0.300 元/kWh，第二档 0.350 至 0.650 元/kWh。");
+    }
     has(1,
         "This thermal unit ran at 36 percent load: 9,000 kWh. That is below the baseline of 45 percent (11,250 kWh), "
         "under which regulation is paid, so it can be paid (Article 21).",
@@ -241,12 +355,24 @@ void check_words() {
         "（第五十二条）。");
 }
 
-// The same statement does not fit the rules as they were issued, under which row 2 would be a receiver.
+// The same figures do not fit the rules as they were issued, under which row 2 would be a receiver; and the statement
+// itself says under which terms it was made.
 void check_rules_count() {
-    for (const Given &is : quarter) {
-        const auto answer = explained(is.row.id.number, 50);
+    const auto failed = [](std::uint16_t id, const FileForm &form, const Rules &rules) {
+        const auto answer = explained(id, form, rules);
         const auto *disagreement = std::get_if<Disagreement>(&answer);
-        check::equal(disagreement == nullptr ? "none" : disagreement->check.in(Tongue::english), "weight of row 2");
+        return disagreement == nullptr ? "none" : disagreement->check.in(Tongue::english);
+    };
+    const Rules issued = rules_of(interval());
+    Rules other_limit = rules_at(45);
+    other_limit.terms.limits[3] += Li{1};
+    for (const Given &is : quarter) {
+        const std::uint16_t id = is.row.id.number;
+        check::equal(failed(id, ps_form, issued), "weight of row 2");
+        check::equal(failed(id, pt_form, issued), "mark and terms of the statement");
+        check::equal(failed(id, ps_form, rules_at(45)), "mark and terms of the statement");
+        check::equal(failed(id, pt_form, rules_at(46)), "mark and terms of the statement");
+        check::equal(failed(id, pt_form, other_limit), "mark and terms of the statement");
     }
 }
 
@@ -270,7 +396,11 @@ void check_sentences() {
 
 int main() {
     check_forms();
+    check_lengths();
     check_rules_as_issued();
+    check_rules_as_stated();
+    check_terms_allowed();
+    check_offers();
     check_roles();
     check_energies();
     check_other_numbers();

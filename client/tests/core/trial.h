@@ -1,7 +1,9 @@
 // A folder to try things in, and files to put there.
 #pragma once
 
+#include "made.h"
 #include "reading.h"
+#include "rules.h"
 
 #include <cstdio>
 #include <cstdlib>
@@ -129,27 +131,33 @@ class Drawer {
     std::uint32_t below(std::uint32_t end) { return std::uniform_int_distribution<std::uint32_t>(0, end - 1)(random_); }
 
     Bytes interval(std::uint32_t day, std::uint8_t quarter, std::uint32_t rows) {
-        Bytes bytes(15 + row_length * rows);
-        bytes[0] = 'P', bytes[1] = 'H';
-        set(bytes, 7, 1 + below(4'000), 2);
-        set(bytes, 9, below(200'000), 4);
-        set(bytes, 13, rows, 2);
-        for (std::uint32_t row = 0; row < rows; ++row) {
-            put_row(bytes, 15 + row_length * row, 1 + 7 * row + below(7));
-        }
-        return for_slot(bytes, day, quarter);
+        return interval_under(client::issued_terms, day, quarter, rows);
+    }
+
+    // One that states its terms, which are any.
+    Bytes stated_interval(std::uint32_t day, std::uint8_t quarter, std::uint32_t rows) {
+        const client::Terms terms = drawn_terms();
+        return made::stating(terms, interval_under(terms, day, quarter, rows));
+    }
+
+    client::Terms drawn_terms() {
+        client::Terms terms{static_cast<int>(41 + below(10)), {}};
+        const std::int64_t first = 1 + below(400), second = first + 1 + below(200), third = second + below(200);
+        terms.limits = {{{first}, {second}, {third}, {third + 1 + below(200)}}};
+        return terms;
     }
 
     // Other readings for one to all of its rows.
     Bytes correction(const Bytes &interval) {
         Bytes bytes = for_slot({'P', 'K', 0, 0, 0, 0, 0, 0, 0}, 0, 0);
         std::copy(interval.begin() + 2, interval.begin() + 7, bytes.begin() + 2);
-        const std::size_t rows = (interval.size() - 15) / row_length;
+        const std::size_t head = client::form_of(interval)->head;
+        const std::size_t rows = (interval.size() - head) / row_length;
         const std::size_t sure = below(static_cast<std::uint32_t>(rows));
         std::uint16_t entries = 0;
         for (std::size_t row = 0; row < rows; ++row) {
             if (row == sure || below(3) == 0) {
-                const auto from = interval.begin() + static_cast<std::ptrdiff_t>(15 + row_length * row);
+                const auto from = interval.begin() + static_cast<std::ptrdiff_t>(head + row_length * row);
                 bytes.insert(bytes.end(), from, from + row_length);
                 set(bytes, bytes.size() - row_length + 7, below(275u * bytes[bytes.size() - row_length + 5]), 4);
                 ++entries;
@@ -159,7 +167,26 @@ class Drawer {
     }
 
   private:
-    void put_row(Bytes &bytes, std::size_t at, std::uint32_t id) {
+    // A head that states nothing, and rows within these terms.
+    Bytes interval_under(const client::Terms &terms, std::uint32_t day, std::uint8_t quarter, std::uint32_t rows) {
+        Bytes bytes(15 + row_length * rows);
+        bytes[0] = 'P', bytes[1] = 'H';
+        set(bytes, 7, 1 + below(4'000), 2);
+        set(bytes, 9, below(200'000), 4);
+        set(bytes, 13, rows, 2);
+        for (std::uint32_t row = 0; row < rows; ++row) {
+            put_row(bytes, 15 + row_length * row, 1 + 7 * row + below(7), terms);
+        }
+        return for_slot(bytes, day, quarter);
+    }
+
+    // Any of the numbers from the lowest to the highest.
+    std::uint64_t bid(client::Li lowest, client::Li highest) {
+        const auto choices = static_cast<std::uint32_t>(highest.count - lowest.count + 1);
+        return static_cast<std::uint64_t>(lowest.count) + below(choices);
+    }
+
+    void put_row(Bytes &bytes, std::size_t at, std::uint32_t id, const client::Terms &terms) {
         const std::uint32_t kind = 1 + below(3), capacity = 1 + below(250), offers = kind == 1 && below(3) > 0;
         bytes[at] = 'P', bytes[at + 1] = 'R';
         set(bytes, at + 2, id, 2);
@@ -168,9 +195,10 @@ class Drawer {
         set(bytes, at + 7, below(275 * capacity), 4);
         set(bytes, at + 11, below(4) > 0 ? 0 : kind == 1 ? below(4) : 3 * below(2), 1);
         set(bytes, at + 12, offers, 1);
-        set(bytes, at + 13, offers ? below(125 * capacity) : 0, 4);
-        set(bytes, at + 17, offers ? 100 + below(221) : 0, 2);
-        set(bytes, at + 19, offers ? 320 + below(431) : 0, 2);
+        const std::uint32_t baseline = capacity * static_cast<std::uint32_t>(terms.baseline) * 5 / 2;
+        set(bytes, at + 13, offers ? below(baseline + 1) : 0, 4);
+        set(bytes, at + 17, offers ? bid(terms.limits[0], terms.limits[1]) : 0, 2);
+        set(bytes, at + 19, offers ? bid(terms.limits[2], terms.limits[3]) : 0, 2);
     }
 
     std::mt19937 random_;

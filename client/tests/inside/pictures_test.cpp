@@ -48,6 +48,8 @@ struct Picture {
     Qt::Key screen = Qt::Key_1;
     bool is_dark = false;
     bool is_corrected = false;
+    // Whose quarter; without it that which the window chooses by itself.
+    std::optional<std::pair<RowId, Quarter>> of = {};
 };
 
 const Picture pictures[] = {
@@ -55,6 +57,9 @@ const Picture pictures[] = {
     {.name = "day-zh", .tongue = Tongue::chinese},
     {.name = "corrected", .is_corrected = true},
     {.name = "corrected-zh", .tongue = Tongue::chinese, .is_corrected = true},
+    // The quarter that states its terms, and the unit between their baseline and half load.
+    {.name = "terms", .of = std::pair{RowId{311}, Quarter{16}}},
+    {.name = "terms-zh", .tongue = Tongue::chinese, .of = std::pair{RowId{311}, Quarter{16}}},
     {.name = "rows", .screen = Qt::Key_3},
     {.name = "files", .screen = Qt::Key_4},
     {.name = "files-zh", .tongue = Tongue::chinese, .screen = Qt::Key_4},
@@ -167,6 +172,10 @@ Taken taken_of(const Picture &picture, const std::filesystem::path &example, con
     if (picture.is_corrected) {
         copy_folder(late, folder.path());
         wait_for(window, [&] { window.read_again(); });
+    }
+    if (picture.of) {
+        window.choose_plant(picture.of->first);
+        window.choose_quarter(picture.of->second);
     }
     QTest::keyClick(&window, picture.screen, Qt::ControlModifier);
     QApplication::processEvents();

@@ -29,6 +29,10 @@ const Happening kinds[] = {
      [](Desk &desk) { made::write(desk.folder / Desk::name(1), made::interval(Desk::slot(1), 1'200)); }},
     {"replaced by renaming",
      [](Desk &desk) { made::replace(desk.folder / Desk::name(1), made::interval(Desk::slot(1), 1'200)); }},
+    {"replaced by one with other terms",
+     [](Desk &desk) {
+         made::replace(desk.folder / Desk::name(1), made::stating(made::other_terms, made::interval(Desk::slot(1))));
+     }},
     {"same length and time put back",
      [](Desk &desk) { put_back_time(desk.folder / Desk::name(1), made::interval(Desk::slot(1), 1'000)); }},
     {"removed", [](Desk &desk) { std::filesystem::remove(desk.folder / Desk::name(1)); }},

@@ -30,12 +30,18 @@ QString showing(Desk &desk) {
     return all_text(desk.window(), true);
 }
 
+// Interval X under terms that it states.
+void state_terms(Desk &desk, unsigned of) {
+    made::write(desk.folder / Desk::name(of), made::stating(made::other_terms, made::interval(Desk::slot(of))));
+}
+
 // The statement of a quarter with one fen moved from row 3 to row 2, in a reading that is otherwise the same.
 std::shared_ptr<const Reading> with_a_moved_fen(const Reading &reading, Slot slot) {
     auto altered = std::make_shared<Reading>(reading);
     QuarterRead &quarter = altered->days.at(slot.day)[slot.quarter.number];
     Bytes bytes(quarter.statement->bytes().begin(), quarter.statement->bytes().end());
-    const auto paid_of = [](std::size_t line) { return 39 + 42 * line + 28; };
+    const std::size_t head = states_terms(bytes) ? 48 : 39;
+    const auto paid_of = [&](std::size_t line) { return head + 42 * line + 28; };
     ++bytes[paid_of(1)];
     --bytes[paid_of(2)];
     quarter.statement = Statement(bytes);
@@ -56,6 +62,8 @@ class ScreensTest : public QObject {
     void figures_of_the_statement();
     void a_correction_says_before_and_now();
     void a_moved_fen_leaves_no_steps();
+    void terms_that_ruled();
+    void no_bids_of_neighbours();
     void fits_small_windows_and_large_letters();
     void settings_hold_no_figure();
     void first_start_offers_the_example();
@@ -132,7 +140,9 @@ void ScreensTest::tongues_are_switched_at_once() {
     Desk desk;
     made::write(desk.folder / Desk::name(1, "correction"), made::wind_corrected(Desk::slot(1), 6'000));
     made::write(desk.folder / "note.txt", {'h', 'i'});
+    state_terms(desk, 0);
     desk.open();
+    desk.window().choose_quarter({0});
     static const QRegularExpression chinese("[\\x{4e00}-\\x{9fff}]"), english("[a-z]{3,} [a-z]{2,}");
     press(desk, Qt::Key_L, Qt::ControlModifier);
     for (const QString &text : texts_of(desk.window())) {
@@ -187,20 +197,77 @@ void ScreensTest::a_correction_says_before_and_now() {
 
 void ScreensTest::a_moved_fen_leaves_no_steps() {
     Desk desk;
+    state_terms(desk, 1);
     desk.open();
-    Shown shown = desk.window().shown();
-    shown.quarter = Quarter{0};
-    QuarterPane pane;
-    pane.fill(shown);
-    pane.resize(500, 700);
-    pane.show();
-    QVERIFY(all_text(pane, true).contains("Round 1"));
-    shown.reading = with_a_moved_fen(*shown.reading, Desk::slot(0));
-    pane.fill(shown);
-    QVERIFY(all_text(pane, true).contains("does not come to the same figures"));
-    QVERIFY(!all_text(pane).contains("Round 1"));
-    QVERIFY(pane.as_text().isEmpty());
-    QVERIFY(all_text(pane, true).contains("249.99")); // the statement counts
+    // What the statement says is 250.00 and, under the terms that quarter 1 states, 152.94: it counts.
+    for (const auto &[of, step, moved] :
+         {std::tuple{0u, "Round 1", "249.99"}, std::tuple{1u, "states other terms", "152.93"}}) {
+        Shown shown = desk.window().shown();
+        shown.quarter = Desk::slot(of).quarter;
+        QuarterPane pane;
+        pane.fill(shown);
+        pane.resize(500, 700);
+        pane.show();
+        QVERIFY(all_text(pane, true).contains(step));
+        shown.reading = with_a_moved_fen(*shown.reading, Desk::slot(of));
+        pane.fill(shown);
+        QVERIFY(all_text(pane, true).contains("does not come to the same figures"));
+        QVERIFY(!all_text(pane).contains(step));
+        QVERIFY(pane.as_text().isEmpty());
+        QVERIFY(all_text(pane, true).contains(moved));
+    }
+}
+
+// By hand: 650.00 yuan by 16,250 kWh of row 2 and 5,000 of row 3, which is 152.94 yuan for row 3.
+void ScreensTest::terms_that_ruled() {
+    Desk desk;
+    state_terms(desk, 1);
+    desk.open();
+    auto *pane = desk.window().findChild<QuarterPane *>();
+    const auto has_all = [](const QString &text, const QStringList &parts) {
+        for (const QString &part : parts) {
+            QVERIFY2(text.contains(part), qPrintable(part));
+        }
+    };
+    const QStringList names{"Baseline, % of full load", "Bids allowed in tier 1, yuan for each kWh",
+                            "Bids allowed in tier 2, yuan for each kWh"};
+    desk.window().choose_quarter({0});
+    has_all(all_text(*pane, true), names + QStringList{"rules as issued", "0.100 to 0.320", "0.320 to 0.750"});
+    QVERIFY(!all_text(desk.window()).contains("states other terms"));
+    desk.window().choose_quarter({1});
+    has_all(all_text(*pane, true),
+            names + QStringList{"stated in the interval file", "0.150 to 0.300", "0.350 to 0.650", "pays 152.94 yuan",
+                                "interval file with stated terms"});
+    const QString sentence =
+        "For this quarter the interval file states other terms than the rules as issued (Article 64): "
+        "baseline 45 percent of full load; bids from 0.150 to 0.300 yuan for each kWh in tier 1, from "
+        "0.350 to 0.650 in tier 2.";
+    has_all(all_text(*pane, true), {sentence});
+    has_all(pane->as_text(), {"1. " + sentence});
+    press(desk, Qt::Key_1, Qt::ControlModifier);
+    has_all(showing(desk), {"baseline 45 percent"}); // the note of the quarter
+    press(desk, Qt::Key_4, Qt::ControlModifier);
+    has_all(showing(desk), {"interval file with stated terms"});
+    press(desk, Qt::Key_L, Qt::ControlModifier);
+    has_all(showing(desk), {"时段文件（载明基准和限价）"});
+    press(desk, Qt::Key_1, Qt::ControlModifier);
+    has_all(showing(desk), {"基准 45%", "时段文件载明", "0.150 至 0.300", "第二档报价下限至上限"});
+}
+
+// What may be bid is published, what somebody bid is not: neither bids nor minimums of row 1 stand anywhere.
+void ScreensTest::no_bids_of_neighbours() {
+    Desk desk;
+    std::vector<made::Entry> rows = made::rows_of_x();
+    rows[0].minimum = 8'123;
+    rows.push_back({4, 1, 100, 20'000, 0, 1, 9'321, 287, 643}); // the dearest: called for nothing
+    made::write(desk.folder / Desk::name(0),
+                made::stating(made::other_terms, made::interval(Desk::slot(0), 1'300, rows, 2'000)));
+    desk.open();
+    desk.window().choose_quarter({0});
+    QVERIFY(all_text(desk.window()).contains("stated in the interval file"));
+    for (const char *secret : {"8,123", "9,321", "0.287", "0.643"}) {
+        QVERIFY2(!all_text(desk.window()).contains(secret), secret);
+    }
 }
 
 void ScreensTest::fits_small_windows_and_large_letters() {

@@ -11,10 +11,12 @@ HERE = os.path.dirname(os.path.abspath(__file__))
 WORDS = os.path.join(HERE, '..', '..', 'words')
 
 # The example day (client/tools/make-day): its lowest row, what the day costs it, and its dearest quarter.
-ROW, DATE, DAY_SUM = 'Yuanpan Wind Farm (row 101)', '2026-10-31', '45,738.72'
+ROW, DATE, DAY_SUM = 'Yuanpan Wind Farm (row 101)', '2026-10-31', '45,622.24'
 QUARTER, SPAN, OWED = 12, '03:00–03:15', '5,632.82'
 # The same after the late correction.
-LATE_SUM, LATE_OWED = '44,612.12', '4,506.22'
+LATE_SUM, LATE_OWED = '44,495.64', '4,506.22'
+# The quarter whose file states its terms, and what it costs under these and under those as issued.
+STATED, STATED_OWED, ISSUED_OWED = 16, '3,338.23', '3,644.41'
 
 AGAIN = 5           # seconds after which something is done once more
 MONEY = re.compile(r'\d\.\d{2}(?!\d)')

@@ -1,8 +1,10 @@
 """The story for which the client was made: a person sees what a day costs, asks why, and a correction comes while they look. Then the same with
-letters twice as large."""
+letters twice as large; and a quarter under other terms."""
 import os
 
-from desk import DATE, DAY_SUM, LATE_OWED, LATE_SUM, OWED, ROW, SPAN, chinese, english, no_longer_valid, timed
+from desk import (DATE, DAY_SUM, ISSUED_OWED, LATE_OWED, LATE_SUM, OWED, QUARTER, ROW, SPAN, STATED, STATED_OWED, chinese, english, no_longer_valid, span,
+                  timed)
+from trials_changes import replace
 
 
 def story(desk):
@@ -46,6 +48,40 @@ def see_correction(desk, client):
     desk.tell(f'the day comes to {LATE_SUM} now, the steps to {LATE_OWED}, and {DAY_SUM} is nowhere')
     assert client.close() == 0
     desk.tell('the window closes by its key, with status 0')
+
+
+def told_terms(client):
+    """What the table of the quarter as a whole says of its terms."""
+    held = dict(client.table(english('quarter.head'))[1])
+    limits = (english('unit.of', english(f'head.limits.{tier}'), english('unit.price')) for tier in (1, 2))
+    return tuple(held[name] for name in (english('head.terms'), english('head.baseline'), *limits))
+
+
+def terms(desk):
+    """A quarter whose file states its terms; then the file is replaced by one with the same rows that states none."""
+    client = desk.open_day()
+    client.press('ctrl+1', *['Right'] * (STATED - QUARTER))
+    when = f'{DATE} {span(STATED)}'
+    client.must_say(english('pays', ROW, when, STATED_OWED))
+    stated = (english('head.terms.stated'), '45', english('head.limits', '0.150', '0.300'), english('head.limits', '0.350', '0.650'))
+    client.wait_until(lambda: told_terms(client) == stated, f'the terms {stated}')
+    in_words = english('terms', '45', '0.150', '0.300', '0.350', '0.650')
+    first = client.table(english('why.pays'))[1][0]
+    assert first[1] == english('terms.moved', in_words), first
+    noted = [row[0] for row in client.table(english('day.table'))[1] if row[-1].startswith(english('note.terms', '45'))]
+    assert noted == [f'−{STATED_OWED}'], noted
+    desk.tell(f'{span(STATED)} costs {STATED_OWED}, and its pane says under which terms: {in_words}')
+
+    path = desk.path(f'{DATE}-q{STATED}.interval')
+    with open(path, 'rb') as file:
+        old = file.read()
+    assert old[:2] == b'PG', old[:24]
+    replace(path, b'PH' + old[2:15] + old[24:], desk.work)
+    client.must_say(english('pays', ROW, when, ISSUED_OWED))
+    issued = (english('head.terms.issued'), '50', english('head.limits', '0.100', '0.320'), english('head.limits', '0.320', '0.750'))
+    client.wait_until(lambda: told_terms(client) == issued, f'the terms {issued}')
+    client.nowhere(in_words, english('note.terms', '45'), STATED_OWED)
+    desk.tell(f'replaced by one that states none: {ISSUED_OWED}, {english("head.terms.issued")}, and neither {STATED_OWED} nor the other terms are anywhere')
 
 
 def twice_as_large(desk):

@@ -7,6 +7,7 @@ PRINT is the command (wheatrudder-print, or `tools/client --print`), EXAMPLE the
 import csv, io, os, shlex, shutil, subprocess, sys, tempfile
 
 READY, NOT_READY, COULD_NOT_RUN = 0, 1, 2
+STATED = 16     # the quarter of the example whose file states its terms
 LAST = 'It may be a correction of any quarter, so no figure is final.'
 held = 0
 
@@ -53,6 +54,7 @@ def whole_day(example, folder):
     for quarter in (9, 10):
         for kind in ('interval', 'correction'):
             shutil.copy(path(example, quarter, kind), folder)
+    shutil.copy(path(example, STATED, 'interval'), folder)
     for name in os.listdir(folder):     # not as if they were just arriving
         os.utime(os.path.join(folder, name), (1, 1))
 
@@ -78,6 +80,12 @@ def whole(folder):
     holds({row['quarter'] for row in rows} == {str(quarter) for quarter in range(96)}, 'all quarters')
     for quarter in range(96):
         holds(sum(int(row['net_fen']) for row in rows if row['quarter'] == str(quarter)) == 0, 'who pays pays who gets')
+    names = ('baseline_percent', 'tier1_lowest_li', 'tier1_highest_li', 'tier2_lowest_li', 'tier2_highest_li')
+    for row in rows:
+        due = '45 150 300 350 650' if row['quarter'] == str(STATED) else '50 100 320 320 750'
+        holds(' '.join(row[name] for name in names) == due, f'the terms that ruled: {row}')
+    between = next(row for row in rows if (row['quarter'], row['row']) == (str(STATED), '311'))
+    holds((between['paid_yuan'], between['compensation_fen']) == ('157.58', '0'), 'who pays under the stated terms')
     must(READY, run(folder, '2026-10-31'), 'Ready to book')
     must(READY, run(folder, tongue='zh_CN.UTF-8'), '2026-10-31：可以入账')
     must(NOT_READY, run(folder, '2026-10-30'), '2026-10-30: Not ready to book: 96 missing (first: 00:00–00:15).')
@@ -103,6 +111,20 @@ def damaged(folder):
     os.rename(folder + '.kept', correction)
 
 
+def stated_terms(folder):
+    """A file whose terms are out of range, whose head is cut or has the mark of the other form leaves no figure."""
+    interval = path(folder, STATED, 'interval')
+    name = os.path.basename(interval)
+    for edit in (lambda old: old[:15] + b'\x28' + old[16:], lambda old: old[:22] + b'\xff\xff' + old[24:], lambda old: old[:23],
+                 lambda old: b'PH' + old[2:]):
+        shutil.copy2(interval, folder + '.kept')
+        change(interval, edit)
+        answer = run(folder)
+        must(NOT_READY, answer, '1 without a statement', name, LAST)
+        holds(not any(row['quarter'] == str(STATED) for row in records(answer[1])[0]), 'a figure of a file that is refused')
+        os.replace(folder + '.kept', interval)
+
+
 def could_not_run(folder):
     must(COULD_NOT_RUN, run(os.path.join(folder, 'nowhere')))
     must(COULD_NOT_RUN, run(folder, 'yesterday'))
@@ -118,6 +140,7 @@ def main():
         whole_day(EXAMPLE, folder)
         book = whole(folder)
         damaged(folder)
+        stated_terms(folder)
         same = [line.rsplit(',', 1)[0] for line in book.splitlines()]    # but for the time
         holds([line.rsplit(',', 1)[0] for line in run(folder)[1].splitlines()] == same, 'put right again: the same book')
         could_not_run(folder)
