@@ -8,6 +8,7 @@
 #include "view.h"
 
 #include <algorithm>
+#include <vector>
 
 using namespace client;
 using namespace trial;
@@ -331,6 +332,18 @@ void the_quarter_says_so() {
 
 // ---- statements ----
 
+// Each of these in the place of a statement is named as one that is not whole, and keeps the day from being booked.
+void halves_are_at_fault(const fs::path &in, const std::vector<Bytes> &halves) {
+    for (const Bytes &half : halves) {
+        put(in / "half", half);
+        const ReadIn now = read_now(in);
+        equal(english(file_named(now, "half").says),
+              "It begins as a statement and is none that is whole. It may be a correction that was damaged.");
+        holds(!arrived(*now, {day}).is_ready(), "half a statement is harmless");
+    }
+    fs::remove(in / "half");
+}
+
 void statements_are_compared() {
     Drawer drawer(8);
     const fs::path in = whole_day(drawer);
@@ -346,15 +359,8 @@ void statements_are_compared() {
     equal(chinese(file_named(reading, "none").says), "该时段现无结算单，无法比对。");
     equal(reading->outdated.size(), 1u);
     holds(arrived(*reading, {day}).is_ready(), "whole statements are at fault");
-    for (const Bytes &half : {cut(same, 20), bytes_of("PS"), with(same, 2, 40'000, 4), with(same, 6, 96, 1),
-                              with(same, 11, 1 + same[11], 1), cut(same, same.size() - 42)}) {
-        put(in / "half", half);
-        const ReadIn now = read_now(in);
-        equal(english(file_named(now, "half").says),
-              "It begins as a statement and is none that is whole. It may be a correction that was damaged.");
-        holds(!arrived(*now, {day}).is_ready(), "half a statement is harmless");
-    }
-    fs::remove(in / "half");
+    halves_are_at_fault(in, {cut(same, 20), bytes_of("PS"), with(same, 2, 40'000, 4), with(same, 6, 96, 1),
+                             with(same, 11, 1 + same[11], 1), cut(same, same.size() - 42)});
     // The longest of all: 256 rows. And a correction makes an old statement of the one that was the same.
     const Bytes longest = drawer.interval(day, 20, 256);
     put(in / "20", longest);
@@ -390,17 +396,10 @@ void statements_with_terms() {
     equal(reading->outdated.size(), 2u);
     holds(arrived(*reading, {day}).is_ready(), "whole statements are at fault");
     // Cut, out of range, terms that no file may state, another total, a line lost, the mark of the other form.
-    for (const Bytes &half :
-         {cut(same, 47), bytes_of("PT"), with(same, 2, 40'000, 4), with(same, 6, 96, 1), with(same, 35, 40, 1),
-          with(same, 36, 0, 2), with(same, 42, 1'001, 2), with(same, 11, 1 + same[11], 1), cut(same, same.size() - 42),
-          with(same, 1, 'S', 1), with(statement_of(bytes_at(in / "9")), 1, 'T', 1)}) {
-        put(in / "half", half);
-        const ReadIn now = read_now(in);
-        equal(english(file_named(now, "half").says),
-              "It begins as a statement and is none that is whole. It may be a correction that was damaged.");
-        holds(!arrived(*now, {day}).is_ready(), "half a statement is harmless");
-    }
-    fs::remove(in / "half");
+    halves_are_at_fault(in, {cut(same, 47), bytes_of("PT"), with(same, 2, 40'000, 4), with(same, 6, 96, 1),
+                             with(same, 35, 40, 1), with(same, 36, 0, 2), with(same, 42, 1'001, 2),
+                             with(same, 11, 1 + same[11], 1), cut(same, same.size() - 42), with(same, 1, 'S', 1),
+                             with(statement_of(bytes_at(in / "9")), 1, 'T', 1)});
     const Bytes longest = drawer.stated_interval(day, 70, 256);
     put(in / "70", longest);
     put(in / "long", statement_of(longest));

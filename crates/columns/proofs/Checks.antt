@@ -24,7 +24,7 @@ use native.Mathlib.Numerals.{add-one}
 use native.Mathlib.Omega.{arith}
 use lib.Dec.{T, leb, ltb, ltb→lt}
 use lib.ListN.{length, getD}
-use borrow.Author.Tests.{leb-true, le-leb}
+use borrow.Author.Tests.{leb-true}
 use Rattle.columns.specs.Test.{Check, firstOf, within}
 use Rattle.columns.specs.Checks.{previous, Refusal, refusal, none, firstRefusal, orElse, placed, rowByRow}
 use Rattle.columns.specs.Checks.{renumbered, answerBy, numbersIn, Earliest, NoneApplies, Tells}

@@ -6,7 +6,7 @@
 --   statement-read-figure  each figure of line i read back is that of row i
 --   statement-read-id      and so is its id, if the interval file is made of bytes
 --   statement-figures      all figures read back are those of the rules, `figures`
-use Prim.Native.Nat.{ℕ, zero, suc, _+_, _^_, _<_}
+use Prim.Native.Nat.{ℕ, suc, _+_, _^_, _<_}
 use mathlib.Core.Path.{_≡_, refl, sym, ap, _∙_}
 use mathlib.Core.Bool.{Bool, true, false, cond}
 use mathlib.Core.List.{List, _++_, append-assoc}

@@ -6,7 +6,7 @@
 --   restated-statement   so the statement is the lines of the other behind a head PT
 use Prim.Native.Nat.{ℕ, _+_, _-_, _*_, _≤_}
 use mathlib.Core.Path.{_≡_, refl, sym, ap, _∙_}
-use mathlib.Core.Bool.{Bool, true, false, not, cond, _&&_, _||_}
+use mathlib.Core.Bool.{Bool, true, false, not, cond, _&&_}
 use mathlib.Core.List.{List, [], _∷_, _++_}
 use native.Mathlib.Nat.{add-assoc}
 use native.Mathlib.Omega.{arith}
@@ -19,21 +19,17 @@ use Rattle.columns.specs.Sum.{findTo}
 use Rattle.columns.specs.Table.{table}
 use Rattle.columns.proofs.First.{right-true, and-false}
 use Rattle.records.specs.Record.{letterP, marked, recordAt, fieldsAt, recordsBytes}
-use Rattle.records.specs.Number.{numberAt}
-use Rattle.records.specs.Fields.{fieldsBytes}
 use Rattle.records.proofs.Record.{fields-length, fields-read, fields-behind, record-drop, record-front}
 use Rattle.files.specs.Layout.{headWidths, headSize, rowSize, rowWidths, letterR, headOf, rowOf, headAt, rowAt, correctionHeadAt}
 use Rattle.files.specs.Layout.{rowCount, correctionCount, correctionStart}
 use Rattle.files.specs.Terms.{terms01}
-use Rattle.files.specs.Form.{letterH, letterG, termsWidths, termsSize, termsFields, termsFrom, termsAt, termsBytes, known, states, termsOf, formOf, startOf, rowsFrom, rowStart}
-use Rattle.files.specs.Range.{headOk, termsOk, termsTests}
-use Rattle.files.specs.Walk.{idOf, ownId, hasId, findId, inInterval, inCorrection}
-use Rattle.files.specs.Order.{frontChecks, headChecks, rowChecks, rowChecksAt, rowChecksOf, ownOrder, intervalOrder, correctionOrder, sameTime, alike, corrects}
+use Rattle.files.specs.Form.{letterH, letterG, termsWidths, termsSize, termsFields, termsFrom, termsAt, termsBytes, known, states, termsOf, formOf, rowsFrom, rowStart}
+use Rattle.files.specs.Range.{headOk, termsOk}
+use Rattle.files.specs.Walk.{hasId, findId, inCorrection}
+use Rattle.files.specs.Order.{frontChecks, headChecks, rowChecks, rowChecksAt, rowChecksOf, intervalOrder, correctionOrder, sameTime, alike, corrects}
 use Rattle.files.specs.Order.{nameChecks, besideOrder, presentOrder, fileOrder, verdict, verdictOf}
 use Rattle.files.specs.Counting.{countingRow}
 use Rattle.files.specs.declared.Head.{Head}
-use Rattle.files.specs.declared.Row.{Row}
-use Rattle.files.specs.declared.Terms.{Terms}
 use Rattle.duties.specs.Duties.{dutiesOf}
 use Rattle.statement.specs.Statement.{letterL, lineWidths, topBytes}
 use Rattle.settle.specs.Settlement.{firstTurn, figures}

@@ -39,7 +39,7 @@ use Rattle.files.specs.Layout.{rowSize, correctionHeadSize, rowAt, corre
 use Rattle.files.specs.Layout.{headAt, rowCount, correctionCount}
 use Rattle.files.specs.Form.{termsOf, rowsFrom, rowStart}
 use Rattle.files.specs.Range.{rowOk}
-use Rattle.files.specs.Walk.{idOf, ownId, hasId, findId, inInterval, inCorrection, Rows, Own}
+use Rattle.files.specs.Walk.{ownId, hasId, findId, inInterval, inCorrection, Rows, Own}
 use Rattle.files.specs.Order.{alike, corrects, verdict, verdictOf}
 use Rattle.files.specs.Counting.{part, named, countingBytes, sourceOf, countingRow}
 use Rattle.files.specs.declared.Row.{Row}

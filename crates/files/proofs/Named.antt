@@ -20,7 +20,7 @@ use Rattle.columns.proofs.Checks.{rows-none, rows-next, rows-stop, renumbered-t
 use Rattle.records.specs.Record.{marked}
 use Rattle.files.specs.Layout.{headSize, rowSize, correctionHeadSize, letterK, rowAt, correctionStart, correctionHeadAt}
 use Rattle.files.specs.Layout.{rowCount, correctionCount}
-use Rattle.files.specs.Form.{termsOf, formOf, startOf, rowsFrom}
+use Rattle.files.specs.Form.{termsOf, formOf, rowsFrom}
 use Rattle.files.specs.declared.Form.{Form}
 use Rattle.files.specs.Range.{correctionHeadOk}
 use Rattle.files.specs.Walk.{idOf, Rows, Own, Theirs, Under, Sought}

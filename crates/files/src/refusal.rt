@@ -26,7 +26,7 @@ ghost use lib.ListN.{length};
 ghost use Rattle.columns.specs.Test.{firstOf};
 ghost use Rattle.columns.specs.Checks.{firstRefusal, rowByRow};
 ghost use Rattle.files.specs.Layout.{headSize, rowSize, correctionHeadSize, rowAt, rowCount, correctionCount};
-ghost use Rattle.files.specs.Form.{rowsFrom, rowStart};
+ghost use Rattle.files.specs.Form.{rowsFrom};
 ghost use Rattle.files.specs.Walk.{Rows, Own, Theirs, Under, Sought};
 ghost use Rattle.files.specs.Order.{frontChecks, headChecks, rowChecksAt, rowsOrder, intervalFault, correctionStarts, sameTime, alike, nameChecks, besideOrder, presentOrder, verdict, verdictOf};
 

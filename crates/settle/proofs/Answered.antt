@@ -22,14 +22,13 @@ use Rattle.columns.proofs.Checks.{append-first, append-next}
 use Rattle.columns.specs.Table.{table}
 use Rattle.records.specs.Buffer.{put}
 use Rattle.records.specs.Record.{recordsBytes}
-use Rattle.records.proofs.Buffer.{put-length, put-right}
+use Rattle.records.proofs.Buffer.{put-right}
 use Rattle.records.specs.Sheet.{sheet}
 use Rattle.records.proofs.Sheet.{sheet-length, sheet-head}
-use Rattle.files.specs.Layout.{headSize, headAt, rowCount}
-use Rattle.files.specs.Form.{states, formOf, rowsFrom}
+use Rattle.files.specs.Layout.{headSize, rowCount}
+use Rattle.files.specs.Form.{formOf, rowsFrom}
 use Rattle.files.specs.declared.Form.{Form}
 use Rattle.files.specs.Order.{fileOrder, fileFault, verdictOf}
-use Rattle.files.specs.Counting.{countingRow}
 use Rattle.files.specs.declared.Verdict.{Verdict}
 use Rattle.files.specs.declared.Verdict.the-variants as verdicts
 use Rattle.files.proofs.Answer.{accepted-of, refused-of}
@@ -38,7 +37,7 @@ use Rattle.statement.specs.Statement.{letterL, lineWidths, lineStart, extraOf, 
 use Rattle.statement.specs.Statement as statement
 use Rattle.statement.specs.declared.StatementHead.{StatementHead}
 use Rattle.statement.proofs.Laws.{top-length, statement-length}
-use Rattle.settle.specs.Statement.{lineOf, statementBytes}
+use Rattle.settle.specs.Statement.{statementBytes}
 use Rattle.settle.specs.Answer.{topOf, lineIn, statementOf, sizeOf, roomOrder, settleOrder, answerOf, bufferAfter}
 use Rattle.settle.specs.Work.{lined, linedBehind}
 use Rattle.settle.specs.declared.Answer.the-variants.{Settled, Refused}

@@ -5,7 +5,7 @@
 --   asked-account, asked-levy, asked-divide    compensations and penalties, rounds and payments, cuts and what is returned
 --   top-told, lines-told            what the head has to say, and the lines
 use Prim.Native.Nat.{ℕ, _-_, _≤_, _<_}
-use mathlib.Core.Path.{_≡_, refl, sym, ap, _∙_}
+use mathlib.Core.Path.{_≡_, sym, ap, _∙_}
 use mathlib.Core.List.{List, []}
 use native.Mathlib.Omega.{arith}
 use lib.ListN.{length}

@@ -7,7 +7,7 @@
 --   statement-read    line i of a whole statement, read again, if its fields fit their widths
 use mathlib.Core.Path.{_≡_, refl, sym, ap, _∙_}
 use mathlib.Core.Bool.{Bool, true, false, cond}
-use mathlib.Core.List.{List, [], _∷_, _++_, append-assoc}
+use mathlib.Core.List.{List, [], _++_, append-assoc}
 use Prim.Native.Nat.{ℕ, _+_, _*_, _<_, _^_}
 use native.Mathlib.Nat.{add-assoc}
 use lib.Dec.{eqb}
@@ -21,10 +21,10 @@ use Rattle.records.proofs.Number.{number-length, number-read}
 use Rattle.records.proofs.Record.{fields-length, fields-read, record-length, record-read, record-drop}
 use Rattle.records.proofs.Sheet.{lines-length, lines-read}
 use Rattle.files.specs.Terms.{terms01}
-use Rattle.files.specs.Form.{termsWidths, termsSize, termsFields, termsFrom, termsBytes, ruling, statedBytes}
+use Rattle.files.specs.Form.{termsWidths, termsFields, termsFrom, termsBytes, ruling, statedBytes}
 use Rattle.files.specs.declared.Form.{Form}
 use Rattle.statement.specs.Statement.{frontWidths, frontSize, visitsWidth, letterL, letterT, lineWidths, headSize, lineSize, lineStart, extraOf}
-use Rattle.statement.specs.Statement.{frontFields, headFrom, headLetter, topBytes, hasTerms, headIn, termsIn, bodyIn}
+use Rattle.statement.specs.Statement.{frontFields, headLetter, topBytes, hasTerms, headIn, termsIn, bodyIn}
 use Rattle.statement.specs.declared.StatementHead.{StatementHead}
 
 -- every field fits the width that it has in a statement
