@@ -13,7 +13,7 @@ use borrow.Author.Tests.{not-false}
 use Rattle.columns.specs.Test.{Check}
 use Rattle.columns.specs.Checks.{Refusal, refusal, firstRefusal, orElse, placed, rowByRow, renumbered, answerBy, numbersIn, lastNumber}
 use Rattle.columns.proofs.Checks.{Passes, first-append, passes-none, passes-placed, cons-passes, append-passes}
-use Rattle.columns.proofs.Checks.{first-number, numbers-append, renumbered-told, renumbered-passes}
+use Rattle.columns.proofs.Checks.{first-number, renumbered-told, renumbered-passes}
 use Rattle.columns.proofs.First.{left-true, right-true}
 use Rattle.records.specs.Record.{marked}
 use Rattle.files.specs.Layout.{rowSize, correctionHeadSize, letterK, correctionStart}
@@ -25,7 +25,7 @@ use Rattle.files.specs.Order.{headChecks, rowChecksOf, ownOrder, theirOrder, in
 use Rattle.files.specs.Order.{correctionStarts, correctionOrder, sameTime, nameChecks, besideOrder, presentOrder}
 use Rattle.files.specs.Counting.{part, named, countingBytes}
 use Rattle.files.specs.declared.Terms.{Terms}
-use Rattle.files.proofs.Answer.{interval-numbers, file-numbers}
+use Rattle.files.proofs.Answer.{interval-numbers}
 use Rattle.files.proofs.Passed.{head-passed}
 use Rattle.files.proofs.Ranges.{correction-few}
 use Rattle.contents.specs.Content.{readingOf, rowChecksIn, rowPlace, writerOrder, writtenOf, rewrittenOf}
@@ -37,7 +37,8 @@ use Rattle.contents.proofs.Record.{rows-few}
 use Rattle.contents.proofs.Refusal.{writer-passed, writer-numbers}
 use Rattle.contents.proofs.Said.{few}
 use Rattle.statement.specs.Statement.{extraOf}
-use Rattle.settle.specs.Answer.{sizeOf, settleOrder, answerOf, numberOf, valueOf}
+use Rattle.settle.specs.Answer.{sizeOf, roomOrder, settleOrder, answerOf, numberOf, valueOf}
+use Rattle.settle.proofs.Answered.{settle-numbers}
 use Rattle.settle.specs.declared.Answer.the-variants as Answer
 use Rattle.abi.specs.Packed.{Packs}
 
@@ -150,19 +151,14 @@ writer-near c room =
 settle-near : (s k : List ℕ) (room : ℕ) → Near (settleOrder s k room)
 unfolding settleOrder
 settle-near s k room =
-    append-near (fileOrder s k) (refusal (ltb room (sizeOf s)) 11 0 ∷ []) (file-near s k)
+    append-near (fileOrder s k) (roomOrder s room) (file-near s k)
     (λ e. one-near (ltb room (sizeOf s)) 11)
-
-settle-numbers : (s k : List ℕ) (room : ℕ) → numbersIn 1 lastNumber (settleOrder s k room) ≡ true
-unfolding settleOrder
-settle-numbers s k room =
-    numbers-append 1 lastNumber (fileOrder s k) (refusal (ltb room (sizeOf s)) 11 0 ∷ []) (file-numbers s k) refl
 
 -- a pair of files that nothing refuses: at most 256 rows
 settled-few : (s k : List ℕ) (room : ℕ) → Passes (settleOrder s k room) → rowCount s ≤ 256
 unfolding settleOrder fileOrder
 settled-few s k room e =
-    let files = append-passes (fileOrder s k) (refusal (ltb room (sizeOf s)) 11 0 ∷ []) e .0 in
+    let files = append-passes (fileOrder s k) (roomOrder s room) e .0 in
     few s (append-passes (intervalOrder s) (cond (eqb (length k) 0) [] (presentOrder s k)) files .0)
 
 -- ---- numbers and values

@@ -2,7 +2,7 @@
 -- checks; a refusal changes nothing. The answer is told by its number and value (`numberOf`, `valueOf` of `settle`).
 --   zero-free, free-zero     the number is 0 exactly if no check applies
 --   refused-first, first-refused     a number a above 0 and a place p are given exactly if the first check that applies has them
---   answered           the number is 0 and the value the statement's count, or the number is from 1 to 11
+--   answered           the number is 0 and the value the statement's count, or the number is from 1 to `lastNumber`
 --   files-refused      what refuses the files refuses them here, whatever the buffer
 --   short-refused      accepted files and a buffer that is too short: 11, place 0
 --   refused-by         and there is no other refusal
@@ -23,20 +23,19 @@ use native.Mathlib.Nat.{eq-zero-or-pos}
 use native.Mathlib.Omega.{arith}
 use lib.ListN.{length, take}
 use borrow.Author.Tests.{ltb-true, ltb-false}
-use Rattle.columns.specs.Checks.{Refusal, firstRefusal, numbersIn, lastNumber, Earliest, NoneApplies, Tells}
+use Rattle.columns.specs.Checks.{Refusal, firstRefusal, lastNumber, Earliest, NoneApplies, Tells}
 use Rattle.columns.specs.Table.{at}
 use Rattle.columns.proofs.Checks.{first-none, earliest-first, append-none, earliest-append}
-use Rattle.columns.proofs.Checks.{numbers-append, answer-no, answer-yes, zero-none, number-earliest, earliest-number, refused-number}
+use Rattle.columns.proofs.Checks.{answer-no, answer-yes, zero-none, number-earliest, earliest-number, refused-number}
 use Rattle.columns.proofs.Rank.{test-or}
 use Rattle.records.specs.Buffer.{put}
 use Rattle.records.proofs.Buffer.{put-length, put-after, take-put}
 use Rattle.files.specs.Layout.{rowCount}
 use Rattle.files.specs.Order.{fileOrder, fileFault, verdictOf}
 use Rattle.files.specs.declared.Verdict.the-variants.{Accepted, Refused as Refuses}
-use Rattle.files.proofs.Answer.{file-numbers}
 use Rattle.settle.specs.Answer.{statementOf, sizeOf, roomOrder, settleOrder, answerOf, bufferAfter, numberOf, valueOf}
 use Rattle.settle.specs.declared.Answer.the-variants.{Settled, Refused}
-use Rattle.settle.proofs.Answered.{files-stop, room-stop, none-stop, settled-count}
+use Rattle.settle.proofs.Answered.{files-stop, room-stop, none-stop, settle-numbers, settled-count}
 
 tells : (c : ℕ) → Tells Refused (Settled c) numberOf valueOf
 tells c =
@@ -51,13 +50,9 @@ module _ (s k : List ℕ) (room : ℕ) where
   abbrev count : ℕ
   count = sizeOf s
 
-  numbers : numbersIn 1 lastNumber (settleOrder s k room) ≡ true
-  unfolding settleOrder
-  numbers = numbers-append 1 lastNumber (fileOrder s k) (roomOrder s room) (file-numbers s k) refl
-
   pub zero-free : numberOf (answerOf s k room) ≡ 0 → NoneApplies (settleOrder s k room)
   unfolding answerOf
-  zero-free = zero-none Refused (Settled count) numberOf valueOf (tells count) (settleOrder s k room) lastNumber numbers
+  zero-free = zero-none Refused (Settled count) numberOf valueOf (tells count) (settleOrder s k room) lastNumber (settle-numbers s k room)
 
   pub free-zero : NoneApplies (settleOrder s k room) → (numberOf (answerOf s k room) ≡ 0) × (valueOf (answerOf s k room) ≡ sizeOf s)
   unfolding answerOf
@@ -65,18 +60,18 @@ module _ (s k : List ℕ) (room : ℕ) where
 
   pub refused-first : (a p : ℕ) → (a ≡ 0 → ⊥) → numberOf (answerOf s k room) ≡ a → valueOf (answerOf s k room) ≡ p → Earliest (settleOrder s k room) a p
   unfolding answerOf
-  refused-first = number-earliest Refused (Settled count) numberOf valueOf (tells count) (settleOrder s k room) lastNumber numbers
+  refused-first = number-earliest Refused (Settled count) numberOf valueOf (tells count) (settleOrder s k room) lastNumber (settle-numbers s k room)
 
   pub first-refused : (a p : ℕ) → Earliest (settleOrder s k room) a p → (numberOf (answerOf s k room) ≡ a) × (valueOf (answerOf s k room) ≡ p)
   unfolding answerOf
-  first-refused = earliest-number Refused (Settled count) numberOf valueOf (tells count) (settleOrder s k room) lastNumber numbers
+  first-refused = earliest-number Refused (Settled count) numberOf valueOf (tells count) (settleOrder s k room) lastNumber (settle-numbers s k room)
 
   pub answered : ((numberOf (answerOf s k room) ≡ 0) × (valueOf (answerOf s k room) ≡ sizeOf s))
       ⊎ ((1 ≤ numberOf (answerOf s k room)) × (numberOf (answerOf s k room) ≤ lastNumber))
   answered =
       ⊎-elim (λ (z : numberOf (answerOf s k room) ≡ 0). inl (free-zero (zero-free z)))
       (λ (up : 0 < numberOf (answerOf s k room)).
-      inr (refused-number Refused (Settled count) numberOf valueOf (tells count) (settleOrder s k room) lastNumber numbers
+      inr (refused-number Refused (Settled count) numberOf valueOf (tells count) (settleOrder s k room) lastNumber (settle-numbers s k room)
       (numberOf (answerOf s k room)) (valueOf (answerOf s k room)) (refused-first _ _ (λ z. omega arith) refl refl)))
       (eq-zero-or-pos (numberOf (answerOf s k room)))
 

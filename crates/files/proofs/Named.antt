@@ -3,8 +3,8 @@
 --   under-beside               what the walk has passed in the interval lies below the correction's next id
 --   starts-short, starts-told, no-match, match-told      tests on what was read
 --   bad-start, bad-row, good-rows, bad-time, good-time   8 by head and length, 8 by a row, 9, then 10
---   own-refused, alone, paired      1 to 7 first; then nothing more without a correction, else 8 to 10
---   own-accepted, own-long, own-whole, own-at      an interval that passed 1 to 7: what it gives the code
+--   own-refused, alone, paired      1 to 7 and 14 first; then nothing more without a correction, else 8 to 10
+--   own-accepted, own-long, own-whole, own-at      an interval that passed 1 to 7 and 14: what it gives the code
 use mathlib.Core.Path.{_≡_, refl, sym, ap, _∙_}
 use Prim.Native.Nat.{ℕ, _+_, _*_, _≤_, _<_}
 use mathlib.Core.Bool.{Bool, true, false, not, cond, _&&_}
@@ -188,7 +188,7 @@ own-whole s n own = own .long
 pub own-at : (s : List ℕ) (start n : ℕ) → start ≡ rowsFrom s → Own s n → Rows s start rowSize n
 own-at s start n from own = rw from (own .rows)
 
--- ---- 1 to 7, then the correction if there is one
+-- ---- 1 to 7 and 14, then the correction if there is one
 
 module _ (s : List ℕ) (h : Passes (intervalOrder s)) where
   own-parts : Passes (placed 0 (headChecks s)) × Passes (ownOrder s)
@@ -223,7 +223,7 @@ module _ (s : List ℕ) (v : Verdict) (e : v ≡ verdict (rowCount s) (intervalF
         sym (answer-no Refused (Accepted (rowCount s)) _ _ _
         (append-first (intervalOrder s) (cond (eqb (length k) 0) [] (presentOrder s k)) (ap (λ (r : Refusal). r .applies) is) ∙ is))
 
-    -- what is left of the checks once 1 to 7 have passed
+    -- what is left of the checks once 1 to 7 and 14 have passed
     rest : (n : ℕ) → v ≡ Accepted n → verdictOf s k ≡ verdict n (firstRefusal (cond (eqb (length k) 0) [] (presentOrder s k)))
     unfolding verdictOf fileOrder
     rest n h =

@@ -6,7 +6,7 @@
 --   long, not-long        the length, tested by a count that was read
 --   checks-told           6 and 7, made of a row that was read; marked-row: they decide where the mark is right
 --   Walked                how far the walk over rows has come; walk-none, -next, -stops, -ends: its steps
---   interval-refused, interval-rows      1 to 4 first, then the rows
+--   interval-refused, interval-rows      1 to 4 and 14 first, then the rows
 use mathlib.Core.Path.{_≡_, sym, ap, _∙_}
 use Prim.Native.Nat.{ℕ, _+_, _*_, _≤_, _<_}
 use mathlib.Core.Bool.{Bool, true, false, not}

@@ -21,7 +21,7 @@ named s k id =
     cond (ltb (inCorrection k id) (correctionCount k)) (part rowSize k (correctionStart (inCorrection k id)))
     (cond (ltb (inInterval s id) (rowCount s)) (part rowSize s (rowStart s (inInterval s id))) [])
 
--- the bytes that count for an id; none where checks 1 to 10 refuse the pair of files
+-- the bytes that count for an id; none where a check of the files refuses the pair
 unfoldable pub countingBytes : List ℕ → List ℕ → ℕ → List ℕ
 countingBytes s k id = cond (fileFault s k .applies) [] (named s k id)
 

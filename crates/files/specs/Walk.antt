@@ -1,4 +1,4 @@
--- Rows one after the other: their ids, a row found by its id, and what a walk over them rests on once 1 to 7 have passed.
+-- Rows one after the other: their ids, a row found by its id, and what a walk over them rests on once 1 to 7 and 14 have passed.
 use Prim.Native.Nat.{ℕ, _+_, _*_, _≤_, _<_}
 use mathlib.Core.Path.{_≡_}
 use mathlib.Core.Bool.{Bool}
@@ -44,7 +44,7 @@ pub record Holds (s : List ℕ) (start size count n : ℕ) : Type 0 where
   pub told : n ≡ count
   pub rows : Rows s start size n
 
--- an interval of n rows that passed 1 to 7, a correction of m rows that passed 8
+-- an interval of n rows that passed 1 to 7 and 14, a correction of m rows that passed 8
 abbrev pub Own : List ℕ → ℕ → Type 0
 Own s n = Holds s (rowsFrom s) rowSize (rowCount s) n
 

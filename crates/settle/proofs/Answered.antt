@@ -1,5 +1,6 @@
 -- The engine's answer and buffer by what the code has found out; as theorems about any files they are in `demands` (Demand1).
 --   files-stop, room-stop, none-stop     which check comes first, by the files' verdict and the buffer's length
+--   settle-numbers             every check gives a number of refusal
 --   accepted-free              no check of the files applies to an accepted pair, and it has as many rows as its head says
 --   settled-count              a statement of n rows has 39 + 42n bytes, and 9 more with terms
 --   told                       the verdict that was matched on
@@ -17,8 +18,8 @@ use native.Mathlib.Omega.{arith}
 use lib.ListN.{length, take, drop, length-drop, drop-of-length-le, take-append-drop}
 use lib.Seq.{take-all, length-take-le}
 use borrow.Author.Tests.{lt-ltb, le-ltb}
-use Rattle.columns.specs.Checks.{Refusal, refusal, firstRefusal}
-use Rattle.columns.proofs.Checks.{append-first, append-next}
+use Rattle.columns.specs.Checks.{Refusal, refusal, firstRefusal, numbersIn, lastNumber}
+use Rattle.columns.proofs.Checks.{append-first, append-next, numbers-append}
 use Rattle.columns.specs.Table.{table}
 use Rattle.records.specs.Buffer.{put}
 use Rattle.records.specs.Record.{recordsBytes}
@@ -31,7 +32,7 @@ use Rattle.files.specs.declared.Form.{Form}
 use Rattle.files.specs.Order.{fileOrder, fileFault, verdictOf}
 use Rattle.files.specs.declared.Verdict.{Verdict}
 use Rattle.files.specs.declared.Verdict.the-variants as verdicts
-use Rattle.files.proofs.Answer.{accepted-of, refused-of}
+use Rattle.files.proofs.Answer.{accepted-of, refused-of, file-numbers}
 use Rattle.files.proofs.Laws.{accepted-few, accepted-long, accepted-whole, accepted-count}
 use Rattle.statement.specs.Statement.{letterL, lineWidths, lineStart, extraOf, topBytes}
 use Rattle.statement.specs.Statement as statement
@@ -48,6 +49,10 @@ module _ (s k : List ℕ) (room : ℕ) where
   buffer-next : fileFault s k .applies ≡ false → firstRefusal (settleOrder s k room) ≡ firstRefusal (roomOrder s room)
   unfolding settleOrder
   buffer-next = append-next (fileOrder s k) (roomOrder s room)
+
+  pub settle-numbers : numbersIn 1 lastNumber (settleOrder s k room) ≡ true
+  unfolding settleOrder
+  settle-numbers = numbers-append 1 lastNumber (fileOrder s k) (roomOrder s room) (file-numbers s k) refl
 
   pub accepted-free : (n : ℕ) → verdictOf s k ≡ verdicts.Accepted n → (fileFault s k .applies ≡ false) × (rowCount s ≡ n)
   unfolding verdictOf
