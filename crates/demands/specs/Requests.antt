@@ -322,7 +322,7 @@ requestTable =
     ∷ entry (termsAnswer 0 (40 ∷ 1 ∷ 2 ∷ 3 ∷ 4 ∷ []) ∷ []) (3 ∷ [])
     ∷ entry (answered 99 (statedFile (40 ∷ 1 ∷ 2 ∷ 3 ∷ 4 ∷ []) 0 1 0 [] ++ (0 ∷ [])) ++ answered 99 (statedFile at45 0 1 0 [] ++ (0 ∷ [])))
     (14 ∷ 0 ∷ 4 ∷ 0 ∷ [])
-    -- a PG file of 14 and of 23 bytes is too short, whatever stands in it; one of 24 zeros behind its mark has no tariff; PF is no mark
+    -- a PG file of 14 and of 23 bytes is too short, whatever stands in it; one of 24, zeros behind its mark, has no tariff; PF is no mark
     ∷ entry (answered 99 (80 ∷ 71 ∷ replicate 12 0) ++ answered 99 (80 ∷ 71 ∷ replicate 21 0)) (1 ∷ 0 ∷ 1 ∷ 0 ∷ [])
     ∷ entry (answered 99 (80 ∷ 71 ∷ replicate 22 0) ++ answered 99 (80 ∷ 70 ∷ replicate 21 0)) (3 ∷ 0 ∷ 2 ∷ 0 ∷ [])
     -- a row of 1 MW: its minimum at 112 kWh and above, bids at the limits and past each of them

@@ -19,7 +19,7 @@ ghost use mathlib.Core.Path.{_≡_};
 ghost use Prim.Native.Nat.{_+_, _≤_};
 ghost use lib.ListN.{length};
 ghost use Rattle.records.specs.Buffer.{put};
-ghost use Rattle.files.specs.Form.{statedBytes};
+ghost use Rattle.files.specs.Form.{termsSize, statedBytes};
 ghost use Rattle.statement.specs.Statement.{frontSize, headSize, frontFields, headLetter, extraOf, extraIn, headIn, topBytes};
 
 // A statement's head, without its mark and without terms.
@@ -151,7 +151,7 @@ pub const OWED: Field = Field {
 
 // How many bytes later lines stand in a statement with terms.
 pub fn extra_of(stated: bool) -> usize
-    ensures { λ r. ⌜ (r ≡ extraOf stated) × (r ≤ 9) ⌝ }
+    ensures { λ r. ⌜ (r ≡ extraOf stated) × (r ≤ termsSize) ⌝ }
 {
     if stated {
         return TERMS;
