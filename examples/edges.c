@@ -61,6 +61,24 @@ static void expect_terms(const uint8_t *empty, size_t length, int stated, unsign
     }
 }
 
+/* Whether the thermal average rules the one row of a file, a thermal unit of 1 MW, with such a need and meter reading. */
+static void expect_averaged(const uint8_t *empty, size_t length, uint8_t need, uint8_t metered, unsigned averaged)
+{
+    static const uint8_t unit[WHEATRUDDER_ROW_LENGTH] = {'P', 'R', 1, 0, 1, 1};
+    uint8_t interval[WHEATRUDDER_INTERVAL_LENGTH_PG(1)], statement[WHEATRUDDER_STATEMENT_ROOM(1)];
+    memcpy(interval, empty, length);
+    memcpy(interval + length, unit, sizeof unit);
+    interval[9] = need;
+    interval[13] = 1;
+    interval[length + 7] = metered;
+    length += sizeof unit;
+    if (wheatrudder_number(wheatrudder_settle(interval, length, NULL, 0, statement, sizeof statement)) == 0 &&
+        wheatrudder_statement_averaged(statement) == averaged && wheatrudder_line_id(statement, 0) == 1)
+        return;
+    printf("need %u, metered %u: averaged is not %u\n", need, metered, averaged);
+    failures++;
+}
+
 int main(void)
 {
     /* No rows: mark, day 0, quarter 0, tariff 1300, need 0, count 0; then, in PG, 45 percent and limits 1, 256, 256, 1000. */
@@ -79,6 +97,13 @@ int main(void)
     try_form(stated, sizeof stated, WHEATRUDDER_STATEMENT_LENGTH_PT(0));
     expect_terms(plain, sizeof plain, 0, 50, of_01);
     expect_terms(stated, sizeof stated, 1, 45, limits);
+    /* The baseline of 1 MW is 125 kWh, and 112 at 45 percent. */
+    expect_averaged(plain, sizeof plain, 1, 125, 1);
+    expect_averaged(plain, sizeof plain, 1, 126, 0);
+    expect_averaged(plain, sizeof plain, 0, 125, 0);
+    expect_averaged(stated, sizeof stated, 1, 112, 1);
+    expect_averaged(stated, sizeof stated, 1, 113, 0);
+    expect_averaged(stated, sizeof stated, 0, 112, 0);
     memcpy(wrong, stated, sizeof wrong);
     wrong[15] = 40;
     expect("40 percent", wheatrudder_settle(wrong, sizeof wrong, NULL, 0, NULL, 0), 14, 0);

@@ -19,7 +19,7 @@ static void print_head(const uint8_t *s)
         for (size_t k = 0; k < 4; k++)
             printf(" %u", wheatrudder_statement_limit(s, k));
     }
-    printf(" %" PRIu32 "\n", wheatrudder_statement_visits(s));
+    printf(" %" PRIu32 " %u\n", wheatrudder_statement_visits(s), wheatrudder_statement_averaged(s));
 }
 
 static void print_line(const uint8_t *s, size_t i)

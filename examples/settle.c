@@ -49,6 +49,8 @@ static void print_terms(const uint8_t *statement)
 static void print_statement(const uint8_t *statement)
 {
     print_terms(statement);
+    if (wheatrudder_statement_averaged(statement))
+        printf("no wind and everybody low: the thermal average rules in the baseline's place\n");
     printf("total %" PRIu64 " fen, %" PRIu64 " of it not covered by payers, %u rounds\n",
            wheatrudder_statement_total(statement), wheatrudder_statement_shortfall(statement),
            wheatrudder_statement_rounds(statement));

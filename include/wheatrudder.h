@@ -18,15 +18,19 @@
  *   correction head    9   "PK", day [4], quarter [1], rows [2]; a correction of length 0 stands for none
  *   row               21   "PR", id [2], kind [1], capacity [2], metered [4], status [1], offered [1], minimum [4],
  *                          tier 1 bid [2], tier 2 bid [2]
- *   statement head PS 39   "PS", day [4], quarter [1], tier 1 price [2], tier 2 price [2], total [8], shortfall [8], rounds [2],
- *                          uncovered [4], rows [2], visits [4]
- *   statement head PT 48   "PT", the fields of PS up to rows, percent [1] and limits [2 each] as in PG, visits [4]
+ *   statement head PS 40   "PS", day [4], quarter [1], tier 1 price [2], tier 2 price [2], total [8], shortfall [8], rounds [2],
+ *                          uncovered [4], rows [2], visits [4], averaged [1]
+ *   statement head PT 49   "PT", the fields of PS up to rows, percent [1] and limits [2 each] as in PG, visits [4], averaged [1]
  *   line              42   "PL", id [2], called in tier 1 [4], called in tier 2 [4], compensation [4], cut [4], weight [4],
  *                          cap [4], paid [4], closing round [2], penalty [4], returned [4]
  *
  * A PG file states its terms: the baseline in percent of full load, 41 to 50, and the limits of the bids, 1 <= l1 < l2 <= l3 < l4
  * <= 1000. A PH file has the terms of document 01: 50 percent; 100, 320, 320, 750. A correction is held to the terms of its
  * interval. The statement of a PH file is PS, that of a PG file PT.
+ *
+ * A quarter is averaged (1, else 0) where the thermal average rules in the baseline's place: there is a need and a thermal row, every
+ * wind and solar meter is 0, and every thermal row is at or below its baseline. The average of a row of capacity c is c x E / C, cut
+ * to whole kWh, with E and C what all thermal rows metered and their capacity, of any status. Bands are called from the baseline.
  */
 #ifndef WHEATRUDDER_H
 #define WHEATRUDDER_H
@@ -44,8 +48,8 @@ extern "C" {
 #define WHEATRUDDER_INTERVAL_LENGTH_PH(rows) (15 + WHEATRUDDER_ROW_LENGTH * (size_t)(rows))
 #define WHEATRUDDER_INTERVAL_LENGTH_PG(rows) (24 + WHEATRUDDER_ROW_LENGTH * (size_t)(rows))
 #define WHEATRUDDER_CORRECTION_LENGTH(rows) (9 + WHEATRUDDER_ROW_LENGTH * (size_t)(rows))
-#define WHEATRUDDER_STATEMENT_LENGTH_PS(rows) (39 + WHEATRUDDER_LINE_LENGTH * (size_t)(rows))
-#define WHEATRUDDER_STATEMENT_LENGTH_PT(rows) (48 + WHEATRUDDER_LINE_LENGTH * (size_t)(rows))
+#define WHEATRUDDER_STATEMENT_LENGTH_PS(rows) (40 + WHEATRUDDER_LINE_LENGTH * (size_t)(rows))
+#define WHEATRUDDER_STATEMENT_LENGTH_PT(rows) (49 + WHEATRUDDER_LINE_LENGTH * (size_t)(rows))
 /* Enough for a statement of either form. */
 #define WHEATRUDDER_STATEMENT_ROOM(rows) WHEATRUDDER_STATEMENT_LENGTH_PT(rows)
 
@@ -64,7 +68,7 @@ static inline uint32_t wheatrudder_value(uint64_t answer) { return (uint32_t)ans
  *    8  the correction's length, mark, ranges or order of ids are wrong
  *    9  the correction is of another day or quarter
  *   10  a row of the correction names no row of the interval, or differs in more than metered and status
- *   11  the buffer is shorter than the statement: 39 + 42 for each row of a PH file, 48 + 42 of a PG file
+ *   11  the buffer is shorter than the statement: 40 + 42 for each row of a PH file, 49 + 42 of a PG file
  * The place is a row for 5, 6, 7 and 10 and for 8 where a row is at fault, else 0. */
 uint64_t wheatrudder_settle(const uint8_t *interval, size_t interval_length,
                             const uint8_t *correction, size_t correction_length,
@@ -84,7 +88,7 @@ uint64_t wheatrudder_rewrite(const uint8_t *interval, size_t interval_length,
 /* Reading a statement. Energy is in kWh, prices in li for each kWh, money in fen. The readers ask only that the bytes are
  * there: a statement that wheatrudder_settle has written, and a line i below its wheatrudder_statement_rows. */
 
-/* Where each field of the head stands in the statement; terms and visits by the head's mark. */
+/* Where each field of the head stands in the statement; terms, visits and averaged by the head's mark. */
 #define WHEATRUDDER_HEAD_DAY 2
 #define WHEATRUDDER_HEAD_QUARTER 6
 #define WHEATRUDDER_HEAD_PRICE1 7
@@ -95,9 +99,11 @@ uint64_t wheatrudder_rewrite(const uint8_t *interval, size_t interval_length,
 #define WHEATRUDDER_HEAD_UNCOVERED 29
 #define WHEATRUDDER_HEAD_ROWS 33
 #define WHEATRUDDER_HEAD_VISITS_PS 35
+#define WHEATRUDDER_HEAD_AVERAGED_PS 39
 #define WHEATRUDDER_HEAD_PERCENT_PT 35
 #define WHEATRUDDER_HEAD_LIMITS_PT 36
 #define WHEATRUDDER_HEAD_VISITS_PT 44
+#define WHEATRUDDER_HEAD_AVERAGED_PT 48
 
 /* Where each field of a line stands in the line. */
 #define WHEATRUDDER_LINE_ID 2
@@ -129,7 +135,7 @@ static inline int wheatrudder_statement_terms_stated(const uint8_t *statement)
 {
     return statement[0] == 'P' && statement[1] == 'T';
 }
-/* How many bytes stand before the lines: 48 where the mark is PT, else 39. */
+/* How many bytes stand before the lines: 49 where the mark is PT, else 40. */
 static inline size_t wheatrudder_statement_head_length(const uint8_t *statement)
 {
     return wheatrudder_statement_terms_stated(statement) ? WHEATRUDDER_STATEMENT_LENGTH_PT(0)
@@ -195,6 +201,12 @@ static inline uint32_t wheatrudder_statement_visits(const uint8_t *statement)
 {
     return wheatrudder_u32(statement + (wheatrudder_statement_terms_stated(statement) ? WHEATRUDDER_HEAD_VISITS_PT
                                                                                       : WHEATRUDDER_HEAD_VISITS_PS));
+}
+/* 1 where the thermal average took the baseline's place in what is paid, owed and weighed, else 0. */
+static inline uint8_t wheatrudder_statement_averaged(const uint8_t *statement)
+{
+    return wheatrudder_u8(statement + (wheatrudder_statement_terms_stated(statement) ? WHEATRUDDER_HEAD_AVERAGED_PT
+                                                                                     : WHEATRUDDER_HEAD_AVERAGED_PS));
 }
 
 /* Line i of a statement, counted from 0; the lines are in the order of the file's rows. */

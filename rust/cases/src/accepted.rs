@@ -5,6 +5,7 @@ use crate::file::{Correction, Interval, Row, SOLAR, THERMAL, Terms, WIND};
 use crate::ladder::ladder;
 use crate::many_rounds;
 use crate::random::Random;
+use crate::windless;
 
 #[derive(Clone, Copy, Debug, PartialEq, Eq)]
 pub enum Shape {
@@ -32,10 +33,15 @@ pub enum Shape {
     /// Offers alike but for the status, and few payers: a reduced unit owes as many fen as another gets, so penalties may equal the
     /// shortfall, and what is left over of cuts and of what is returned goes by turn.
     TiedPenalties,
+    /// Neither wind nor sun, and no thermal row above its baseline: the thermal average rules.
+    Windless,
+    /// The same with one thing at the edge of it or just past it.
+    NearlyWindless,
     NeedNothing,
     NeedBeyond,
     LowestTariff,
     HighestTariff,
+    /// Thermal rows below their baselines, and a farm in a grid accident, without which the thermal average would rule.
     NobodyPays,
     NoRows,
     SmallestUnits,
@@ -44,7 +50,7 @@ pub enum Shape {
     Full,
 }
 
-pub const SHAPES: [Shape; 21] = [
+pub const SHAPES: [Shape; 23] = [
     Shape::Mixed,
     Shape::Edges,
     Shape::TiedBids,
@@ -57,6 +63,8 @@ pub const SHAPES: [Shape; 21] = [
     Shape::Undelivered,
     Shape::Reduced,
     Shape::TiedPenalties,
+    Shape::Windless,
+    Shape::NearlyWindless,
     Shape::NeedNothing,
     Shape::NeedBeyond,
     Shape::LowestTariff,
@@ -68,12 +76,14 @@ pub const SHAPES: [Shape; 21] = [
     Shape::Full,
 ];
 
-/// Any shape; one in five is the one with many ties, one in four has penalties in plenty.
+/// Any shape; one in five is the one with many ties, one in four has penalties in plenty, and one in four is windless or nearly so.
 fn shape(random: &mut Random) -> Shape {
     match random.below(20) {
         0..4 => Shape::Alike,
         4..6 => Shape::Reduced,
         6..8 => Shape::TiedPenalties,
+        8..11 => Shape::Windless,
+        11..13 => Shape::NearlyWindless,
         _ => random.one_of(&SHAPES),
     }
 }
@@ -98,7 +108,7 @@ fn case_of(random: &mut Random, shape: Shape, interval: Interval) -> Case {
     let (interval, correction) = if random.once_in(2) || interval.rows.is_empty() {
         (interval.bytes(), Vec::new())
     } else {
-        let (interval, correction) = spoil(random, interval);
+        let (interval, correction) = if random.once_in(4) { lower(random, interval) } else { spoil(random, interval) };
         (interval.bytes(), correction.bytes())
     };
     Case { name: format!("{shape:?}"), interval, correction, buffer }
@@ -170,8 +180,18 @@ pub fn interval_of(random: &mut Random, shape: Shape, count: u32) -> Interval {
 
 /// A valid interval of the given shape, number of rows and terms: PG where they are stated, PH where none are.
 pub fn interval_stating(random: &mut Random, shape: Shape, count: u32, stated: Option<Terms>) -> Interval {
+    match shape {
+        Shape::Windless => return windless::interval(random, count, stated),
+        Shape::NearlyWindless => return windless::nearly(random, count, stated),
+        _ => {}
+    }
     let drawn = Drawn { shape, stated, terms: stated.unwrap_or(Terms::OF_01) };
     let mut rows: Vec<Row> = (0..count).map(|_| drawn.row(random)).collect();
+    if shape == Shape::NobodyPays && count > 0 {
+        let row = &mut rows[random.below(count as usize)];
+        let metered = random.within(1..=load(row, 275));
+        *row = Row::new(0, random.one_of(&[WIND, SOLAR]), row.capacity, metered).with_status(3);
+    }
     number(random, &mut rows);
     let offered = rows.iter().filter(|row| row.offered == 1);
     let width: u32 = offered.map(|row| drawn.terms.baseline(row.capacity) - row.minimum).sum();
@@ -342,7 +362,25 @@ impl Drawn {
 
 /// Changes metered and status of some rows and returns the correction that puts them right again,
 /// so that the pair settles as the interval did alone.
-pub fn spoil(random: &mut Random, mut interval: Interval) -> (Interval, Correction) {
+pub fn spoil(random: &mut Random, interval: Interval) -> (Interval, Correction) {
+    spoil_by(random, interval, |random, row| {
+        if !random.once_in(4) {
+            row.metered = random.within(0..=load(row, 275));
+        }
+    })
+}
+
+/// The same, but what the correction puts right is low: so it may end what the thermal average begins in the interval file alone.
+fn lower(random: &mut Random, interval: Interval) -> (Interval, Correction) {
+    let terms = interval.terms();
+    spoil_by(random, interval, |random, row| row.metered = windless::low_meter(random, row, terms))
+}
+
+fn spoil_by(
+    random: &mut Random,
+    mut interval: Interval,
+    spoil: impl Fn(&mut Random, &mut Row),
+) -> (Interval, Correction) {
     let mut places: Vec<usize> = (0..interval.rows.len()).collect();
     random.shuffle(&mut places);
     places.truncate(random.within(1..=interval.rows.len() as u32) as usize);
@@ -350,9 +388,7 @@ pub fn spoil(random: &mut Random, mut interval: Interval) -> (Interval, Correcti
     let correction = interval.correcting(&places);
     for place in places {
         let row = &mut interval.rows[place];
-        if !random.once_in(4) {
-            row.metered = random.within(0..=load(row, 275));
-        }
+        spoil(random, row);
         if random.once_in(2) {
             row.status = if row.kind == THERMAL { random.within(0..=3) as u8 } else { random.one_of(&[0, 3]) };
         }

@@ -1,6 +1,8 @@
-//! What every statement owes its readers, checked on its bytes alone.
+//! What every statement owes its readers, checked on its bytes alone; and what it owes to the rows that count, where the thermal
+//! average is concerned.
 
-use crate::file::{LINE, STATEMENT_HEAD_PT, Terms, statement_head};
+use crate::file::{Interval, LINE, STATEMENT_HEAD_PT, THERMAL, Terms, statement_head};
+use crate::windless::Average;
 
 struct Line {
     called: [u128; 2],
@@ -54,7 +56,8 @@ pub fn check(statement: &[u8]) -> Result<(), String> {
     penalties(&lines, clearing)?;
     books(&lines)?;
     numbering(&lines, rounds)?;
-    visits(&lines, rounds, number(&head[length - 4..]))?;
+    visits(&lines, rounds, number(&head[length - 5..length - 1]))?;
+    averaged(&lines, number(&head[29..33]), head[length - 1])?;
     penalty_money_first(&lines, shortfall)?;
     let (closed, open): (Vec<&Line>, Vec<&Line>) =
         lines.iter().filter(|line| line.weight > 0).partition(|line| line.closing > 0);
@@ -67,6 +70,24 @@ pub fn check(statement: &[u8]) -> Result<(), String> {
         demand(shortfall == 0, "there is a shortfall only if all payers are capped")?;
         common_rate(&open, &closed, total - caps)
     }
+}
+
+/// Checks of a statement that its flag says whether the thermal average rules the rows that count, and that where it does rows at or above
+/// it weigh what they are above it, and only rows below it are paid. The answer is the average that rules.
+pub fn check_average(counting: &Interval, statement: &[u8]) -> Result<Option<Average>, String> {
+    let average = Average::ruling(counting.need, counting.terms(), &counting.rows);
+    let length = statement_head(statement).ok_or("not so: the head has its mark")?;
+    demand(statement[length - 1] == u8::from(average.is_some()), "the flag says whether the thermal average rules")?;
+    let lines = statement[length..].chunks_exact(LINE).map(line);
+    for (row, line) in counting.rows.iter().zip(lines).filter(|(row, _)| row.kind == THERMAL) {
+        let Some(energy) = average.map(|average| average.of(row)) else { continue };
+        let above = if row.status == 3 { None } else { row.metered.checked_sub(energy) };
+        demand(line.weight == above.unwrap_or(0).into(), "a thermal row weighs what it is above its average")?;
+        demand(line.cap == 0 || above.is_some(), "a thermal row below its average is no payer")?;
+        let below = row.status == 0 && row.metered < energy;
+        demand(line.compensation == 0 || below, "only a row below its average is paid")?;
+    }
+    Ok(average)
 }
 
 /// The terms of a statement: those that its head states have to be such as may be stated.
@@ -172,6 +193,14 @@ fn visits(lines: &[Line], rounds: u128, visits: u128) -> Result<(), String> {
     let payers = each.len() as u128;
     demand(visits == each.iter().sum(), "the visits are those that the closing rounds tell")?;
     demand(visits <= payers * (payers + 1) / 2, "m payers of weight above 0 are visited at most m(m + 1)/2 times")
+}
+
+/// The flag at the head's end, whether the thermal average ruled: it needs a row, and a need that is then called or uncovered.
+fn averaged(lines: &[Line], uncovered: u128, flag: u8) -> Result<(), String> {
+    demand(flag <= 1, "the flag is 0 or 1")?;
+    let needed = uncovered + sum(lines, |line| line.called[0] + line.called[1]);
+    demand(flag == 0 || !lines.is_empty(), "the thermal average rules only where there is a row")?;
+    demand(flag == 0 || needed > 0, "the thermal average rules only where there is a need")
 }
 
 /// The rate is `rest` for the sum of the open weights; every open and every capped payer is checked against it.

@@ -4,8 +4,8 @@ pub const INTERVAL_HEAD_PH: usize = 15;
 pub const INTERVAL_HEAD_PG: usize = 24;
 pub const CORRECTION_HEAD: usize = 9;
 pub const ROW: usize = 21;
-pub const STATEMENT_HEAD_PS: usize = 39;
-pub const STATEMENT_HEAD_PT: usize = 48;
+pub const STATEMENT_HEAD_PS: usize = 40;
+pub const STATEMENT_HEAD_PT: usize = 49;
 pub const LINE: usize = 42;
 /// Enough for the longest statement of either form.
 pub const STATEMENT_ROOM: usize = STATEMENT_HEAD_PT + 256 * LINE;
@@ -28,6 +28,10 @@ impl Terms {
     /// The baseline of so many MW in kWh, cut to a whole number; full load is 250 kWh for each MW.
     pub fn baseline(&self, capacity: u16) -> u32 {
         250 * u32::from(capacity) * u32::from(self.percent) / 100
+    }
+
+    fn read(bytes: &[u8]) -> Terms {
+        Terms { percent: bytes[0], limits: [1, 3, 5, 7].map(|at| number(&bytes[at..at + 2]) as u16) }
     }
 
     fn bytes(&self) -> Vec<u8> {
@@ -110,6 +114,35 @@ impl Interval {
         bytes
     }
 
+    /// The figures of a file of the right length, whatever its marks and ranges; with terms where its mark is that of PG.
+    pub fn read(file: &[u8]) -> Option<Interval> {
+        let (head, body) = file.split_at_checked(heads(file).0)?;
+        let interval = Interval {
+            mark: [head[0], head[1]],
+            day: number(&head[2..6]),
+            quarter: head[6],
+            tariff: number(&head[7..9]) as u16,
+            need: number(&head[9..13]),
+            count: None,
+            stated: (head.len() > INTERVAL_HEAD_PH).then(|| Terms::read(&head[INTERVAL_HEAD_PH..])),
+            rows: body.chunks_exact(ROW).map(Row::read).collect(),
+        };
+        (body.len() == ROW * number(&head[13..15]) as usize).then_some(interval)
+    }
+
+    /// The same with the rows of a correction in place of its own; both files have to be accepted together.
+    pub fn read_pair(interval: &[u8], correction: &[u8]) -> Option<Interval> {
+        let mut interval = Interval::read(interval)?;
+        let corrected: Vec<Row> =
+            correction.get(CORRECTION_HEAD..).unwrap_or_default().chunks_exact(ROW).map(Row::read).collect();
+        for row in &mut interval.rows {
+            if let Some(&new) = corrected.iter().find(|new| new.id == row.id) {
+                *row = new;
+            }
+        }
+        Some(interval)
+    }
+
     /// Length of the statement of this interval.
     pub fn statement_length(&self) -> usize {
         let head = if self.stated.is_some() { STATEMENT_HEAD_PT } else { STATEMENT_HEAD_PS };
@@ -121,6 +154,10 @@ impl Interval {
         let rows = places.iter().map(|&place| self.rows[place]).collect();
         Correction { mark: *b"PK", day: self.day, quarter: self.quarter, count: None, rows }
     }
+}
+
+fn number(bytes: &[u8]) -> u32 {
+    bytes.iter().rev().fold(0, |number, &byte| number << 8 | u32::from(byte))
 }
 
 /// The length of an interval file's head by its mark, and of its statement's: those of PH where the mark is another.
@@ -173,6 +210,20 @@ impl Row {
 
     pub fn solar(id: u16, capacity: u16, metered: u32) -> Row {
         Row::new(id, SOLAR, capacity, metered)
+    }
+
+    fn read(bytes: &[u8]) -> Row {
+        Row {
+            mark: [bytes[0], bytes[1]],
+            id: number(&bytes[2..4]) as u16,
+            kind: bytes[4],
+            capacity: number(&bytes[5..7]) as u16,
+            metered: number(&bytes[7..11]),
+            status: bytes[11],
+            offered: bytes[12],
+            minimum: number(&bytes[13..17]),
+            bids: [number(&bytes[17..19]) as u16, number(&bytes[19..21]) as u16],
+        }
     }
 
     pub fn offering(self, minimum: u32, tier_1: u16, tier_2: u16) -> Row {

@@ -89,7 +89,7 @@ pub fn filled(mut interval: Interval, rows: usize) -> Interval {
 pub fn told(statement: &[u8]) -> (u16, u32, Vec<u16>) {
     let number = |bytes: &[u8], at: usize| u16::from_le_bytes([bytes[at], bytes[at + 1]]);
     let (head, lines) = statement.split_at(statement_head(statement).expect("a statement has its mark"));
-    // The visits are the head's last field.
-    let visits = u32::from(number(head, head.len() - 4)) | u32::from(number(head, head.len() - 2)) << 16;
+    // The visits stand before the flag, which is the head's last byte.
+    let visits = u32::from(number(head, head.len() - 5)) | u32::from(number(head, head.len() - 3)) << 16;
     (number(head, 27), visits, lines.chunks_exact(LINE).map(|line| number(line, 32)).collect())
 }

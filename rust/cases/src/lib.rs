@@ -10,6 +10,7 @@ pub mod ladder;
 mod many_rounds;
 pub mod random;
 pub mod refused;
+pub mod windless;
 
 use file::{LINE, STATEMENT_HEAD_PS, STATEMENT_HEAD_PT};
 

@@ -2,8 +2,9 @@
 //!
 //! Each trial is drawn from the run's seed and its own number, so that one alone can be repeated.
 
-use cases::file::{CORRECTION_HEAD, ROW, heads, statement_length};
+use cases::file::{CORRECTION_HEAD, Interval, ROW, THERMAL, heads, statement_length};
 use cases::random::Random;
+use cases::windless::Average;
 use cases::{Answer, Case, Outcome, accepted, demands, lengths_near, pattern, refused};
 
 /// The engine in the form that `Case::run` takes.
@@ -49,6 +50,36 @@ pub struct Tally {
     pub at_bound: u64,
     /// Settlements whose calls, payments, cuts and returned penalties are others than by the lower id.
     pub turned: [u64; 4],
+    pub averaged: Averaged,
+}
+
+/// Settlements that the thermal average ruled.
+#[derive(Clone, Copy, Debug, Default)]
+pub struct Averaged {
+    pub all: u64,
+    /// Of these, the ones under stated terms; in which somebody pays; in which somebody owes a penalty; in which one thermal row stands
+    /// exactly at its average and another does not; and in which the average is below 40 percent.
+    pub stated: u64,
+    pub paid: u64,
+    pub penalised: u64,
+    pub at_average: u64,
+    pub below_40_percent: u64,
+    /// Those in which the average would not rule without the correction; and settlements in which it would, but for the correction.
+    pub begun: u64,
+    pub ended: u64,
+}
+
+impl Averaged {
+    fn add(&mut self, other: &Averaged) {
+        self.all += other.all;
+        self.stated += other.stated;
+        self.paid += other.paid;
+        self.penalised += other.penalised;
+        self.at_average += other.at_average;
+        self.below_40_percent += other.below_40_percent;
+        self.begun += other.begun;
+        self.ended += other.ended;
+    }
 }
 
 impl Tally {
@@ -71,6 +102,7 @@ impl Tally {
         self.revisited += other.revisited;
         self.at_bound += other.at_bound;
         self.turned.iter_mut().zip(other.turned).for_each(|(sum, more)| *sum += more);
+        self.averaged.add(&other.averaged);
     }
 }
 
@@ -100,6 +132,7 @@ pub fn trial(seed: u64, number: u64, tally: &mut Tally) -> Result<(), String> {
             tally.outbid += u64::from(outbid(&case.interval, statement)?);
             count_penalties(statement, tally);
             count_visits(statement, tally);
+            count_averaged(&case, statement, &mut tally.averaged)?;
             tally.turned.iter_mut().zip(turned(&case, statement)).for_each(|(sum, is)| *sum += u64::from(is));
         }
         Err((number, _)) => tally.refused[usize::from(number)] += 1,
@@ -165,6 +198,29 @@ fn count_visits(statement: &[u8], tally: &mut Tally) {
     let payers = wheatrudder::lines(statement).filter(|line| line.weight > 0).count() as u32;
     tally.revisited += u64::from(visits > payers);
     tally.at_bound += u64::from(payers >= 2 && visits == payers * (payers + 1) / 2);
+}
+
+/// Puts a settlement into the tally of the thermal average, which the statement is held to.
+fn count_averaged(case: &Case, statement: &[u8], tally: &mut Averaged) -> Result<(), String> {
+    let counting = Interval::read_pair(&case.interval, &case.correction).ok_or("an accepted pair is not read")?;
+    let told = |what| format!("{what} ({})", case.name);
+    let average = demands::check_average(&counting, statement).map_err(told)?;
+    let alone = Interval::read(&case.interval).ok_or("an accepted file is not read")?;
+    let without_correction = Average::ruling(alone.need, alone.terms(), &alone.rows);
+    let Some(average) = average else {
+        tally.ended += u64::from(without_correction.is_some());
+        return Ok(());
+    };
+    tally.all += 1;
+    tally.begun += u64::from(without_correction.is_none());
+    tally.stated += u64::from(counting.stated.is_some());
+    tally.paid += u64::from(wheatrudder::lines(statement).any(|line| line.paid > 0));
+    tally.penalised += u64::from(wheatrudder::lines(statement).any(|line| line.penalty > 0));
+    let thermal = || counting.rows.iter().filter(|row| row.kind == THERMAL);
+    let stands_there = thermal().any(|row| row.metered == average.of(row));
+    tally.at_average += u64::from(stands_there && thermal().any(|row| row.metered != average.of(row)));
+    tally.below_40_percent += u64::from(average.below_40_percent());
+    Ok(())
 }
 
 /// Whether calls, payments, cuts and returned penalties are others than at quarter 0, where leftovers go to the lower id as before

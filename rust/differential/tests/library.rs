@@ -3,7 +3,7 @@
 //! `SEED=n` repeats a run, `TRIALS=n` makes it longer; a failure prints its trial and its seed, and
 //! `SEED=n TRIAL=m cargo test one_trial` repeats it alone.
 
-use cases::file::{Interval, Row, Terms, statement_head, statement_length};
+use cases::file::{Interval, Row, STATEMENT_HEAD_PT, Terms, statement_head, statement_length};
 use cases::ladder::{self, ladder};
 use cases::random::Random;
 use cases::{Case, accepted, demands, lengths_near, refused};
@@ -43,6 +43,12 @@ fn enough(tally: &Tally) {
     assert!(tally.still_cut > tally.settled / 20 && tally.returned > tally.settled / 20);
     assert!(tally.revisited > tally.settled / 10 && tally.at_bound > 0);
     assert!(tally.turned.iter().all(|&count| count > tally.settled / 40));
+    let averaged = tally.averaged;
+    assert!(averaged.all > tally.settled / 5 && averaged.all < tally.settled / 2);
+    assert!(averaged.stated > averaged.all / 4 && averaged.stated < averaged.all * 3 / 4);
+    assert!(averaged.paid > averaged.all / 4 && averaged.penalised > averaged.all / 20);
+    assert!(averaged.at_average > averaged.all / 20 && averaged.below_40_percent > averaged.all / 10);
+    assert!(averaged.begun > averaged.all / 10 && averaged.ended > averaged.all / 40);
 }
 
 #[test]
@@ -154,7 +160,7 @@ fn a_stated_baseline_stands_for_half_load() {
     let terms = Terms { percent: 45, limits: [100, 320, 320, 750] };
     let interval = Interval::x(1300).stating(terms);
     let mut statement = vec![0; interval.statement_length()];
-    assert_eq!(wheatrudder::settle(&interval.bytes(), &[], &mut statement), Ok(174));
+    assert_eq!(wheatrudder::settle(&interval.bytes(), &[], &mut statement), Ok(175));
     let head = wheatrudder::head(&statement).expect("a head");
     assert_eq!((head.stated, head.terms.percent, head.terms.limits), (true, terms.percent, terms.limits));
     assert_eq!((head.prices, head.total, head.shortfall, head.rounds, head.visits), ([200, 400], 65_000, 0, 0, 2));
@@ -180,15 +186,59 @@ fn a_row_between_the_stated_baseline_and_half_load_pays() {
     }
 }
 
+/// Interval X with row 2 at 12,000 kWh, and its wind farm at so many or left out.
+fn x_with_wind(metered: Option<u32>) -> Interval {
+    let mut interval = Interval::x(1300);
+    interval.rows[1].metered = 12_000;
+    interval.rows.truncate(2);
+    interval.rows.extend(metered.map(|metered| Row::wind(3, 100, metered)));
+    interval
+}
+
+#[test]
+fn the_thermal_average_rules_a_windless_quarter() {
+    let at = |percent| x_with_wind(Some(0)).stating(Terms { percent, ..Terms::OF_01 });
+    // Without wind the average is 10,500: row 1 delivers 500 and 1,000 kWh, 50,000 fen, and row 2 pays its cap for 1,500 kWh above it.
+    let averaged = (true, 50_000, 11_000, [1_500, 39_000, 39_000]);
+    for (interval, due) in [
+        (x_with_wind(None), averaged),
+        (x_with_wind(Some(0)), averaged),
+        (at(48), averaged),
+        // 1 kWh of wind, and a baseline below 12,000 kWh.
+        (x_with_wind(Some(1)), (false, 90_000, 89_994, [0, 0, 0])),
+        (at(45), (false, 65_000, 26_000, [750, 39_000, 39_000])),
+    ] {
+        let mut statement = vec![0; interval.statement_length()];
+        wheatrudder::settle(&interval.bytes(), &[], &mut statement).expect("accepted");
+        let head = wheatrudder::head(&statement).expect("a head");
+        let payer =
+            wheatrudder::lines(&statement).nth(1).map(|line| [line.weight, line.cap, line.paid]).expect("a line");
+        assert_eq!((head.averaged, head.total, head.shortfall, payer), due);
+    }
+}
+
+#[test]
+fn a_correction_begins_and_ends_the_thermal_average() {
+    let [still, blowing] = [0, 5_000].map(|metered| x_with_wind(Some(metered)));
+    for (interval, corrected, averaged) in [(&blowing, &still, true), (&still, &blowing, false)] {
+        let [mut pair, mut alone] = [(); 2].map(|()| vec![0; interval.statement_length()]);
+        let correction = corrected.correcting(&[2]).bytes();
+        wheatrudder::settle(&interval.bytes(), &correction, &mut pair).expect("accepted");
+        wheatrudder::settle(&corrected.bytes(), &[], &mut alone).expect("accepted");
+        assert_eq!(pair, alone);
+        assert_eq!(wheatrudder::head(&pair).map(|head| head.averaged), Some(averaged));
+    }
+}
+
 #[test]
 fn terms_out_of_range_are_refused_with_14() {
     let answer = |percent, limits| {
         let interval = Interval::new(1300, 0, Vec::new()).stating(Terms { percent, limits });
-        settle(&interval.bytes(), &[], &mut [0; 48])
+        settle(&interval.bytes(), &[], &mut [0; STATEMENT_HEAD_PT])
     };
     let of_01 = Terms::OF_01.limits;
     for percent in 0..=255 {
-        let due = if (41..=50).contains(&percent) { Ok(48) } else { Err((14, 0)) };
+        let due = if (41..=50).contains(&percent) { Ok(STATEMENT_HEAD_PT) } else { Err((14, 0)) };
         assert_eq!(answer(percent, of_01), due, "{percent} percent");
     }
     // Each limit at every value beside the others as they are.
@@ -198,7 +248,7 @@ fn terms_out_of_range_are_refused_with_14() {
             limits[place] = value;
             let [first, second, third, fourth] = limits;
             let rising = 1 <= first && first < second && second <= third && third < fourth && fourth <= 1_000;
-            assert_eq!(answer(50, limits), if rising { Ok(48) } else { Err((14, 0)) }, "{limits:?}");
+            assert_eq!(answer(50, limits), if rising { Ok(STATEMENT_HEAD_PT) } else { Err((14, 0)) }, "{limits:?}");
         }
     }
 }

@@ -2,6 +2,7 @@
 //!
 //! Each of the 96 quarters of each day, from day FIRST on, gets an interval file of so many rows, and one in three a correction. Half of
 //! the interval files state no terms (`PH`); the others (`PG`) state those of document 01, or one of two that are drawn for the month.
+//! One quarter in eight at least is windless once it is corrected, of either form, so that the thermal average rules it.
 //! The first day's files lie in FOLDER, those of every other day in a subfolder. STATEMENTS gets the statement that is due for each
 //! quarter by the reference. Files are named by the numbers of day and quarter: `9800-09.interval`, `9800-09.correction`,
 //! `9800-09.statement`. Rows are of any shape of `cases::accepted`, or of the one named, such as `Mixed`.
@@ -14,6 +15,7 @@ use std::path::Path;
 use cases::accepted::{SHAPES, interval_stating, spoil, terms};
 use cases::file::{Interval, STATEMENT_ROOM, Terms};
 use cases::random::Random;
+use cases::windless;
 
 const USAGE: &str = "draw-month FOLDER STATEMENTS FIRST DAYS ROWS SEED [SHAPE], at most 256 rows";
 
@@ -66,7 +68,8 @@ fn main() -> Result<(), Box<dyn Error>> {
         for quarter in 0..96 {
             let shape = shape.unwrap_or_else(|| random.one_of(&SHAPES));
             let stated = random.one_of(&forms);
-            let interval = Interval { day, quarter, ..interval_stating(&mut random, shape, rows, stated) };
+            let draw = if random.once_in(8) { windless::lowered } else { interval_stating };
+            let interval = Interval { day, quarter, ..draw(&mut random, shape, rows, stated) };
             let pair = pair(&mut random, interval);
             put(&folder, Path::new(statements), &format!("{day}-{quarter:02}"), pair)?;
         }

@@ -173,7 +173,7 @@ mod tests {
 
     #[test]
     fn one_byte_more_than_the_longest_form() {
-        assert_eq!(MOST, 10_801);
+        assert_eq!(MOST, 10_802);
     }
 
     #[test]

@@ -82,8 +82,9 @@ fn signed(bytes: &[u8]) -> Option<&'static str> {
     })
 }
 
-/// Whether the bytes are a whole statement: read to its end, of a quarter in range, as long as its mark and its number of rows say, under
-/// terms that are allowed, its ids rising, and every sum in it the one that is due.
+/// Whether the bytes are a whole statement as it is written now: read to its end, of a quarter in range, as long as its mark and its
+/// number of rows say, under terms that are allowed, averaged or not, its ids rising, and every sum in it the one that is due. One of an
+/// earlier version has a shorter head, and is none.
 fn is_whole_statement(content: &Content) -> bool {
     let bytes = &content.bytes;
     let Some(head) = wheatrudder::head(bytes) else { return false };
@@ -383,7 +384,7 @@ mod tests {
             }
         }
         for (interval, before_lines, mark, other) in
-            [(Interval::x(1300), 39, b"PS", b"PT"), (Interval::x(1300).stating(OTHER), 48, b"PT", b"PS")]
+            [(Interval::x(1300), 40, b"PS", b"PT"), (Interval::x(1300).stating(OTHER), 49, b"PT", b"PS")]
         {
             let bytes = statement(interval);
             assert_eq!((bytes.len(), &bytes[..2]), (before_lines + 3 * 42, mark.as_slice()));
@@ -393,9 +394,10 @@ mod tests {
             assert_eq!(of(&[bytes.as_slice(), b"x"].concat()), half);
             assert_eq!(of(&[other.as_slice(), &bytes[2..]].concat()), half, "the other form's mark");
             assert_eq!(what(&Content { end: Some(vec![0; END]), ..Content::whole(&bytes) }), half);
-            // Total, shortfall, the number of rows; id, compensation, cut, payment, penalty and what is returned of the second line.
-            let line = before_lines + 42;
-            for place in [11, 18, 19, 26, 33, line + 3, line + 12, line + 16, line + 28, line + 34, line + 38] {
+            // Total, shortfall, the number of rows, whether it is averaged; id, compensation, cut, payment, penalty and what is
+            // returned of the second line.
+            let (flag, line) = (before_lines - 1, before_lines + 42);
+            for place in [11, 18, 19, 26, 33, flag, line + 3, line + 12, line + 16, line + 28, line + 34, line + 38] {
                 let mut bytes = bytes.clone();
                 bytes[place] ^= 0x80;
                 assert_eq!(of(&bytes), half, "{place}");
@@ -406,6 +408,11 @@ mod tests {
                 bytes[line + 2] = id;
                 assert_eq!(of(&bytes), half, "{id}");
             }
+            for averaged in 0..=255 {
+                let mut bytes = bytes.clone();
+                bytes[flag] = averaged;
+                assert_eq!(of(&bytes), if averaged < 2 { kept } else { half }, "{averaged}");
+            }
             let mut far = bytes.clone();
             far[6] = 96;
             assert_eq!(of(&far), What::Statement { at: None, whole: false });
@@ -415,8 +422,8 @@ mod tests {
     #[test]
     fn a_statement_of_no_rows_is_whole_when_its_sums_are_0() {
         let stated =
-            [head(b"PT", 0, 0), vec![0; 28], b"\x2d\x96\0\xfa\0\x5e\x01\xc2\x01".to_vec(), vec![0; 4]].concat();
-        for empty in [[head(b"PS", 0, 0), vec![0; 32]].concat(), stated] {
+            [head(b"PT", 0, 0), vec![0; 28], b"\x2d\x96\0\xfa\0\x5e\x01\xc2\x01".to_vec(), vec![0; 5]].concat();
+        for empty in [[head(b"PS", 0, 0), vec![0; 33]].concat(), stated] {
             assert_eq!(of(&empty), What::Statement { at: at(0, 0), whole: true });
             let mut most = empty;
             most[11..27].fill(0xff);
@@ -448,16 +455,29 @@ mod tests {
 
     #[test]
     fn the_longest_statements_are_whole() {
-        for (stated, due) in [(None, 10_791), (Some(OTHER), 10_800)] {
+        for (stated, due) in [(None, 10_792), (Some(OTHER), 10_801)] {
             let bytes = statement(interval_stating(&mut Random::from_seed(17), Shape::Full, 256, stated));
             assert_eq!((bytes.len(), of(&bytes)), (due, What::Statement { at: at(9_800, 9), whole: true }));
         }
     }
 
+    /// Heads of 39 and 48 bytes, which ended with the visits.
     #[test]
-    fn a_statement_may_have_penalties_and_cuts() {
+    fn a_statement_of_an_earlier_version_is_not_whole() {
+        for (stated, flag) in [(None, STATEMENT_HEAD_PS - 1), (Some(OTHER), STATEMENT_HEAD_PT - 1)] {
+            for rows in [0, 1, 2, 12, 256] {
+                let mut bytes = statement(interval_stating(&mut Random::from_seed(17), Shape::Mixed, rows, stated));
+                assert_eq!(of(&bytes), What::Statement { at: at(9_800, 9), whole: true }, "{rows}");
+                bytes.remove(flag);
+                assert_eq!(of(&bytes), What::Statement { at: at(9_800, 9), whole: false }, "{rows}");
+            }
+        }
+    }
+
+    #[test]
+    fn a_statement_may_have_penalties_and_cuts_and_be_averaged() {
         let mut random = Random::from_seed(17);
-        let (mut cuts, mut returned) = ([0; 2], [0; 2]);
+        let (mut cuts, mut returned, mut averaged) = ([0; 2], [0; 2], [0; 2]);
         for shape in SHAPES.into_iter().cycle().take(2_100) {
             let mut statement = [0; MOST];
             let interval = interval_of_either(&mut random, shape, 12);
@@ -466,7 +486,9 @@ mod tests {
             let form = usize::from(interval.stated.is_some());
             cuts[form] += usize::from(wheatrudder::lines(&statement[..length]).any(|line| line.cut > 0));
             returned[form] += usize::from(wheatrudder::lines(&statement[..length]).any(|line| line.returned > 0));
+            averaged[form] += usize::from(wheatrudder::head(&statement[..length]).is_some_and(|head| head.averaged));
         }
-        assert!(cuts.into_iter().chain(returned).all(|count| count > 50), "{cuts:?} {returned:?}");
+        let counts = [cuts, returned, averaged];
+        assert!(counts.iter().flatten().all(|count| *count > 50), "{counts:?}");
     }
 }

@@ -9,6 +9,7 @@ mod pairing;
 mod progress;
 mod run;
 mod settling;
+mod span;
 mod statements;
 mod tally;
 mod terms;

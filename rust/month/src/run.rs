@@ -89,7 +89,9 @@ impl<W: Write> Run<W> {
                 self.tally.passed += 1;
                 return Ok(());
             }
-            What::Statement { whole: false, .. } => return self.leave(&name, "a statement that is not whole"),
+            What::Statement { whole: false, .. } => {
+                return self.leave(&name, "a statement that is not whole, or of an earlier version");
+            }
             What::Interval(None) | What::Correction(None) | What::Coming | What::Unknown => {
                 let said = alone(&content.bytes, &mut self.buffer);
                 return self.leave(&name, &said);
@@ -128,7 +130,7 @@ impl<W: Write> Run<W> {
                 self.tally.settled += 1;
                 self.tally.corrected += usize::from(corrected);
                 if let Some(head) = wheatrudder::head(&self.buffer[..length]) {
-                    self.tally.ruled.add(quarter, head.terms, head.stated);
+                    self.tally.ruled.add(quarter, &head);
                 }
                 return self.write(quarter, length);
             }
@@ -224,8 +226,8 @@ mod tests {
 
     #[test]
     fn what_changes_is_not_accounted_for_whatever_it_is() {
-        let no_rows = [b"PS".as_slice(), &[0; 37]].concat();
-        let stated = [b"PT".as_slice(), &[0; 33], b"\x2d\x01\0\x02\0\x02\0\x03\0", &[0; 4]].concat();
+        let no_rows = [b"PS".as_slice(), &[0; 38]].concat();
+        let stated = [b"PT".as_slice(), &[0; 33], b"\x2d\x01\0\x02\0\x02\0\x03\0", &[0; 5]].concat();
         let known = [b"a text that is long enough".as_slice(), b"%PDF-1.4 and so on", &no_rows, &stated];
         for bytes in known.into_iter().chain([b"PK".as_slice(), b"PG", b"?", b""]) {
             let (tally, said) = placed("x", Content { steady: false, ..Content::whole(bytes) });

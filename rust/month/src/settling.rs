@@ -101,7 +101,7 @@ mod tests {
 
     #[test]
     fn a_quarter_is_one_call() {
-        for (interval, length) in [(Interval::x(1300), 165), (Interval::x(1300).stating(OTHER), 174)] {
+        for (interval, length) in [(Interval::x(1300), 166), (Interval::x(1300).stating(OTHER), 175)] {
             let mut buffer = [0; MOST];
             let at = Quarter { day: 0, quarter: 0 };
             let settled = settle(at, &held(&interval, None), &mut buffer);
@@ -195,7 +195,7 @@ mod tests {
     fn terms_that_are_not_allowed_are_named() {
         let refused_14 = |terms: Terms| {
             let no_rows = Interval::new(1, 0, Vec::new()).stating(terms).bytes();
-            let answer = wheatrudder::settle(&no_rows, &[], &mut [0; 48]);
+            let answer = wheatrudder::settle(&no_rows, &[], &mut [0; 49]);
             answer.is_err_and(|refusal| (refusal.number, refusal.place) == (14, 0))
         };
         let limits = [0, 1, 2, 499, 500, 501, 999, 1_000, 1_001, 65_535];

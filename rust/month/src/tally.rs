@@ -1,4 +1,4 @@
-//! What is said at the end: the days, the terms, and how many of everything.
+//! What is said at the end: the days, what ruled, and how many of everything.
 
 use std::collections::BTreeMap;
 use std::fmt;
@@ -28,7 +28,7 @@ pub struct Tally {
     pub statements: Option<Kept>,
     /// Of each day that a file names.
     pub days: BTreeMap<u32, Day>,
-    /// The terms of the quarters settled.
+    /// What ruled the quarters settled: terms, and the thermal average.
     pub ruled: Ruled,
 }
 

@@ -1,9 +1,11 @@
 //! The terms under which a quarter is settled: the baseline in percent of full load, and the limits of the bids in either tier. A file
-//! that begins with `PG` states them in its head; every other is under those of document 01.
+//! that begins with `PG` states them in its head; every other is under those of document 01. Where there is no wind and everybody is
+//! low, the thermal average rules in the baseline's place.
 
-use wheatrudder::Terms;
+use wheatrudder::{Head, Terms};
 
 use crate::calendar::Quarter;
+use crate::span::Span;
 
 pub const INTERVAL_HEAD_PH: usize = 15;
 pub const INTERVAL_HEAD_PG: usize = 24;
@@ -31,41 +33,39 @@ pub fn said(Terms { percent, limits: [low, high, low_2, high_2] }: Terms) -> Str
     format!("baseline {percent} percent, bids {low} to {high} and {low_2} to {high_2} li")
 }
 
-/// Which terms ruled which of the settled quarters.
+/// Which terms ruled which of the settled quarters, and where the thermal average did.
 #[derive(Default)]
 pub struct Ruled {
     /// In the order of the first quarter of each.
-    spans: Vec<Span>,
+    by_terms: Vec<(Terms, Span)>,
     /// Whether a file stated its terms.
     stated: bool,
-}
-
-/// Quarters under the same terms, not always all from the first to the last.
-struct Span {
-    terms: Terms,
-    quarters: usize,
-    first: Quarter,
-    last: Quarter,
+    averaged: Option<Span>,
 }
 
 impl Ruled {
-    /// Counts a settled quarter. Quarters come in their order.
-    pub fn add(&mut self, quarter: Quarter, terms: Terms, stated: bool) {
-        self.stated |= stated;
-        match self.spans.iter_mut().find(|span| span.terms == terms) {
-            Some(span) => (span.quarters, span.last) = (span.quarters + 1, quarter),
-            None => self.spans.push(Span { terms, quarters: 1, first: quarter, last: quarter }),
+    /// Counts a settled quarter by the head of its statement. Quarters come in their order.
+    pub fn add(&mut self, quarter: Quarter, head: &Head) {
+        self.stated |= head.stated;
+        match self.by_terms.iter_mut().find(|(terms, _)| *terms == head.terms) {
+            Some((_, span)) => span.add(quarter),
+            None => self.by_terms.push((head.terms, Span::of(quarter))),
+        }
+        if head.averaged {
+            match &mut self.averaged {
+                Some(span) => span.add(quarter),
+                none => *none = Some(Span::of(quarter)),
+            }
         }
     }
 
-    /// A line for each set of terms; none where no file stated any, since all quarters are then under those of document 01.
+    /// A line for each set of terms, none where no file stated any, since all quarters are then under those of document 01; then one for
+    /// the thermal average, if it ruled.
     pub fn lines(&self) -> Vec<String> {
-        let line = |Span { terms, quarters, first, last }: &Span| {
-            let when =
-                if quarters > &1 { format!("{quarters} quarters, {first} to {last}") } else { first.to_string() };
-            format!("terms: {}: {when}", said(*terms))
-        };
-        self.spans.iter().filter(|_| self.stated).map(line).collect()
+        let terms = self.by_terms.iter().filter(|_| self.stated);
+        let terms = terms.map(|(terms, span)| format!("terms: {}: {span}", said(*terms)));
+        let averaged = self.averaged.iter().map(|span| format!("thermal average in the baseline's place: {span}"));
+        terms.chain(averaged).collect()
     }
 }
 
@@ -76,7 +76,7 @@ pub const OTHER: cases::file::Terms = cases::file::Terms { percent: 45, limits: 
 #[cfg(test)]
 mod tests {
     use cases::file::{Interval, Terms as Stated};
-    use wheatrudder::Terms;
+    use wheatrudder::{Head, Terms};
 
     use super::{Ruled, are_allowed, interval_head, said, stated};
     use crate::calendar::Quarter;
@@ -115,27 +115,57 @@ mod tests {
         assert_eq!(said(OTHER), "baseline 45 percent, bids 150 to 250 and 350 to 450 li");
     }
 
+    fn at(day: u32, quarter: u8) -> Quarter {
+        Quarter::new(day, quarter).expect("in range")
+    }
+
+    /// The head of some statement of these terms.
+    fn head(terms: Terms, stated: bool, averaged: bool) -> Head {
+        let some = Interval::x(1300).bytes();
+        let mut statement = [0; wheatrudder::STATEMENT_ROOM];
+        wheatrudder::settle(&some, &[], &mut statement).expect("accepted");
+        Head { terms, stated, averaged, ..wheatrudder::head(&statement).expect("a statement") }
+    }
+
     #[test]
     fn a_line_says_which_quarters_terms_ruled() {
-        let at = |day, quarter| Quarter::new(day, quarter).expect("in range");
         let mut ruled = Ruled::default();
         assert!(ruled.lines().is_empty());
-        ruled.add(at(9_800, 94), Terms::OF_01, false);
-        ruled.add(at(9_800, 95), Terms::OF_01, false);
+        ruled.add(at(9_800, 94), &head(Terms::OF_01, false, false));
+        ruled.add(at(9_800, 95), &head(Terms::OF_01, false, false));
         assert!(ruled.lines().is_empty(), "no file states its terms");
-        ruled.add(at(9_801, 0), OTHER, true);
+        ruled.add(at(9_801, 0), &head(OTHER, true, false));
         let first = "terms: baseline 50 percent, bids 100 to 320 and 320 to 750 li: ";
         let other = "terms: baseline 45 percent, bids 150 to 250 and 350 to 450 li: ";
         let due = [format!("{first}2 quarters, 2026-10-31-q94 to 2026-10-31-q95"), format!("{other}2026-11-01-q00")];
         assert_eq!(ruled.lines(), due);
         // The terms of document 01 are the same whether or not a file states them.
-        ruled.add(at(9_801, 1), Terms::OF_01, true);
-        ruled.add(at(9_801, 2), OTHER, true);
-        ruled.add(at(9_801, 3), Terms { percent: 41, ..OTHER }, true);
+        ruled.add(at(9_801, 1), &head(Terms::OF_01, true, false));
+        ruled.add(at(9_801, 2), &head(OTHER, true, false));
+        ruled.add(at(9_801, 3), &head(Terms { percent: 41, ..OTHER }, true, false));
         let due = [
             format!("{first}3 quarters, 2026-10-31-q94 to 2026-11-01-q01"),
             format!("{other}2 quarters, 2026-11-01-q00 to 2026-11-01-q02"),
             "terms: baseline 41 percent, bids 150 to 250 and 350 to 450 li: 2026-11-01-q03".into(),
+        ];
+        assert_eq!(ruled.lines(), due);
+    }
+
+    #[test]
+    fn a_line_says_which_quarters_the_thermal_average_ruled() {
+        let mut ruled = Ruled::default();
+        ruled.add(at(9_800, 8), &head(Terms::OF_01, false, false));
+        assert!(ruled.lines().is_empty());
+        ruled.add(at(9_800, 9), &head(Terms::OF_01, false, true));
+        assert_eq!(ruled.lines(), ["thermal average in the baseline's place: 2026-10-31-q09"]);
+        ruled.add(at(9_800, 10), &head(Terms::OF_01, false, false));
+        // Under whichever terms, and below their lines.
+        ruled.add(at(9_800, 11), &head(OTHER, true, true));
+        ruled.add(at(9_800, 12), &head(OTHER, true, false));
+        let due = [
+            "terms: baseline 50 percent, bids 100 to 320 and 320 to 750 li: 3 quarters, 2026-10-31-q08 to 2026-10-31-q10",
+            "terms: baseline 45 percent, bids 150 to 250 and 350 to 450 li: 2 quarters, 2026-10-31-q11 to 2026-10-31-q12",
+            "thermal average in the baseline's place: 2 quarters, 2026-10-31-q09 to 2026-10-31-q11",
         ];
         assert_eq!(ruled.lines(), due);
     }

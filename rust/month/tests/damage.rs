@@ -11,6 +11,7 @@ use std::path::{Path, PathBuf};
 use cases::accepted::{SHAPES, interval_stating, terms};
 use cases::file::{INTERVAL_HEAD_PG, INTERVAL_HEAD_PH, Interval, Row, STATEMENT_ROOM, Terms};
 use cases::random::Random;
+use cases::windless;
 use month::{Bar, Quarter, settle_folder};
 
 /// Several quarters of a day have a correction.
@@ -59,11 +60,12 @@ impl Day {
         let mut quarters: Vec<u8> = (0..96).collect();
         random.shuffle(&mut quarters);
         for quarter in 0..96 {
-            let interval = metered(random, Interval { day: number, quarter, ..plants.clone() });
+            let interval = Interval { day: number, quarter, ..plants.clone() };
             let interval = match random.one_of(&forms) {
                 Some(terms) => interval.stating(terms),
                 None => interval,
             };
+            let interval = metered(random, interval);
             let is_corrected = quarters[..CORRECTIONS].contains(&quarter);
             let correction = if is_corrected { correction(random, &interval)? } else { Vec::new() };
             day.due.push(settled(&interval.bytes(), &correction).expect("accepted"));
@@ -80,6 +82,12 @@ impl Day {
         };
         let places = [all(&self.intervals, false), all(&self.corrections, true)].concat();
         places.into_iter().map(|(quarter, is_correction)| Piece { day: self, quarter, is_correction }).collect()
+    }
+
+    /// How many quarters the thermal average rules.
+    fn averaged(&self) -> usize {
+        let heads = self.due.iter().filter_map(|statement| wheatrudder::head(statement));
+        heads.filter(|head| head.averaged).count()
     }
 
     /// The files that begin with a mark.
@@ -106,10 +114,15 @@ fn terms_of(random: &mut Random, rows: &[Row]) -> Terms {
     Terms { percent: random.one_of(&percents), limits: limits.map(|limit| limit as u16) }
 }
 
-/// The same interval with other readings.
+/// The same interval with other readings: in one of four no wind or sun, and every thermal unit at or below its baseline.
 fn metered(random: &mut Random, mut interval: Interval) -> Interval {
+    let (low, terms) = (random.once_in(4), interval.terms());
     for row in &mut interval.rows {
-        row.metered = random.within(0..=275 * u32::from(row.capacity));
+        row.metered = if low {
+            windless::low_meter(random, row, terms)
+        } else {
+            random.within(0..=275 * u32::from(row.capacity))
+        };
     }
     interval
 }
@@ -370,12 +383,14 @@ fn moved<'a>(random: &mut Random, piece: Piece<'a>) -> Vec<(Trial<'a>, bool)> {
     all.map(|(name, damage, due)| (Trial { piece, name, damage }, due)).collect()
 }
 
-/// How many damages were tried, how many of them cannot be done here, and how often the folder was called ready.
+/// How many damages were tried, how many of them cannot be done here, and how often the folder was called ready; how many quarters of the
+/// days the thermal average rules.
 #[derive(Default)]
 struct Count {
     tried: usize,
     left: usize,
     ready: usize,
+    averaged: usize,
 }
 
 impl Count {
@@ -394,6 +409,7 @@ impl Count {
 fn try_day(random: &mut Random, day: &Day, count: &mut Count) {
     let folders = Folders::new("day", day);
     assert!(folders.run(None).ready, "the day is complete");
+    count.averaged += day.averaged();
     let files = [b"PK", b"PK", b"PH", b"PG"].map(|mark| day.marked(mark));
     let chosen: Vec<Piece> = files.iter().filter(|files| !files.is_empty()).map(|files| random.one_of(files)).collect();
     for (place, piece) in chosen.into_iter().enumerate() {
@@ -432,10 +448,12 @@ fn a_damaged_file_never_leaves_other_figures_ready_to_book() {
         try_day(&mut random, &day, &mut count);
         days += 1;
     }
-    let Count { tried, left, ready } = count;
+    let Count { tried, left, ready, averaged } = count;
     println!("{tried} damages of {days} days (seed {seed}): {ready} times ready to book, always rightly");
+    println!("in {averaged} of {} quarters the thermal average rules", 96 * days);
     println!("{left} more not tried, since this user may read every file");
     assert!(ready > 0, "a damage that the engine accepts is among them");
+    assert!(averaged > 0 && averaged < 96 * days, "quarters with the thermal average and without are among them");
 }
 
 /// A number in the last line that was printed: the one in front of the words.
@@ -520,8 +538,10 @@ fn what_an_accountant_keeps_beside_the_files_is_no_fault() {
     }
     let ran = folders.run(None);
     assert!(ran.ready, "{}", ran.printed);
-    // The days, the terms of either form, and the counts.
-    assert_eq!((counted(&ran, "passed over"), ran.printed.lines().count()), (kept.len(), 4), "{}", ran.printed);
+    // The days, the terms of either form, the thermal average, and the counts.
+    assert_eq!((counted(&ran, "passed over"), ran.printed.lines().count()), (kept.len(), 5), "{}", ran.printed);
+    let averaged = format!("\nthermal average in the baseline's place: {} quarters, ", day.averaged());
+    assert!(ran.printed.contains(&averaged), "{averaged} {}", ran.printed);
     // The same, each with its first byte lost: none of them is known any more, but for text.
     for (name, bytes) in kept {
         let path = folders.files().join(name);

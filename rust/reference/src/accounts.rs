@@ -1,10 +1,10 @@
 //! What the called rows receive and owe: compensations and cuts, penalties and what is returned of them.
 
+use crate::baseline::Baselines;
 use crate::calls::Calls;
 use crate::files::{MAX_ROWS, Row};
 use crate::money::{compensation, penalty};
 use crate::share::{Sharer, Sharing, Turns};
-use crate::terms::Terms;
 
 /// The fen of one row; with every field in range each amount is below 2^32.
 #[derive(Clone, Copy, Debug, Default, PartialEq, Eq)]
@@ -39,7 +39,7 @@ impl Accounts {
     }
 
     /// Enters compensations and penalties.
-    pub fn enter(&mut self, rows: &[Row], terms: Terms, calls: &Calls) {
+    pub fn enter(&mut self, rows: &[Row], baselines: &Baselines, calls: &Calls) {
         self.of_rows.clear();
         self.of_rows.resize(rows.len(), Account::default());
         self.receivers.clear();
@@ -50,14 +50,15 @@ impl Accounts {
             if called == [0, 0] {
                 continue;
             }
+            let baseline = baselines.of_energy(row.capacity);
             let account = &mut self.of_rows[position];
-            let compensation = compensation(row, called, calls.prices, terms);
+            let compensation = compensation(row, called, calls.prices, baseline);
             if compensation > 0 {
                 account.compensation = compensation as u32;
                 self.total += compensation;
                 self.receivers.push(Sharer { position, weight: compensation });
             }
-            let penalty = penalty(row, called, calls.prices, terms);
+            let penalty = penalty(row, called, calls.prices, baseline);
             if penalty > 0 {
                 account.penalty = penalty as u32;
                 self.penalty_money += penalty;

@@ -1,5 +1,6 @@
 //! Merit order: which bands are called, for how much, and each tier's clearing price.
 
+use crate::baseline::Baselines;
 use crate::files::{AT_40, MAX_ROWS, Row};
 use crate::money::paid_energy;
 use crate::share::{Sharer, Sharing, Turns};
@@ -64,7 +65,7 @@ impl MeritOrder {
     pub fn call(
         &mut self,
         rows: &[Row],
-        terms: Terms,
+        baselines: &Baselines,
         need: u32,
         turns: Turns,
         sharing: &mut Sharing,
@@ -74,7 +75,7 @@ impl MeritOrder {
         called.clear();
         called.resize(rows.len(), [0; 2]);
         (*prices, *uncovered) = ([0; 2], need);
-        self.list(rows, terms);
+        self.list(rows, baselines);
         for (tier, bands) in self.tiers.iter_mut().enumerate() {
             if *uncovered == 0 {
                 break;
@@ -90,15 +91,15 @@ impl MeritOrder {
                 reached = call_until_met(bands, *uncovered, turns, sharing, |row, kwh| called[row][tier] += kwh);
                 *uncovered = 0;
             }
-            prices[tier] = clearing_price(&bands[..reached], tier, rows, terms, called);
+            prices[tier] = clearing_price(&bands[..reached], tier, rows, baselines, called);
         }
     }
 
     /// Lists all bands that are not empty.
-    fn list(&mut self, rows: &[Row], terms: Terms) {
+    fn list(&mut self, rows: &[Row], baselines: &Baselines) {
         self.tiers.iter_mut().for_each(Vec::clear);
         for (place, row) in (0..).zip(rows).filter(|(_, row)| row.offered == 1) {
-            let (baseline, two_fifths) = (terms.baseline(row.capacity), row.at_load(AT_40));
+            let (baseline, two_fifths) = (baselines.of_bands(row.capacity), row.at_load(AT_40));
             let widths = [baseline - row.minimum.max(two_fifths), two_fifths.saturating_sub(row.minimum)];
             for (tier, bands) in self.tiers.iter_mut().enumerate() {
                 if widths[tier] > 0 {
@@ -141,8 +142,9 @@ fn width(bands: &[Band]) -> u32 {
 
 /// The last unit that delivered sets a tier's price: of the rows of status 0 called there, those with paid energy there
 /// count, and the highest of their bids is the price. Nobody delivered: 0 (document 02, request 1).
-fn clearing_price(bands: &[Band], tier: usize, rows: &[Row], terms: Terms, called: &[[u32; 2]]) -> u16 {
-    let counts = |row: &Row, kwh: u32| row.status == 0 && kwh > 0 && paid_energy(row, terms)[tier] > 0;
+fn clearing_price(bands: &[Band], tier: usize, rows: &[Row], baselines: &Baselines, called: &[[u32; 2]]) -> u16 {
+    let delivers = |row: &Row| paid_energy(row, baselines.of_energy(row.capacity))[tier] > 0;
+    let counts = |row: &Row, kwh: u32| row.status == 0 && kwh > 0 && delivers(row);
     let mut price = 0;
     // In sorted bands the last that counts is the highest, so few have to be looked at.
     for band in bands.iter().rev() {
@@ -155,7 +157,8 @@ fn clearing_price(bands: &[Band], tier: usize, rows: &[Row], terms: Terms, calle
 
 /// The calls of one quarter by themselves.
 pub fn call(rows: &[Row], terms: Terms, need: u32, turns: Turns) -> Calls {
+    let baselines = Baselines::of_quarter(rows, terms, need);
     let mut calls = Calls::new();
-    MeritOrder::new().call(rows, terms, need, turns, &mut Sharing::new(), &mut calls);
+    MeritOrder::new().call(rows, &baselines, need, turns, &mut Sharing::new(), &mut calls);
     calls
 }

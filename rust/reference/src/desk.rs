@@ -1,6 +1,7 @@
 //! The desk at which one quarter is settled after another.
 
 use crate::accounts::Accounts;
+use crate::baseline::Baselines;
 use crate::calls::{Calls, MeritOrder};
 use crate::files::{Head, MAX_ROWS, Refusal, Row, read_pair};
 use crate::rounds::{Payers, Rounds};
@@ -45,19 +46,20 @@ impl Desk {
         let before_lines = if head.stated.is_some() { STATEMENT_HEAD_PT } else { STATEMENT_HEAD_PS };
         let length = before_lines + LINE * head.rows;
         let (out, body) = statement.get_mut(..length).ok_or((11, 0))?.split_at_mut(before_lines);
-        let rounds = self.work_out(&head);
-        write_head(out, &head, &self.calls, self.accounts.total, &rounds);
+        let baselines = Baselines::of_quarter(&self.rows, head.terms(), head.need);
+        let rounds = self.work_out(&head, &baselines);
+        write_head(out, &head, &self.calls, self.accounts.total, &rounds, baselines.averaged());
         self.write_lines(body.as_chunks_mut().0);
         Ok(length)
     }
 
     /// Calls, compensations and penalties, payments, cuts: each follows from what stands before it.
-    fn work_out(&mut self, head: &Head) -> Rounds {
+    fn work_out(&mut self, head: &Head, baselines: &Baselines) -> Rounds {
         let Desk { rows, merit_order, calls, accounts, payers, sharing, .. } = self;
-        let (terms, turns) = (head.terms(), Turns::of(head.quarter, head.rows));
-        merit_order.call(rows, terms, head.need, turns, sharing, calls);
-        accounts.enter(rows, terms, calls);
-        payers.enter(rows, terms, head.tariff);
+        let turns = Turns::of(head.quarter, head.rows);
+        merit_order.call(rows, baselines, head.need, turns, sharing, calls);
+        accounts.enter(rows, baselines, calls);
+        payers.enter(rows, baselines, head.tariff);
         let rounds = payers.pay(accounts.total, turns, sharing);
         accounts.cut_and_return(rounds.shortfall, turns, sharing);
         rounds

@@ -7,6 +7,7 @@
 //! them, is below 2^60.
 
 mod accounts;
+mod baseline;
 mod calls;
 mod desk;
 mod files;
@@ -16,6 +17,7 @@ mod share;
 mod statement;
 mod terms;
 
+pub use baseline::Baselines;
 pub use calls::{Calls, call};
 pub use desk::Desk;
 pub use files::{

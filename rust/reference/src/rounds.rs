@@ -1,9 +1,9 @@
 //! Sharing under caps, round by round.
 
+use crate::baseline::Baselines;
 use crate::files::{MAX_ROWS, Row};
 use crate::money::{pays, solar_or_wind_cap, thermal_cap, thermal_weight};
 use crate::share::{Sharer, Sharing, Turns};
-use crate::terms::Terms;
 
 /// One row among those who pay. A row that is no payer has weight 0 and cap 0. With every field in range each amount is
 /// below 2^32.
@@ -17,12 +17,12 @@ pub(crate) struct Payer {
 }
 
 impl Payer {
-    fn of(row: &Row, terms: Terms, tariff: u16) -> Payer {
-        if !pays(row, terms) {
+    fn of(row: &Row, baseline: u32, tariff: u16) -> Payer {
+        if !pays(row, baseline) {
             return Payer::default();
         }
         let (weight, cap) = if row.is_thermal() {
-            (thermal_weight(row, terms), thermal_cap(row.metered, tariff))
+            (thermal_weight(row, baseline), thermal_cap(row.metered, tariff))
         } else {
             (row.metered, solar_or_wind_cap(row.metered, tariff))
         };
@@ -69,12 +69,12 @@ impl Payers {
     }
 
     /// Enters weights and caps; payers with weight above 0 are open.
-    pub fn enter(&mut self, rows: &[Row], terms: Terms, tariff: u16) {
+    pub fn enter(&mut self, rows: &[Row], baselines: &Baselines, tariff: u16) {
         self.of_rows.clear();
         self.open.clear();
         self.open_weight = 0;
         for (position, row) in (0..).zip(rows) {
-            let payer = Payer::of(row, terms, tariff);
+            let payer = Payer::of(row, baselines.of_energy(row.capacity), tariff);
             self.of_rows.push(payer);
             if payer.weight > 0 {
                 self.open.push(Open { position, weight: payer.weight, cap: payer.cap });

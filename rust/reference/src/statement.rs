@@ -7,18 +7,18 @@ use crate::calls::Calls;
 use crate::files::Head;
 use crate::rounds::{Payer, Rounds};
 
-pub const STATEMENT_HEAD_PS: usize = 39;
-/// The head of a PG file's statement: the terms stand before the last field.
-pub const STATEMENT_HEAD_PT: usize = 48;
+pub const STATEMENT_HEAD_PS: usize = 40;
+/// The head of a PG file's statement: the terms stand before the last two fields.
+pub const STATEMENT_HEAD_PT: usize = 49;
 pub const LINE: usize = 42;
 
 /// Widths of the fields after the mark.
-const PS_FIELDS: [usize; 10] = [4, 1, 2, 2, 8, 8, 2, 4, 2, 4];
-const PT_FIELDS: [usize; 15] = [4, 1, 2, 2, 8, 8, 2, 4, 2, 1, 2, 2, 2, 2, 4];
+const PS_FIELDS: [usize; 11] = [4, 1, 2, 2, 8, 8, 2, 4, 2, 4, 1];
+const PT_FIELDS: [usize; 16] = [4, 1, 2, 2, 8, 8, 2, 4, 2, 1, 2, 2, 2, 2, 4, 1];
 const LINE_FIELDS: [usize; 11] = [2, 4, 4, 4, 4, 4, 4, 4, 2, 4, 4];
 
 /// Writes the head into as many bytes as its form has.
-pub(crate) fn write_head(out: &mut [u8], interval: &Head, calls: &Calls, total: u64, rounds: &Rounds) {
+pub(crate) fn write_head(out: &mut [u8], interval: &Head, calls: &Calls, total: u64, rounds: &Rounds, averaged: bool) {
     out[..2].copy_from_slice(if interval.stated.is_some() { b"PT" } else { b"PS" });
     out[2..6].copy_from_slice(&interval.day.to_le_bytes());
     out[6] = interval.quarter;
@@ -29,11 +29,12 @@ pub(crate) fn write_head(out: &mut [u8], interval: &Head, calls: &Calls, total: 
     out[27..29].copy_from_slice(&rounds.count.to_le_bytes());
     out[29..33].copy_from_slice(&calls.uncovered.to_le_bytes());
     out[33..35].copy_from_slice(&(interval.rows as u16).to_le_bytes());
-    let visits = out.len() - 4;
+    let (visits, flag) = (out.len() - 5, out.len() - 1);
     if let Some(stated) = interval.stated {
         out[35..visits].copy_from_slice(&stated.bytes());
     }
-    out[visits..].copy_from_slice(&rounds.visits.to_le_bytes());
+    out[visits..flag].copy_from_slice(&rounds.visits.to_le_bytes());
+    out[flag] = averaged.into();
 }
 
 pub(crate) fn write_line(out: &mut [u8; LINE], id: u16, called: [u32; 2], account: &Account, payer: &Payer) {

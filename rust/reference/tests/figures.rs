@@ -1,8 +1,8 @@
 //! The figures of document 01, P1 to P11 and those that are only run, and those worked out for the requests of document 02.
 
 use reference::{
-    Calls, Desk, Interval, Row, Sharer, TELL_READS, Terms, Turns, call, counting_row, fen, paid_energy, penalty,
-    read_interval, rewrite, settle, share, tell, thermal_cap, thermal_weight, write_interval,
+    Baselines, Calls, Desk, Interval, Row, Sharer, TELL_READS, Terms, Turns, call, counting_row, fen, lines_of_text,
+    paid_energy, penalty, read_interval, rewrite, settle, share, tell, thermal_cap, thermal_weight, write_interval,
 };
 
 fn row(id: u16, kind: u8, metered: u32) -> Row {
@@ -11,6 +11,11 @@ fn row(id: u16, kind: u8, metered: u32) -> Row {
 
 fn offering(id: u16, metered: u32, minimum: u32, bids: [u16; 2]) -> Row {
     Row { offered: 1, minimum, bids, ..row(id, 1, metered) }
+}
+
+/// A row that pays nothing, and of which 1 kWh is enough for the thermal average not to rule (request 9).
+fn sun_in_an_accident(id: u16) -> Row {
+    Row { status: 3, ..row(id, 3, 1) }
 }
 
 fn x(tariff: u16) -> Interval {
@@ -63,7 +68,7 @@ fn p1_to_p5_interval_x() {
     // Both are open in round 1. Where row 2 closes in it, the wind farm is looked at once more, and closes or ends the rounds.
     for (tariff, second, third, rounds, shortfall, visits) in figures {
         let told = told(&x(tariff));
-        assert_eq!(told[0][4..], [90_000, shortfall, rounds, 0, 3, visits], "tariff {tariff}");
+        assert_eq!(told[0][4..], [90_000, shortfall, rounds, 0, 3, visits, 0], "tariff {tariff}");
         assert_eq!([told[2][7], told[3][7]], [second, third], "tariff {tariff}");
         assert_eq!(told[1][3..5], [90_000, shortfall], "tariff {tariff}");
     }
@@ -71,8 +76,7 @@ fn p1_to_p5_interval_x() {
 
 #[test]
 fn p6_thermal_weights() {
-    let weights =
-        [12_500, 15_000, 15_001, 17_500, 17_501, 27_500].map(|kwh| thermal_weight(&row(1, 1, kwh), Terms::OF_01));
+    let weights = [12_500, 15_000, 15_001, 17_500, 17_501, 27_500].map(|kwh| thermal_weight(&row(1, 1, kwh), 12_500));
     assert_eq!(weights, [0, 2_500, 2_502, 7_500, 7_503, 37_500]);
 }
 
@@ -100,7 +104,10 @@ fn p9_a_shared_call() {
     let narrow = offering(1, 9_000, 10_000, [200, 320]);
     let wide = Row { capacity: 200, minimum: 20_000, ..offering(2, 9_000, 0, [200, 320]) };
     let calls = call(&[narrow, wide], Terms::OF_01, 100, Turns::of(0, 2));
-    assert_eq!(calls, Calls { called: vec![[33, 0], [67, 0]], prices: [200, 0], uncovered: 0 });
+    // Without wind the average is 60 kWh for each MW (request 9): nobody delivered in tier 1.
+    assert_eq!(calls, Calls { called: vec![[33, 0], [67, 0]], prices: [0, 0], uncovered: 0 });
+    let calls = call(&[narrow, wide, sun_in_an_accident(3)], Terms::OF_01, 100, Turns::of(0, 3));
+    assert_eq!(calls, Calls { called: vec![[33, 0], [67, 0], [0, 0]], prices: [200, 0], uncovered: 0 });
 }
 
 #[test]
@@ -115,20 +122,20 @@ fn p11_li_to_fen() {
 
 #[test]
 fn run_only_paid_energy() {
-    let energies = [12_499, 10_000, 9_999, 12_500].map(|metered| paid_energy(&row(1, 1, metered), Terms::OF_01));
+    let energies = [12_499, 10_000, 9_999, 12_500].map(|metered| paid_energy(&row(1, 1, metered), 12_500));
     assert_eq!(energies, [[1, 0], [2_500, 0], [2_500, 1], [0, 0]]);
 }
 
 #[test]
 fn run_only_no_rows() {
     let empty = Interval { rows: Vec::new(), ..x(1300) };
-    assert_eq!(tell(&bytes(&empty)), "0 0 0 0 0 0 0 3000 0 0\n");
+    assert_eq!(tell(&bytes(&empty)), "0 0 0 0 0 0 0 3000 0 0 0\n");
 }
 
 #[test]
 fn run_only_no_payers() {
-    let lone = Interval { rows: x(1300).rows[..1].to_vec(), ..x(1300) };
-    assert_eq!(tell(&bytes(&lone)), "0 0 200 400 90000 90000 0 0 1 0\n1 2500 500 90000 90000 0 0 0 0 0 0\n");
+    let text = "0 0 200 400 90000 90000 0 0 2 0 0\n1 2500 500 90000 90000 0 0 0 0 0 0\n2 0 0 0 0 0 0 0 0 0 0\n";
+    assert_eq!(tell(&bytes(&Interval { rows: vec![x(1300).rows[0], sun_in_an_accident(2)], ..x(1300) })), text);
 }
 
 #[test]
@@ -155,7 +162,7 @@ fn run_only_tier_1_bids() {
 
 #[test]
 fn tell_prints_interval_x() {
-    let text = "0 0 200 400 90000 0 1 0 3 3\n\
+    let text = "0 0 200 400 90000 0 1 0 3 3 0\n\
                 1 2500 500 90000 0 0 0 0 0 0 0\n\
                 2 0 0 0 0 15000 65000 65000 1 0 0\n\
                 3 0 0 0 0 5000 32500 25000 0 0 0\n";
@@ -165,9 +172,9 @@ fn tell_prints_interval_x() {
 
 #[test]
 fn a_refusal_leaves_the_buffer() {
-    let mut statement = [7; 164];
+    let mut statement = [7; 165];
     assert_eq!(settle(&bytes(&x(1300)), &[], &mut statement), Err((11, 0)));
-    assert_eq!(statement, [7; 164]);
+    assert_eq!(statement, [7; 165]);
 }
 
 #[test]
@@ -188,6 +195,9 @@ fn a_desk_keeps_nothing_from_quarter_to_quarter() {
         reduced(1300, 9_000),
         x(3545),
         tied_calls(1),
+        windless(1300, 12_000, &[]),
+        windless(1300, 12_501, &[]),
+        at_45(beside_3_mw(337)),
     ];
     let mut desk = Desk::new();
     for interval in quarters.iter().chain(quarters.iter().rev()).map(bytes) {
@@ -221,7 +231,7 @@ fn request_1_statements() {
         (
             x_metered(12_500),
             [
-                "0 0 0 0 0 0 0 0 3 2",
+                "0 0 0 0 0 0 0 0 3 2 0",
                 "1 2500 500 0 0 0 40625 0 0 0 0",
                 "2 0 0 0 0 15000 65000 0 0 0 0",
                 "3 0 0 0 0 5000 32500 0 0 0 0",
@@ -231,7 +241,7 @@ fn request_1_statements() {
         (
             x_metered(12_499),
             [
-                "0 0 200 0 20 0 0 0 3 2",
+                "0 0 200 0 20 0 0 0 3 2 0",
                 "1 2500 500 20 0 0 0 0 0 0 0",
                 "2 0 0 0 0 15000 65000 15 0 0 0",
                 "3 0 0 0 0 5000 32500 5 0 0 0",
@@ -241,7 +251,7 @@ fn request_1_statements() {
         (
             x_metered(11_000),
             [
-                "0 0 200 0 30000 0 0 0 3 2",
+                "0 0 200 0 30000 0 0 0 3 2 0",
                 "1 2500 500 30000 0 0 0 0 0 0 0",
                 "2 0 0 0 0 15000 65000 22500 0 0 0",
                 "3 0 0 0 0 5000 32500 7500 0 0 0",
@@ -251,7 +261,7 @@ fn request_1_statements() {
         (
             x_beside(dearer(20_000)),
             [
-                "0 0 200 400 90000 0 1 0 3 3",
+                "0 0 200 400 90000 0 1 0 3 3 0",
                 "1 2500 2000 90000 0 0 0 0 0 0 0",
                 "2 2500 2000 0 0 15000 65000 65000 1 0 0",
                 "3 0 0 0 0 5000 32500 25000 0 0 0",
@@ -281,7 +291,7 @@ fn request_1_prices_and_totals() {
 fn request_1_a_dearer_row_of_another_status() {
     // Row 2 runs as low as row 1, but is starting or in a grid accident: not paid, it sets no price, and it owes nothing for
     // the 1,000 kWh that it was called for and did not deliver. Status 2 is among the figures of request 4.
-    let text = "0 0 200 400 90000 57500 1 0 3 1\n\
+    let text = "0 0 200 400 90000 57500 1 0 3 1 0\n\
                 1 2500 2000 90000 57500 0 0 0 0 0 0\n\
                 2 2500 2000 0 0 0 0 0 0 0 0\n\
                 3 0 0 0 0 5000 32500 32500 1 0 0\n";
@@ -297,7 +307,7 @@ fn request_1_called_for_nothing_sets_no_price() {
     let rows = [offering(1, 9_000, 10_000, [200, 320]), idle];
     let calls = call(&rows, Terms::OF_01, 1, Turns::of(0, 2));
     assert_eq!(calls, Calls { called: vec![[0, 0], [1, 0]], prices: [0, 0], uncovered: 0 });
-    // A need of 100 calls both, and one that delivers is enough.
+    // A need of 100 calls both, and one that delivers is enough: also below the average of 11,333 kWh, which rules here.
     let calls = call(&rows, Terms::OF_01, 100, Turns::of(0, 2));
     assert_eq!(calls, Calls { called: vec![[33, 0], [67, 0]], prices: [200, 0], uncovered: 0 });
 }
@@ -410,10 +420,10 @@ fn request_2_cuts() {
 
 #[test]
 fn request_2_one_row_and_no_rows() {
-    let lone = Interval { quarter: 95, rows: x(1300).rows[..1].to_vec(), ..x(1300) };
-    assert_eq!(tell(&bytes(&lone)), "0 95 200 400 90000 90000 0 0 1 0\n1 2500 500 90000 90000 0 0 0 0 0 0\n");
+    let wind = Interval { quarter: 95, rows: vec![row(1, 2, 5_000)], ..x(1300) };
+    assert_eq!(tell(&bytes(&wind)), "0 95 0 0 0 0 0 3000 1 1 0\n1 0 0 0 0 5000 32500 0 0 0 0\n");
     let empty = Interval { quarter: 95, rows: Vec::new(), ..x(1300) };
-    assert_eq!(tell(&bytes(&empty)), "0 95 0 0 0 0 0 3000 0 0\n");
+    assert_eq!(tell(&bytes(&empty)), "0 95 0 0 0 0 0 3000 0 0 0\n");
 }
 
 /// Row 1 of interval X is called in full and gets 90,000 fen at 200 and 400 li; row 2 beside it is reduced and called in full
@@ -429,7 +439,7 @@ fn request_4_statements() {
         (
             reduced(1300, 8_000),
             [
-                "0 0 200 400 90000 57500 1 0 3 1",
+                "0 0 200 400 90000 57500 1 0 3 1 0",
                 "1 2500 2000 90000 57500 0 0 0 0 0 0",
                 "2 2500 2000 0 0 0 0 0 0 0 0",
                 "3 0 0 0 0 5000 32500 32500 1 0 0",
@@ -439,7 +449,7 @@ fn request_4_statements() {
         (
             reduced(1300, 9_000),
             [
-                "0 0 200 400 90000 57500 1 0 3 1",
+                "0 0 200 400 90000 57500 1 0 3 1 0",
                 "1 2500 2000 90000 0 0 0 0 0 0 0",
                 "2 2500 2000 0 0 0 0 0 0 80000 22500",
                 "3 0 0 0 0 5000 32500 32500 1 0 0",
@@ -449,7 +459,7 @@ fn request_4_statements() {
         (
             reduced(1300, 11_000),
             [
-                "0 0 200 400 90000 57500 1 0 3 1",
+                "0 0 200 400 90000 57500 1 0 3 1 0",
                 "1 2500 2000 90000 0 0 0 0 0 0 0",
                 "2 2500 2000 0 0 0 0 0 0 200000 142500",
                 "3 0 0 0 0 5000 32500 32500 1 0 0",
@@ -459,7 +469,7 @@ fn request_4_statements() {
         (
             reduced(1300, 12_500),
             [
-                "0 0 200 400 90000 57500 1 0 3 1",
+                "0 0 200 400 90000 57500 1 0 3 1 0",
                 "1 2500 2000 90000 0 0 0 0 0 0 0",
                 "2 2500 2000 0 0 0 40625 0 0 260000 202500",
                 "3 0 0 0 0 5000 32500 32500 1 0 0",
@@ -470,7 +480,7 @@ fn request_4_statements() {
         (
             reduced(1300, 20_000),
             [
-                "0 0 200 400 90000 0 1 0 3 3",
+                "0 0 200 400 90000 0 1 0 3 3 0",
                 "1 2500 2000 90000 0 0 0 0 0 0 0",
                 "2 2500 2000 0 0 15000 65000 65000 1 260000 260000",
                 "3 0 0 0 0 5000 32500 25000 0 0 0",
@@ -481,7 +491,7 @@ fn request_4_statements() {
         (
             reduced(1000, 20_000),
             [
-                "0 0 200 400 90000 15000 2 0 3 3",
+                "0 0 200 400 90000 15000 2 0 3 3 0",
                 "1 2500 2000 90000 0 0 0 0 0 0 0",
                 "2 2500 2000 0 0 15000 50000 50000 1 260000 245000",
                 "3 0 0 0 0 5000 25000 25000 2 0 0",
@@ -526,7 +536,7 @@ fn request_4_only_status_2_owes() {
 
 /// What row 2 owes at a meter reading, where it was called for so much at these prices.
 fn owed(metered: u32, called: [u32; 2], prices: [u16; 2]) -> u64 {
-    penalty(&Row { status: 2, ..dearer(metered) }, called, prices, Terms::OF_01)
+    penalty(&Row { status: 2, ..dearer(metered) }, called, prices, 12_500)
 }
 
 #[test]
@@ -560,13 +570,16 @@ fn request_4_fen_are_made_once_of_both_tiers() {
 fn tied_returns(quarter: u8) -> Interval {
     let mut rows = vec![offering(1, 12_495, 10_000, [200, 320])];
     rows.extend([2, 3, 4].map(|id| Row { status: 2, ..offering(id, 10_001, 10_000, [200, 320]) }));
+    rows.push(sun_in_an_accident(5));
     Interval { quarter, need: 10_000, rows, ..x(1300) }
 }
 
 #[test]
 fn request_4_ties_in_what_is_returned() {
-    // 6 each and two left over; position 0 is row 1, which shares nothing.
-    for (quarter, due) in [(0, [7, 7, 6]), (1, [7, 7, 6]), (2, [6, 7, 7]), (3, [7, 6, 7]), (95, [7, 6, 7])] {
+    // 6 each and two left over; rows 1 and 5, at positions 0 and 4, share nothing.
+    for (quarter, due) in
+        [(0, [7, 7, 6]), (1, [7, 7, 6]), (2, [6, 7, 7]), (3, [7, 6, 7]), (94, [7, 7, 6]), (93, [7, 6, 7])]
+    {
         let told = told(&tied_returns(quarter));
         assert_eq!(told[0][4..7], [100, 100, 0], "quarter {quarter}");
         assert_eq!([told[1][4], told[1][9], told[1][10]], [0, 0, 0], "quarter {quarter}");
@@ -582,7 +595,7 @@ fn request_4_nobody_delivered() {
     let interval = Interval { need: 4_500, rows, ..x(1300) };
     assert_eq!(
         tell(&bytes(&interval)),
-        "0 0 0 0 0 0 0 0 2 1\n1 2500 2000 0 0 0 0 0 0 0 0\n2 0 0 0 0 5000 32500 0 0 0 0\n"
+        "0 0 0 0 0 0 0 0 2 1 0\n1 2500 2000 0 0 0 0 0 0 0 0\n2 0 0 0 0 5000 32500 0 0 0 0\n"
     );
 }
 
@@ -648,15 +661,15 @@ fn request_8_three_payers() {
 #[test]
 fn request_8_nobody_to_visit() {
     // A row at exactly half load is a payer, but weighs nothing and is never open.
-    let half_load = Interval { rows: vec![x(1300).rows[0], row(2, 1, 12_500)], ..x(1300) };
-    let text = "0 0 200 400 90000 90000 0 0 2 0\n1 2500 500 90000 90000 0 0 0 0 0 0\n2 0 0 0 0 0 40625 0 0 0 0\n";
-    assert_eq!(tell(&bytes(&half_load)), text);
+    let half_load = |third| Interval { rows: vec![x(1300).rows[0], row(2, 1, 12_500), third], ..x(1300) };
+    let told_of = told(&half_load(sun_in_an_accident(3)));
+    assert_eq!(told_of[0], [0, 0, 200, 400, 90_000, 90_000, 0, 0, 3, 0, 0]);
+    assert_eq!(told_of[2], [2, 0, 0, 0, 0, 0, 40_625, 0, 0, 0, 0]);
     // Beside a wind farm it adds nothing: that closes at 32,500 in round 1.
-    let beside = Interval { rows: [&half_load.rows[..], &[row(3, 2, 5_000)]].concat(), ..half_load };
-    assert_eq!(told(&beside)[0][5..], [57_500, 1, 0, 3, 1]);
+    assert_eq!(told(&half_load(row(3, 2, 5_000)))[0][5..], [57_500, 1, 0, 3, 1, 0]);
     // Nor does a wind farm at 0, nor any in a grid accident.
     let still = vec![row(1, 2, 0), Row { status: 3, ..row(2, 3, 5_000) }];
-    assert_eq!(told(&Interval { rows: still, ..x(1300) })[0][4..], [0, 0, 0, 3_000, 2, 0]);
+    assert_eq!(told(&Interval { rows: still, ..x(1300) })[0][4..], [0, 0, 0, 3_000, 2, 0, 0]);
 }
 
 #[test]
@@ -681,15 +694,15 @@ fn request_8_nothing_to_pay() {
 #[test]
 fn request_8_payers_who_stay_open_are_visited_once() {
     // Three wind farms of 5,000 kWh and 100 fen: caps of 32,500 are out of reach, and the quiet round is the only one.
-    assert_eq!(told(&tied_payments(0))[0][6..], [0, 0, 4, 3]);
+    assert_eq!(told(&tied_payments(0))[0][6..], [0, 0, 4, 3, 0]);
 }
 
 #[test]
-fn request_8_is_the_heads_last_field() {
-    // 6 visits, little-endian, before the first line's mark.
-    let mut statement = [7; 39 + 4 * 42];
-    assert_eq!(settle(&bytes(&three_payers(600)), &[], &mut statement), Ok(207));
-    assert_eq!(statement[33..41], [4, 0, 6, 0, 0, 0, b'P', b'L']);
+fn request_8_visits_stand_before_the_flag() {
+    // 6 visits, little-endian, then the flag of request 9, before the first line's mark.
+    let mut statement = [7; 40 + 4 * 42];
+    assert_eq!(settle(&bytes(&three_payers(600)), &[], &mut statement), Ok(208));
+    assert_eq!(statement[33..42], [4, 0, 6, 0, 0, 0, 0, b'P', b'L']);
 }
 
 /// The terms of document 01 with another baseline.
@@ -725,13 +738,15 @@ fn request_6_baselines_are_cut_to_whole_kwh() {
 
 #[test]
 fn request_6_paid_energy_and_weights_from_the_stated_baseline() {
-    let paid = |of, capacity, metered| paid_energy(&Row { capacity, ..row(1, 1, metered) }, percent(of));
+    let paid =
+        |of, capacity, metered| paid_energy(&Row { capacity, ..row(1, 1, metered) }, percent(of).baseline(capacity));
     // 100 MW at 45 percent are 11,250 kWh.
     assert_eq!([11_250, 11_249, 10_000, 9_999].map(|kwh| paid(45, 100, kwh)), [[0, 0], [1, 0], [1_250, 0], [1_250, 1]]);
     // 101 MW: 11,362.5 cut to 11,362. 1 MW at 41 percent: 102.5 cut to 102.
     assert_eq!([11_362, 11_361].map(|kwh| paid(45, 101, kwh)), [[0, 0], [1, 0]]);
     assert_eq!([102, 101, 100, 99].map(|kwh| paid(41, 1, kwh)), [[0, 0], [1, 0], [2, 0], [2, 1]]);
-    let weight = |of, capacity, metered| thermal_weight(&Row { capacity, ..row(1, 1, metered) }, percent(of));
+    let weight =
+        |of, capacity, metered| thermal_weight(&Row { capacity, ..row(1, 1, metered) }, percent(of).baseline(capacity));
     // From 11,250 to 15,000 once, to 17,500 twice, above three times.
     let weights = [11_250, 11_251, 12_500, 15_000, 15_001, 17_500, 17_501, 27_500].map(|kwh| weight(45, 100, kwh));
     assert_eq!(weights, [0, 1, 1_250, 3_750, 3_752, 8_750, 8_753, 38_750]);
@@ -746,7 +761,7 @@ fn request_6_statements() {
         (
             stating(percent(45), x(1300)),
             [
-                "0 0 200 400 65000 0 0 0 3 45 100 320 320 750 2",
+                "0 0 200 400 65000 0 0 0 3 45 100 320 320 750 2 0",
                 "1 1250 1750 65000 0 0 0 0 0 0 0",
                 "2 0 0 0 0 16250 65000 49706 0 0 0",
                 "3 0 0 0 0 5000 32500 15294 0 0 0",
@@ -757,7 +772,7 @@ fn request_6_statements() {
         (
             stating(percent(41), x(1300)),
             [
-                "0 0 200 400 45000 0 0 750 3 41 100 320 320 750 2",
+                "0 0 200 400 45000 0 0 750 3 41 100 320 320 750 2 0",
                 "1 250 2000 45000 0 0 0 0 0 0 0",
                 "2 0 0 0 0 17250 65000 34888 0 0 0",
                 "3 0 0 0 0 5000 32500 10112 0 0 0",
@@ -767,7 +782,7 @@ fn request_6_statements() {
         (
             stating(Terms::OF_01, x_metered(12_000)),
             [
-                "0 0 200 0 10000 0 0 0 3 50 100 320 320 750 2",
+                "0 0 200 0 10000 0 0 0 3 50 100 320 320 750 2 0",
                 "1 2500 500 10000 0 0 0 0 0 0 0",
                 "2 0 0 0 0 15000 65000 7500 0 0 0",
                 "3 0 0 0 0 5000 32500 2500 0 0 0",
@@ -777,7 +792,7 @@ fn request_6_statements() {
         (
             stating(percent(45), x_metered(12_000)),
             [
-                "0 0 0 0 0 0 0 0 3 45 100 320 320 750 3",
+                "0 0 0 0 0 0 0 0 3 45 100 320 320 750 3 0",
                 "1 1250 1750 0 0 750 39000 0 0 0 0",
                 "2 0 0 0 0 16250 65000 0 0 0 0",
                 "3 0 0 0 0 5000 32500 0 0 0 0",
@@ -787,14 +802,18 @@ fn request_6_statements() {
         (
             Interval {
                 need: 2_600,
-                rows: vec![offering(1, 8_000, 8_000, [300, 300]), offering(2, 10_000, 10_000, [300, 400])],
+                rows: vec![
+                    offering(1, 8_000, 8_000, [300, 300]),
+                    offering(2, 10_000, 10_000, [300, 400]),
+                    sun_in_an_accident(3),
+                ],
                 ..stating(Terms { percent: 45, limits: [200, 300, 300, 400] }, x(1300))
             },
             [
-                "0 0 300 300 135000 135000 0 0 2 45 200 300 300 400 0",
+                "0 0 300 300 135000 135000 0 0 3 45 200 300 300 400 0 0",
                 "1 1250 100 97500 97500 0 0 0 0 0 0",
                 "2 1250 0 37500 37500 0 0 0 0 0 0",
-                "",
+                "3 0 0 0 0 0 0 0 0 0 0",
             ],
         ),
         // A reduced unit at 11,000 kWh delivers 250 kWh below the baseline of 1,250 called, and none of 2,000: 2 x (1,000 x 200 + 2,000 x
@@ -802,7 +821,7 @@ fn request_6_statements() {
         (
             stating(percent(45), reduced(1300, 11_000)),
             [
-                "0 0 200 400 65000 32500 1 2500 3 45 100 320 320 750 1",
+                "0 0 200 400 65000 32500 1 2500 3 45 100 320 320 750 1 0",
                 "1 1250 2000 65000 0 0 0 0 0 0 0",
                 "2 1250 2000 0 0 0 0 0 0 200000 167500",
                 "3 0 0 0 0 5000 32500 32500 1 0 0",
@@ -812,7 +831,7 @@ fn request_6_statements() {
         (
             stating(percent(45), reduced(1300, 11_250)),
             [
-                "0 0 200 400 65000 32500 1 2500 3 45 100 320 320 750 1",
+                "0 0 200 400 65000 32500 1 2500 3 45 100 320 320 750 1 0",
                 "1 1250 2000 65000 0 0 0 0 0 0 0",
                 "2 1250 2000 0 0 0 36562 0 0 210000 177500",
                 "3 0 0 0 0 5000 32500 32500 1 0 0",
@@ -820,7 +839,6 @@ fn request_6_statements() {
         ),
     ];
     for (interval, lines) in statements {
-        let lines: Vec<&str> = lines.into_iter().filter(|line| !line.is_empty()).collect();
         assert_eq!(tell(&bytes(&interval)).lines().collect::<Vec<_>>(), lines);
     }
 }
@@ -831,11 +849,11 @@ fn request_6_a_row_between_the_stated_baseline_and_half_load() {
     let mut interval = x(1300);
     interval.rows[1].metered = 12_000;
     let of_01 = told(&interval);
-    assert_eq!(of_01[0][4..], [90_000, 57_500, 1, 0, 3, 1]);
+    assert_eq!(of_01[0][4..], [90_000, 57_500, 1, 0, 3, 1, 0]);
     assert_eq!(of_01[2], [2, 0, 0, 0, 0, 0, 0, 0, 0, 0, 0]);
     // At 45 percent it weighs 750. Of 65,000 the wind farm owes 56,521 and closes at 32,500; row 2 pays as much, below its cap.
     let at_45 = told(&stating(percent(45), interval));
-    assert_eq!(at_45[0][4..], [65_000, 0, 1, 0, 3, 45, 100, 320, 320, 750, 3]);
+    assert_eq!(at_45[0][4..], [65_000, 0, 1, 0, 3, 45, 100, 320, 320, 750, 3, 0]);
     assert_eq!(at_45[2], [2, 0, 0, 0, 0, 750, 39_000, 32_500, 0, 0, 0]);
     assert_eq!(at_45[3], [3, 0, 0, 0, 0, 5_000, 32_500, 32_500, 1, 0, 0]);
 }
@@ -847,11 +865,13 @@ fn request_6_the_terms_of_01_stated_give_the_lines_of_ph() {
     intervals.extend([tied_calls(1), tied_payments(2), tied_cuts(1), tied_returns(3), one_fen_more(38)]);
     intervals.extend([8_000, 11_000, 20_000].map(|metered| reduced(1000, metered)));
     intervals.extend([1091, 600, 401, 100].map(three_payers));
+    intervals.extend([9_000, 12_000, 12_500, 12_501].map(|metered| windless(1300, metered, &[])));
+    intervals.push(windless_reduced(9_500, 9_000, &[row(3, 1, 12_000)]));
     intervals.push(Interval { rows: Vec::new(), ..x(1300) });
     for interval in intervals {
         let (stated, plain) = (told(&stating(Terms::OF_01, interval.clone())), told(&interval));
         assert_eq!(stated[1..], plain[1..]);
-        // The terms stand before the visits.
+        // The terms stand before the visits and the flag.
         assert_eq!(stated[0], [&plain[0][..9], &[50, 100, 320, 320, 750], &plain[0][9..]].concat());
     }
 }
@@ -907,7 +927,7 @@ fn request_6_terms_out_of_range() {
         assert_eq!(stated(percent(of)), "refused 14 0\n", "{of} percent");
     }
     for of in 41..=50 {
-        assert_eq!(stated(percent(of)), format!("0 0 0 0 0 0 0 3000 0 {of} 100 320 320 750 0\n"));
+        assert_eq!(stated(percent(of)), format!("0 0 0 0 0 0 0 3000 0 {of} 100 320 320 750 0 0\n"));
     }
     let wrong = [
         [0, 320, 320, 750],
@@ -928,7 +948,7 @@ fn request_6_terms_out_of_range() {
     for four @ [a, b, c, d] in
         [[1, 320, 320, 750], [319, 320, 320, 321], [100, 319, 320, 1_000], [1, 2, 2, 3], [997, 998, 998, 999]]
     {
-        assert_eq!(stated(limits(four)), format!("0 0 0 0 0 0 0 3000 0 50 {a} {b} {c} {d} 0\n"));
+        assert_eq!(stated(limits(four)), format!("0 0 0 0 0 0 0 3000 0 50 {a} {b} {c} {d} 0 0\n"));
     }
 }
 
@@ -975,14 +995,14 @@ fn request_6_checks_in_their_order() {
 #[test]
 fn request_6_the_statement_of_a_pg_file() {
     let file = bytes(&stating(percent(45), x(1300)));
-    let mut statement = [7; 48 + 3 * 42 + 5];
-    assert_eq!(settle(&file, &[], &mut statement[..173]), Err((11, 0)));
-    assert_eq!(statement, [7; 179]);
-    assert_eq!(settle(&file, &[], &mut statement), Ok(174));
-    assert_eq!(statement[174..], [7; 5]);
+    let mut statement = [7; 49 + 3 * 42 + 5];
+    assert_eq!(settle(&file, &[], &mut statement[..174]), Err((11, 0)));
+    assert_eq!(statement, [7; 180]);
+    assert_eq!(settle(&file, &[], &mut statement), Ok(175));
+    assert_eq!(statement[175..], [7; 5]);
     assert_eq!(statement[..2], *b"PT");
-    // 3 rows; 45 percent, 100, 320, 320, 750; 2 visits; the first line.
-    assert_eq!(statement[33..50], [3, 0, 45, 100, 0, 64, 1, 64, 1, 238, 2, 2, 0, 0, 0, b'P', b'L']);
+    // 3 rows; 45 percent, 100, 320, 320, 750; 2 visits; the flag; the first line.
+    assert_eq!(statement[33..51], [3, 0, 45, 100, 0, 64, 1, 64, 1, 238, 2, 2, 0, 0, 0, 0, b'P', b'L']);
 }
 
 /// A correction of day 0 and quarter 0.
@@ -996,7 +1016,7 @@ fn correction(rows: &[Row]) -> Vec<u8> {
 #[test]
 fn request_6_a_correction_is_held_to_the_intervals_terms() {
     let settled = |interval: &Interval, row: Row| {
-        let mut statement = [0; 48 + 3 * 42];
+        let mut statement = [0; 49 + 3 * 42];
         settle(&bytes(interval), &correction(&[row]), &mut statement).map(|_| u64::from(statement[11]))
     };
     let plain = x(1300);
@@ -1077,19 +1097,20 @@ fn request_6_a_price_of_which_no_fen_come() {
 
 #[test]
 fn request_6_the_largest_amounts() {
-    // 256 rows of 2,000 MW at 999 and 1,000 li. Row 1 delivers 50,000 and 200,000 kWh: 24,995,000 fen. The others are reduced and deliver
-    // nothing of as much, at twice the price. At half load they pay with a weight of 0, so all of row 1's fen come from penalties.
+    // 256 rows of 2,000 MW at 999 and 1,000 li. Row 1 at 0; the others, at half load, are reduced and deliver nothing of 50,000 and
+    // 200,000 kWh, at twice the price. Without wind the average is 2,000 x 63,750,000 / 512,000 = 249,023.4, and row 1 delivers 49,023 and
+    // 200,000 kWh: 24,897,397.7 fen. The others pay their caps of 625 fen, penalties the rest.
     let mut rows: Vec<Row> =
         (1..=256).map(|id| Row { capacity: 2_000, status: 2, ..offering(id, 250_000, 0, [999, 1_000]) }).collect();
     rows[0] = Row { metered: 0, status: 0, ..rows[0] };
     let interval = Interval { need: 64_000_000, rows, ..stating(limits([1, 999, 999, 1_000]), x(1)) };
     let told = told(&interval);
-    assert_eq!(told[0], [0, 0, 999, 1_000, 24_995_000, 24_995_000, 0, 0, 256, 50, 1, 999, 999, 1_000, 0]);
-    assert_eq!(told[1], [1, 50_000, 200_000, 24_995_000, 0, 0, 0, 0, 0, 0, 0]);
-    // 255 x 49,990,000 less 24,995,000 is 12,722,455,000: 49,891,980 each, and one more for the first hundred.
+    assert_eq!(told[0], [0, 0, 999, 1_000, 24_897_398, 24_738_023, 1, 0, 256, 50, 1, 999, 999, 1_000, 255, 1]);
+    assert_eq!(told[1], [1, 50_000, 200_000, 24_897_398, 0, 0, 0, 0, 0, 0, 0]);
+    // 255 x 49,990,000 less 24,738,023 is 12,722,711,977: 49,892,988 each, and one more for the first 37.
     let returned: Vec<u64> = told[2..].iter().map(|line| line[10]).collect();
-    assert!(told[2..].iter().all(|line| line[9] == 49_990_000));
-    assert_eq!(returned, [vec![49_891_981; 100], vec![49_891_980; 155]].concat());
+    assert!(told[2..].iter().all(|line| line[3..10] == [0, 0, 977, 625, 625, 1, 49_990_000]));
+    assert_eq!(returned, [vec![49_892_989; 37], vec![49_892_988; 218]].concat());
 }
 
 #[test]
@@ -1101,4 +1122,430 @@ fn request_6_tell_reads_a_byte_past_the_longest_file() {
     assert_eq!(tell(&longest).lines().count(), 257);
     longest.push(0);
     assert_eq!(tell(&longest), "refused 4 0\n");
+}
+
+/// Without wind or sun: row 1 of interval X, a thermal row at so many kWh that offers nothing, and others behind them.
+/// At 12,000 kWh the average is 10,500: row 1 delivers 500 kWh at 200 li and 1,000 at 400, 50,000 fen, and row 2 weighs 1,500.
+fn windless(tariff: u16, second: u32, others: &[Row]) -> Interval {
+    let rows = [&[x(tariff).rows[0], row(2, 1, second)], others].concat();
+    Interval { rows, ..x(tariff) }
+}
+
+/// What `tell` prints of an interval, line by line.
+fn assert_told(interval: &Interval, lines: &[&str]) {
+    assert_eq!(tell(&bytes(interval)).lines().collect::<Vec<_>>(), lines);
+}
+
+const NOTHING_IN_ROW_2: &str = "2 0 0 0 0 0 0 0 0 0 0";
+const NOTHING_IN_ROW_3: &str = "3 0 0 0 0 0 0 0 0 0 0";
+
+#[test]
+fn request_9_no_wind_rows_at_all() {
+    // Row 2's cap is 39,000 fen, so 11,000 are missing.
+    assert_told(
+        &windless(1300, 12_000, &[]),
+        &[
+            "0 0 200 400 50000 11000 1 0 2 1 1",
+            "1 2500 500 50000 11000 0 0 0 0 0 0",
+            "2 0 0 0 0 1500 39000 39000 1 0 0",
+        ],
+    );
+    // At a tariff of 3545 it is 106,350, and row 2 pays all.
+    assert_told(
+        &windless(3545, 12_000, &[]),
+        &["0 0 200 400 50000 0 0 0 2 1 1", "1 2500 500 50000 0 0 0 0 0 0 0", "2 0 0 0 0 1500 106350 50000 0 0 0"],
+    );
+}
+
+#[test]
+fn request_9_a_wind_or_solar_row_at_0_and_at_1() {
+    // At 0 it changes nothing, in whatever status, and weighs nothing.
+    for still in [row(3, 2, 0), row(3, 3, 0), Row { status: 3, ..row(3, 2, 0) }, Row { status: 3, ..row(3, 3, 0) }] {
+        assert_told(
+            &windless(1300, 12_000, &[still]),
+            &[
+                "0 0 200 400 50000 11000 1 0 3 1 1",
+                "1 2500 500 50000 11000 0 0 0 0 0 0",
+                "2 0 0 0 0 1500 39000 39000 1 0 0",
+                NOTHING_IN_ROW_3,
+            ],
+        );
+    }
+    // At 1 the baseline is half load: row 1 gets 90,000 fen, row 2 is no payer, and the farm's cap is 6.5 fen, cut.
+    for moving in [row(3, 2, 1), row(3, 3, 1)] {
+        assert_told(
+            &windless(1300, 12_000, &[moving]),
+            &[
+                "0 0 200 400 90000 89994 1 0 3 1 0",
+                "1 2500 500 90000 89994 0 0 0 0 0 0",
+                NOTHING_IN_ROW_2,
+                "3 0 0 0 0 1 6 6 1 0 0",
+            ],
+        );
+    }
+    // In a grid accident its meter counts all the same, though it pays nothing.
+    for moving in [Row { status: 3, ..row(3, 2, 1) }, Row { status: 3, ..row(3, 3, 5_000) }] {
+        assert_told(
+            &windless(1300, 12_000, &[moving]),
+            &[
+                "0 0 200 400 90000 90000 0 0 3 0 0",
+                "1 2500 500 90000 90000 0 0 0 0 0 0",
+                NOTHING_IN_ROW_2,
+                NOTHING_IN_ROW_3,
+            ],
+        );
+    }
+    // One of several is enough, wherever it stands.
+    for moving in 3..=5 {
+        let farms = [3, 4, 5].map(|id| row(id, 2, u32::from(id == moving)));
+        assert_eq!(told(&windless(1300, 12_000, &farms))[0][10], 0, "row {moving}");
+    }
+}
+
+#[test]
+fn request_9_half_load_exactly_and_a_kwh_above() {
+    // All at half load: the average is half load. Everybody is a payer of weight 0, and nobody delivers.
+    let mut all = windless(1300, 12_500, &[]);
+    all.rows[0].metered = 12_500;
+    assert_told(&all, &["0 0 0 0 0 0 0 0 2 0 1", "1 2500 500 0 0 0 40625 0 0 0 0", "2 0 0 0 0 0 40625 0 0 0 0"]);
+    // The average of 9,000 and 12,500 is 10,750: 750 kWh at 200 li and 1,000 at 400 make 55,000 fen.
+    assert_told(
+        &windless(1300, 12_500, &[]),
+        &[
+            "0 0 200 400 55000 14375 1 0 2 1 1",
+            "1 2500 500 55000 14375 0 0 0 0 0 0",
+            "2 0 0 0 0 1750 40625 40625 1 0 0",
+        ],
+    );
+    // A kWh above half load: 90,000 fen, and row 2 weighs 1, with a cap of 40,628.25 fen, cut.
+    assert_told(
+        &windless(1300, 12_501, &[]),
+        &["0 0 200 400 90000 49372 1 0 2 1 0", "1 2500 500 90000 49372 0 0 0 0 0 0", "2 0 0 0 0 1 40628 40628 1 0 0"],
+    );
+    // Of whatever status, and wherever it stands.
+    for status in 0..=3 {
+        for (third, flag) in [(12_500, 1), (12_501, 0)] {
+            let low = windless(1300, 12_000, &[Row { status, ..row(3, 1, third) }, row(4, 1, 0)]);
+            assert_eq!(told(&low)[0][10], flag, "status {status} at {third}");
+        }
+    }
+}
+
+#[test]
+fn request_9_averages_are_cut_once_they_are_worked_out() {
+    // 10,100 kWh of 110 MW. 100 MW: 9,181.8, 3 MW: 275.5, 7 MW: 642.7. Cut for each MW first it would be 9,100, 273 and 637.
+    let sized = |id, capacity, metered| Row { capacity, ..row(id, 1, metered) };
+    let mut interval = windless(3545, 300, &[sized(3, 7, 800)]);
+    interval.rows[1].capacity = 3;
+    let baselines = Baselines::of_quarter(&interval.rows, Terms::OF_01, 1);
+    assert!(baselines.averaged());
+    assert_eq!([100, 3, 7].map(|capacity| baselines.of_energy(capacity)), [9_181, 275, 642]);
+    // Row 1 delivers 181 kWh in tier 2 alone, at 400 li. Of 7,240 fen over 183 kWh row 2 owes 989.07 and row 3 6,250.93.
+    assert_told(
+        &interval,
+        &[
+            "0 0 0 400 7240 0 0 0 3 2 1",
+            "1 2500 500 7240 0 0 0 0 0 0 0",
+            "2 0 0 0 0 25 2658 989 0 0 0",
+            "3 0 0 0 0 158 7090 6251 0 0 0",
+        ],
+    );
+    // The product is above 32 bits: 2,000 x 63,999,999 / 512,000 is 249,999.996, and 1 MW of it 124.99.
+    let mut rows: Vec<Row> = (1..=256).map(|id| sized(id, 2_000, 250_000)).collect();
+    rows[255].metered -= 1;
+    let baselines = Baselines::of_quarter(&rows, Terms::OF_01, 1);
+    assert_eq!([1, 2_000].map(|capacity| baselines.of_energy(capacity)), [124, 249_999]);
+}
+
+#[test]
+fn request_9_energy_paid_from_the_average_down() {
+    // 100 MW at 9,000 kWh: an average in tier 2 pays nobody in tier 1; from 40 percent up both tiers pay.
+    let averages = [0, 8_999, 9_000, 9_001, 9_999, 10_000, 10_001, 12_499, 12_500];
+    let due = [[0, 0], [0, 0], [0, 0], [0, 1], [0, 999], [0, 1_000], [1, 1_000], [2_499, 1_000], [2_500, 1_000]];
+    assert_eq!(averages.map(|average| paid_energy(&row(1, 1, 9_000), average)), due);
+    // At 10,500 kWh, in tier 1 alone; at 0 kWh, all of it.
+    assert_eq!([10_499, 10_500, 10_501].map(|t| paid_energy(&row(1, 1, 10_500), t)), [[0, 0], [0, 0], [1, 0]]);
+    assert_eq!(
+        [0, 1, 10_000, 12_500].map(|t| paid_energy(&row(1, 1, 0), t)),
+        [[0, 0], [0, 1], [0, 10_000], [2_500, 10_000]]
+    );
+    // In files, with row 2 so that the average is 9,999, 10,000 and 10,001: fen are 39,960, 40,000 and 40,020.
+    // Row 1 is at 9,000, called in both tiers, and the prices are 200 and 400 li where it delivers.
+    for (second, [price_1, price_2, total, weight]) in [
+        (10_998, [0, 400, 39_960, 999]),
+        (11_000, [0, 400, 40_000, 1_000]),
+        (11_002, [200, 400, 40_020, 1_001]),
+        // One kWh more does not move the average, since it is cut, but weighs.
+        (11_003, [200, 400, 40_020, 1_002]),
+        // Everybody alike: nobody is below the average.
+        (9_000, [0, 0, 0, 0]),
+        // Row 1 is above the average, and nobody is called who delivered.
+        (8_000, [0, 0, 0, 0]),
+    ] {
+        let told = told(&windless(1300, second, &[]));
+        assert_eq!(
+            [told[0][2], told[0][3], told[0][4], told[2][5]],
+            [price_1, price_2, total, weight],
+            "row 2 at {second}"
+        );
+        assert_eq!(told[1][1..4], [2_500, 500, total], "row 2 at {second}");
+        assert_eq!(told[0][10], 1, "row 2 at {second}");
+    }
+}
+
+#[test]
+fn request_9_a_row_at_its_average() {
+    // 10,000 is the average, and where row 3 is a kWh lower 9,999.7 is cut to where it stands. Either way it pays with a weight of 0.
+    assert_told(
+        &windless(1300, 11_000, &[row(3, 1, 10_000)]),
+        &[
+            "0 0 0 400 40000 4250 1 0 3 1 1",
+            "1 2500 500 40000 4250 0 0 0 0 0 0",
+            "2 0 0 0 0 1000 35750 35750 1 0 0",
+            "3 0 0 0 0 0 32500 0 0 0 0",
+        ],
+    );
+    for (third, line) in [(9_999, [3, 0, 0, 0, 0, 0, 32_496, 0, 0, 0, 0]), (9_998, [3, 0, 0, 0, 0, 0, 0, 0, 0, 0, 0])] {
+        let told = told(&windless(1300, 11_000, &[row(3, 1, third)]));
+        assert_eq!(told[0][2..5], [0, 400, 39_960], "row 3 at {third}");
+        assert_eq!(told[2][5], 1_001, "row 3 at {third}");
+        assert_eq!(told[3], line, "row 3 at {third}");
+    }
+    // A lone row is its own average: called for 3,000 kWh, it delivers nothing and weighs nothing.
+    let lone = Interval { rows: x(1300).rows[..1].to_vec(), ..x(1300) };
+    assert_told(&lone, &["0 0 0 0 0 0 0 0 1 0 1", "1 2500 500 0 0 0 29250 0 0 0 0"]);
+    // So are rows that all stand still.
+    let mut still = windless(1300, 0, &[]);
+    still.rows[0].metered = 0;
+    assert_told(&still, &["0 0 0 0 0 0 0 0 2 0 1", "1 2500 500 0 0 0 0 0 0 0 0", NOTHING_IN_ROW_2]);
+}
+
+#[test]
+fn request_9_need_0_and_1() {
+    let needing = |need| Interval { need, ..windless(1300, 12_000, &[]) };
+    assert_told(&needing(0), &["0 0 0 0 0 0 0 0 2 0 0", "1 0 0 0 0 0 0 0 0 0 0", NOTHING_IN_ROW_2]);
+    // Called for 1 kWh in tier 1, paid for 500.
+    assert_told(
+        &needing(1),
+        &["0 0 200 0 10000 0 0 0 2 1 1", "1 1 0 10000 0 0 0 0 0 0 0", "2 0 0 0 0 1500 39000 10000 0 0 0"],
+    );
+    // Nobody offers, so that the need is uncovered: the average rules all the same, and row 2 weighs 1,500.
+    let mut nobody = needing(1);
+    nobody.rows[0] = row(1, 1, 9_000);
+    assert_told(&nobody, &["0 0 0 0 0 0 0 1 2 1 1", "1 0 0 0 0 0 0 0 0 0 0", "2 0 0 0 0 1500 39000 0 0 0 0"]);
+}
+
+#[test]
+fn request_9_no_thermal_row() {
+    let told_of = |rows: Vec<Row>| told(&Interval { rows, ..x(1300) });
+    assert_eq!(told_of(Vec::new())[0], [0, 0, 0, 0, 0, 0, 0, 3_000, 0, 0, 0]);
+    assert_eq!(told_of(vec![row(1, 2, 0), row(2, 3, 0)])[0], [0, 0, 0, 0, 0, 0, 0, 3_000, 2, 0, 0]);
+    // One is enough, of any status.
+    for status in 0..=3 {
+        let rows = vec![row(1, 2, 0), Row { status, ..row(2, 1, 0) }];
+        assert_eq!(told_of(rows)[0], [0, 0, 0, 0, 0, 0, 0, 3_000, 2, 0, 1], "status {status}");
+    }
+}
+
+#[test]
+fn request_9_rows_of_every_status_count_in_the_sums() {
+    // A third row at 6,000 kWh brings the average from 10,500 to 9,000 and row 1 to it; below the average it pays nothing.
+    for status in 0..=3 {
+        assert_told(
+            &windless(1300, 12_000, &[Row { status, ..row(3, 1, 6_000) }]),
+            &[
+                "0 0 0 0 0 0 0 0 3 1 1",
+                "1 2500 500 0 0 0 29250 0 0 0 0",
+                "2 0 0 0 0 3000 39000 0 0 0 0",
+                NOTHING_IN_ROW_3,
+            ],
+        );
+    }
+    // At 12,000 it brings the average to 11,000: row 1 gets 1,000 kWh at 200 li and 1,000 at 400, 60,000 fen. Row 3 pays as row 2 does,
+    // 30,000, but not in a grid accident: then row 2 pays its cap of 39,000.
+    for (status, [shortfall, rounds, visits], lines) in [
+        (0, [0, 0, 2], [[1_000, 39_000, 30_000, 0]; 2]),
+        (1, [0, 0, 2], [[1_000, 39_000, 30_000, 0]; 2]),
+        (2, [0, 0, 2], [[1_000, 39_000, 30_000, 0]; 2]),
+        (3, [21_000, 1, 1], [[1_000, 39_000, 39_000, 1], [0, 0, 0, 0]]),
+    ] {
+        let told = told(&windless(1300, 12_000, &[Row { status, ..row(3, 1, 12_000) }]));
+        assert_eq!(told[0], [0, 0, 200, 400, 60_000, shortfall, rounds, 0, 3, visits, 1], "status {status}");
+        assert_eq!([&told[2][5..9], &told[3][5..9]], lines, "status {status}");
+    }
+    // At its average exactly: a cap, but not in a grid accident.
+    for (status, cap) in [(0, 34_125), (1, 34_125), (2, 34_125), (3, 0)] {
+        let told = told(&windless(1300, 12_000, &[Row { status, ..row(3, 1, 10_500) }]));
+        assert_eq!(told[3][5..9], [0, cap, 0, 0], "status {status}");
+    }
+}
+
+#[test]
+fn request_9_prices_by_energy_from_the_average() {
+    // Row 2 bids 300 and 500 li and is called in full. At 11,000 kWh it is 1,500 below half load, but above the average of 10,000.
+    let beside = |dearer: Row| Interval { need: 9_000, rows: vec![x(1300).rows[0], dearer], ..x(1300) };
+    assert_told(
+        &beside(dearer(11_000)),
+        &[
+            "0 0 0 400 40000 4250 1 0 2 1 1",
+            "1 2500 2000 40000 4250 0 0 0 0 0 0",
+            "2 2500 2000 0 0 1000 35750 35750 1 0 0",
+        ],
+    );
+    // At 8,000 it is below the average of 8,500 and the only one that delivers: 500 kWh at its 500 li.
+    assert_told(
+        &beside(dearer(8_000)),
+        &["0 0 0 500 25000 0 0 0 2 1 1", "1 2500 2000 0 0 500 29250 25000 0 0 0", "2 2500 2000 25000 0 0 0 0 0 0 0"],
+    );
+}
+
+/// Row 1 of interval X, a reduced unit beside it that bids 300 and 500 li, and thermal rows that offer nothing.
+fn windless_reduced(metered: u32, need: u32, others: &[Row]) -> Interval {
+    let rows = [&[x(1300).rows[0], Row { status: 2, ..dearer(metered) }], others].concat();
+    Interval { need, rows, ..x(1300) }
+}
+
+#[test]
+fn request_9_penalties_measured_from_the_average() {
+    // The average is 10,166.7, cut. Row 1 delivers 166 and 1,000 kWh: 43,320 fen. Row 2 delivers 166 of 2,500 and 500 of 2,000 kWh: twice
+    // 2,334 x 200 and 1,500 x 400 li. From half load it would owe 120,000 fen. Row 3's cap leaves 4,320 open, which the penalty fills.
+    assert_told(
+        &windless_reduced(9_500, 9_000, &[row(3, 1, 12_000)]),
+        &[
+            "0 0 200 400 43320 4320 1 0 3 1 1",
+            "1 2500 2000 43320 0 0 0 0 0 0 0",
+            "2 2500 2000 0 0 0 0 0 0 213360 209040",
+            "3 0 0 0 0 1834 39000 39000 1 0 0",
+        ],
+    );
+    // Above the average, 10,666, it owes for all that it was called for, and pays. Of 53,320 fen row 3 owes 42,643 and closes at 39,000;
+    // row 2 pays the 14,320 that are left, and its penalty goes back.
+    assert_told(
+        &windless_reduced(11_000, 9_000, &[row(3, 1, 12_000)]),
+        &[
+            "0 0 200 400 53320 0 1 0 3 3 1",
+            "1 2500 2000 53320 0 0 0 0 0 0 0",
+            "2 2500 2000 0 0 334 35750 14320 0 260000 260000",
+            "3 0 0 0 0 1334 39000 39000 1 0 0",
+        ],
+    );
+    // At 8,000 kWh, its minimum, under an average of 10,500: called for 2,500 and 500 kWh, it delivered 500 and 2,000. 1,500 too much in
+    // tier 2 do not make up for 2,000 in tier 1: twice 2,000 x 200 li. Rows 3 and 4 pay 25,000 each of row 1's 50,000 fen.
+    assert_told(
+        &windless_reduced(8_000, 7_500, &[row(3, 1, 12_500), row(4, 1, 12_500)]),
+        &[
+            "0 0 200 400 50000 0 0 0 4 2 1",
+            "1 2500 2000 50000 0 0 0 0 0 0 0",
+            "2 2500 500 0 0 0 0 0 0 80000 80000",
+            "3 0 0 0 0 2000 40625 25000 0 0 0",
+            "4 0 0 0 0 2000 40625 25000 0 0 0",
+        ],
+    );
+    // An average of 9,500 leaves tier 1 without a price, so what is short there costs nothing; 1,000 of 2,000 kWh in tier 2 cost 2 x 400 li
+    // each.
+    let told = told(&windless_reduced(8_500, 9_000, &[row(3, 1, 11_000)]));
+    assert_eq!(told[0][2..5], [0, 400, 20_000]);
+    assert_eq!(told[2], [2, 2_500, 2_000, 0, 0, 0, 0, 0, 0, 80_000, 80_000]);
+}
+
+#[test]
+fn request_9_leftover_fen_go_round() {
+    // The average is 10,502, and rows 2 and 3 are 251 kWh above it. Row 1 delivers 502 kWh at 105 li, 5,271 fen: one is left over. It goes
+    // to row 2 but where row 3, at position 2, has its turn.
+    let rows = vec![offering(1, 10_000, 10_000, [105, 320]), row(2, 1, 10_753), row(3, 1, 10_753)];
+    for (quarter, due) in [(0, [2_636, 2_635]), (1, [2_636, 2_635]), (2, [2_635, 2_636]), (95, [2_635, 2_636])] {
+        let told = told(&Interval { quarter, need: 100, rows: rows.clone(), ..x(1300) });
+        assert_eq!([told[0][4], told[2][5], told[3][5], told[0][10]], [5_271, 251, 251, 1]);
+        assert_eq!([told[2][7], told[3][7]], due, "quarter {quarter}");
+    }
+}
+
+/// Row 1 of interval X and 3 MW at so many kWh. At 45 percent their baselines are 11,250 and 337.5, cut to 337.
+fn beside_3_mw(metered: u32) -> Interval {
+    Interval { rows: vec![x(1300).rows[0], Row { capacity: 3, ..row(2, 1, metered) }], ..x(1300) }
+}
+
+#[test]
+fn request_9_a_pg_file_by_its_stated_baseline() {
+    // 9,337 kWh of 103 MW: 9,065.05 and 271.95. Bands are called from 11,250 down. Row 1 delivers 65 kWh at 400 li, and 3 MW pay their cap
+    // of 1,095.25 fen, cut.
+    assert_told(
+        &stating(percent(45), beside_3_mw(337)),
+        &[
+            "0 0 0 400 2600 1505 1 0 2 45 100 320 320 750 1 1",
+            "1 1250 1750 2600 1505 0 0 0 0 0 0",
+            "2 0 0 0 0 66 1095 1095 1 0 0",
+        ],
+    );
+    // A kWh more is half a kWh above 337.5, and 1 above what rules: 1,250 kWh at 200 li and 1,000 at 400 are 65,000 fen.
+    assert_told(
+        &stating(percent(45), beside_3_mw(338)),
+        &[
+            "0 0 200 400 65000 63902 1 0 2 45 100 320 320 750 1 0",
+            "1 1250 1750 65000 63902 0 0 0 0 0 0",
+            "2 0 0 0 0 1 1098 1098 1 0 0",
+        ],
+    );
+    // Under PH 338 kWh are below half load: 9,066.02 and 271.98.
+    assert_told(
+        &beside_3_mw(338),
+        &["0 0 0 400 2640 1542 1 0 2 1 1", "1 2500 500 2640 1542 0 0 0 0 0 0", "2 0 0 0 0 67 1098 1098 1 0 0"],
+    );
+    // Between the stated baseline and half load: at 45 percent row 2 pays from 11,250 up, under 01's terms the average rules.
+    for (terms, due) in [(percent(45), [65_000, 0]), (percent(48), [50_000, 1]), (Terms::OF_01, [50_000, 1])] {
+        let told = told(&stating(terms, windless(3545, 12_000, &[])));
+        assert_eq!([told[0][4], told[0][15]], due, "{} percent", terms.percent);
+    }
+}
+
+/// What is printed of the statement of an interval and a correction of some of its rows.
+fn told_corrected(interval: &Interval, rows: &[Row]) -> String {
+    let mut statement = [0; 49 + 4 * 42];
+    let length = settle(&bytes(interval), &correction(rows), &mut statement).expect("the pair is accepted");
+    lines_of_text(&statement[..length])
+}
+
+#[test]
+fn request_9_a_correction_begins_and_ends_it() {
+    let [still, blowing] = [0, 5_000].map(|metered| windless(1300, 12_000, &[row(3, 2, metered)]));
+    let [low, high] = [12_000, 12_501].map(|metered| windless(1300, metered, &[row(3, 2, 0)]));
+    let averaged = "0 0 200 400 50000 11000 1 0 3 1 1\n\
+                    1 2500 500 50000 11000 0 0 0 0 0 0\n\
+                    2 0 0 0 0 1500 39000 39000 1 0 0\n\
+                    3 0 0 0 0 0 0 0 0 0 0\n";
+    // By the wind's meter: 0 where it was 5,000, and the other way round, where the farm pays its cap of 32,500 fen.
+    assert_eq!(told_corrected(&blowing, &[still.rows[2]]), averaged);
+    let windy = "0 0 200 400 90000 57500 1 0 3 1 0\n\
+                 1 2500 500 90000 57500 0 0 0 0 0 0\n\
+                 2 0 0 0 0 0 0 0 0 0 0\n\
+                 3 0 0 0 0 5000 32500 32500 1 0 0\n";
+    assert_eq!(told_corrected(&still, &[blowing.rows[2]]), windy);
+    // By a thermal meter.
+    assert_eq!(told_corrected(&high, &[low.rows[1]]), averaged);
+    let above = "0 0 200 400 90000 49372 1 0 3 1 0\n\
+                 1 2500 500 90000 49372 0 0 0 0 0 0\n\
+                 2 0 0 0 0 1 40628 40628 1 0 0\n\
+                 3 0 0 0 0 0 0 0 0 0 0\n";
+    assert_eq!(told_corrected(&low, &[high.rows[1]]), above);
+    // By both at once; and a status alone changes neither side.
+    assert_eq!(told_corrected(&windless(1300, 20_000, &[row(3, 2, 5_000)]), &still.rows[1..]), averaged);
+    assert_eq!(told_corrected(&still, &[Row { status: 3, ..still.rows[2] }]), averaged);
+    // A corrected meter counts in the sums: row 1 at 9,500 brings the average to 10,750, of which it delivers 750 and 500 kWh.
+    let total = "0 0 200 400 35000 0 0 0 3 1 1\n1 2500 500 35000 0 0 0 0 0 0 0\n2 0 0 0 0 1250 39000 35000 0 0 0\n";
+    let lines = told_corrected(&still, &[Row { metered: 9_500, ..still.rows[0] }]);
+    assert_eq!(lines, format!("{total}3 0 0 0 0 0 0 0 0 0 0\n"));
+}
+
+#[test]
+fn request_9_the_flag_is_the_heads_last_byte() {
+    // 2 rows; in PT 45 percent, 100, 320, 320, 750; 1 visit; the flag; the first line.
+    let mut statement = [7; 49 + 2 * 42];
+    assert_eq!(settle(&bytes(&windless(1300, 12_000, &[])), &[], &mut statement), Ok(40 + 2 * 42));
+    assert_eq!(statement[33..42], [2, 0, 1, 0, 0, 0, 1, b'P', b'L']);
+    assert_eq!(settle(&bytes(&stating(percent(45), beside_3_mw(337))), &[], &mut statement), Ok(49 + 2 * 42));
+    assert_eq!(statement[33..51], [2, 0, 45, 100, 0, 64, 1, 64, 1, 238, 2, 1, 0, 0, 0, 1, b'P', b'L']);
+    // A buffer of the length before this request is a byte too short.
+    let mut short = [7; 39 + 2 * 42];
+    assert_eq!(settle(&bytes(&windless(1300, 12_000, &[])), &[], &mut short), Err((11, 0)));
+    assert_eq!(short, [7; 123]);
 }

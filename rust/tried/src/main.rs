@@ -4,11 +4,12 @@
 //! length of the writer's buffer, then number, value and that buffer afterwards.
 //! Every buffer is full of 255 before. With two numbers, a count and a seed, so many cases are drawn at random.
 
-use cases::file::{CORRECTION_HEAD, ROW, heads};
+use cases::file::{CORRECTION_HEAD, Interval, ROW, Row, Terms, heads};
 use cases::random::Random;
 use cases::{Answer, Case, accepted, refused};
 
 mod small;
+mod windless;
 
 const MOST_ROWS: u32 = 5;
 
@@ -51,15 +52,11 @@ fn outcome(length: usize, call: impl FnOnce(&mut [u8]) -> Answer) -> String {
     format!("{length}\t{number}\t{value}\t{}", hex(&buffer))
 }
 
-fn number(bytes: &[u8]) -> u32 {
-    bytes.iter().rev().fold(0, |number, &byte| number << 8 | u32::from(byte))
-}
-
 /// A few ids that either file might name, and some that none does.
 fn ids(case: &Case) -> Vec<u16> {
     let named = |file: &[u8], head: usize| -> Vec<u16> {
         let rows = file.get(head..).unwrap_or_default().chunks_exact(ROW);
-        rows.map(|row| number(&row[2..4]) as u16).take(3).collect()
+        rows.map(|row| u16::from_le_bytes([row[2], row[3]])).take(3).collect()
     };
     let interval = named(&case.interval, heads(&case.interval).0);
     let mut ids = [interval, named(&case.correction, CORRECTION_HEAD), vec![0, 1, u16::MAX]].concat();
@@ -68,32 +65,22 @@ fn ids(case: &Case) -> Vec<u16> {
     ids
 }
 
-/// The figures of a file of the right length, whatever its marks and ranges; terms where its mark is that of PG.
+/// The figures of a file of the right length as the reference's writer takes them.
 fn contents(file: &[u8]) -> Option<reference::Interval> {
-    let (head, body) = file.split_at_checked(heads(file).0)?;
-    let terms = |terms: &[u8]| reference::Terms {
-        percent: terms[0],
-        limits: [1, 3, 5, 7].map(|at| number(&terms[at..at + 2]) as u16),
+    let Interval { day, quarter, tariff, need, stated, rows, .. } = Interval::read(file)?;
+    let terms = |Terms { percent, limits }| reference::Terms { percent, limits };
+    let row = |Row { id, kind, capacity, metered, status, offered, minimum, bids, .. }| reference::Row {
+        id,
+        kind,
+        capacity,
+        metered,
+        status,
+        offered,
+        minimum,
+        bids,
     };
-    let row = |row: &[u8]| reference::Row {
-        id: number(&row[2..4]) as u16,
-        kind: row[4],
-        capacity: number(&row[5..7]) as u16,
-        metered: number(&row[7..11]),
-        status: row[11],
-        offered: row[12],
-        minimum: number(&row[13..17]),
-        bids: [number(&row[17..19]) as u16, number(&row[19..21]) as u16],
-    };
-    let contents = reference::Interval {
-        day: number(&head[2..6]),
-        quarter: head[6],
-        tariff: number(&head[7..9]) as u16,
-        need: number(&head[9..13]),
-        stated: head.get(15..).filter(|rest| !rest.is_empty()).map(terms),
-        rows: body.chunks_exact(ROW).map(row).collect(),
-    };
-    (body.len() == ROW * number(&head[13..15]) as usize).then_some(contents)
+    let rows = rows.into_iter().map(row).collect();
+    Some(reference::Interval { day, quarter, tariff, need, stated: stated.map(terms), rows })
 }
 
 fn main() {

@@ -1,5 +1,6 @@
 //! Intervals of 0 to 5 rows, chosen so that every rule and every refusal is met at least once.
 
+use crate::windless;
 use cases::Case;
 use cases::file::{Correction, Interval, LINE, Row, STATEMENT_HEAD_PS, STATEMENT_HEAD_PT, Terms};
 
@@ -22,16 +23,17 @@ pub fn cases() -> Vec<Case> {
         several_faults(),
         terms(),
         terms_faults(),
+        windless::cases(),
     ]
     .concat()
 }
 
 /// A case with a buffer of exactly the needed length.
-fn case(name: impl Into<String>, interval: &Interval) -> Case {
+pub fn case(name: impl Into<String>, interval: &Interval) -> Case {
     bytes_case(name, interval.bytes(), Vec::new(), interval.statement_length())
 }
 
-fn corrected(name: impl Into<String>, interval: &Interval, correction: &Correction) -> Case {
+pub fn corrected(name: impl Into<String>, interval: &Interval, correction: &Correction) -> Case {
     bytes_case(name, interval.bytes(), correction.bytes(), interval.statement_length())
 }
 
@@ -44,6 +46,11 @@ fn x_with(change: impl FnOnce(&mut Interval)) -> Interval {
     let mut interval = Interval::x(1300);
     change(&mut interval);
     interval
+}
+
+/// A solar row in a grid accident: it takes no part, but at 1 kWh it keeps the thermal average from ruling.
+fn sun(id: u16) -> Row {
+    Row::solar(id, 100, 1).with_status(3)
 }
 
 /// Row 1 of interval X at tariff 1300, another row beside it, and X's wind farm; all that is offered is called.
@@ -61,7 +68,7 @@ fn figures() -> Vec<Case> {
     }
     cases.push(case("no rows", &x_with(|x| x.rows.clear())));
     cases.push(case("no rows and no need", &Interval::new(1, 0, Vec::new())));
-    cases.push(case("no payers", &x_with(|x| x.rows.truncate(1))));
+    cases.push(case("no payers", &x_with(|x| x.rows = vec![x.rows[0], sun(2)])));
     cases.push(case("no payers, nothing to pay", &Interval { need: 0, ..x_with(|x| x.rows.truncate(1)) }));
     for capacity in [1, 2_000, 2_001] {
         let change = |x: &mut Interval| x.rows[1] = Row { capacity, metered: 200, ..x.rows[1] };
@@ -82,7 +89,10 @@ fn calls() -> Vec<Case> {
     let narrow = |id, capacity: u16, bid| {
         Row::thermal(id, capacity, 100 * u32::from(capacity)).offering(100 * u32::from(capacity), bid, 400)
     };
-    let offers = |need, rows| Interval::new(500, need, rows);
+    let offers = |need, mut rows: Vec<Row>| {
+        rows.push(sun(rows[rows.len() - 1].id + 1));
+        Interval::new(500, need, rows)
+    };
     let pair = || vec![narrow(1, 100, 200), narrow(2, 200, 200)];
     let at_320 = || {
         vec![
@@ -97,7 +107,7 @@ fn calls() -> Vec<Case> {
         case("leftover of two among four", &offers(6, [1, 2, 3, 4].map(|id| narrow(id, 7, 150)).to_vec())),
         case("the dearer row first in the file", &offers(2_600, vec![narrow(1, 100, 300), narrow(2, 100, 200)])),
         case("the dearer row is not reached", &offers(2_500, vec![narrow(1, 100, 300), narrow(2, 100, 200)])),
-        case("capacities 1 and 2000 tied", &offers(99, vec![narrow(1, 1, 100), narrow(65_535, 2_000, 100)])),
+        case("capacities 1 and 2000 tied", &offers(99, vec![narrow(1, 1, 100), narrow(65_534, 2_000, 100)])),
         case("minimum at half load", &offers(50, vec![Row::thermal(1, 4, 0).offering(500, 100, 320)])),
         case("minimum just below half load", &offers(50, vec![Row::thermal(1, 4, 0).offering(499, 100, 320)])),
         case("minimum at 40 percent", &offers(200, vec![Row::thermal(1, 4, 0).offering(400, 100, 320)])),
@@ -223,8 +233,8 @@ fn rounds() -> Vec<Case> {
             "half load beside a capped payer",
             &paying(300, &[Row::thermal(2, 100, 12_500), Row::wind(3, 100, 5_000)]),
         ),
-        case("half load alone", &paying(300, &[Row::thermal(2, 100, 12_500)])),
-        case("a wind farm at nothing", &paying(300, &[Row::wind(2, 100, 0)])),
+        case("half load alone", &paying(300, &[Row::thermal(2, 100, 12_500), sun(3)])),
+        case("a wind farm at nothing", &paying(300, &[Row::wind(2, 100, 0), sun(3)])),
         case("a cap of 0 closes though nothing is due", &Interval { need: 0, ..paying(1, &[Row::wind(2, 100, 199)]) }),
         case(
             "a cap of 1 stays open where nothing is due",
@@ -355,6 +365,7 @@ fn returned() -> Vec<Case> {
         let offer = |id, metered| Row::thermal(id, 100, metered).offering(10_000, 200, 320);
         let mut rows = vec![offer(1, 12_495)];
         rows.extend([2, 3, 4].map(|id| offer(id, 10_001).with_status(2)));
+        rows.push(sun(5));
         Interval { quarter, ..Interval::new(1300, 10_000, rows) }
     };
     let cut = |short: u32| {
@@ -397,7 +408,8 @@ fn corrections() -> Vec<Case> {
     for buffer in [X_STATEMENT + 1, X_STATEMENT + 13, X_STATEMENT + LINE] {
         cases.push(bytes_case(format!("a buffer of {buffer}"), x.bytes(), Vec::new(), buffer));
     }
-    cases.push(bytes_case("no rows in a buffer of 40", x_with(|x| x.rows.clear()).bytes(), Vec::new(), 40));
+    let no_rows = x_with(|x| x.rows.clear()).bytes();
+    cases.push(bytes_case("no rows in a buffer that is a byte longer", no_rows, Vec::new(), STATEMENT_HEAD_PS + 1));
     cases
 }
 
@@ -585,6 +597,7 @@ fn terms() -> Vec<Case> {
         let rows = vec![
             Row::thermal(1, 100, 8_000).offering(8_000, 300, 300),
             Row::thermal(2, 100, 10_000).offering(10_000, 300, 400),
+            sun(3),
         ];
         Interval::new(1300, need, rows).stating(Terms { percent: 45, limits: [200, 300, 300, 400] })
     };

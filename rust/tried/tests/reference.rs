@@ -2,10 +2,11 @@
 //!
 //! `SEED=n` repeats a run, `TRIALS=n` makes it longer.
 
-use cases::file::{LINE, Terms, statement_head, statement_length};
+use cases::file::{Interval, LINE, Terms, statement_head, statement_length};
 use cases::ladder::{self, ladder};
 use cases::random::Random;
 use cases::refused::{self, Fault, HeadField, TermsFault};
+use cases::windless::Average;
 use cases::{Case, Outcome, accepted, demands, lengths_near};
 
 fn seed_and_trials() -> (u64, u64) {
@@ -17,16 +18,39 @@ fn run(case: &Case, seed: u64) -> Outcome {
     case.run(reference::settle).unwrap_or_else(|what| panic!("{what}; {} of seed {seed}", case.name))
 }
 
+/// The thermal average that rules a case which was settled, if it does; the statement is held to it.
+fn average(case: &Case, statement: &[u8], seed: u64) -> Option<Average> {
+    let counting = Interval::read_pair(&case.interval, &case.correction).expect("a pair that was accepted is read");
+    demands::check_average(&counting, statement).unwrap_or_else(|what| panic!("{what}: {} of seed {seed}", case.name))
+}
+
 #[test]
 fn accepted_files_meet_the_demands() {
     let (seed, trials) = seed_and_trials();
     let mut random = Random::from_seed(seed);
+    let mut averaged = 0;
     for _ in 0..trials {
         let case = accepted::case(&mut random);
         let outcome = run(&case, seed);
         let length = outcome.answer.unwrap_or_else(|refusal| panic!("{refusal:?}: {} of seed {seed}", case.name));
-        let verdict = demands::check(&outcome.buffer[..length]);
-        assert_eq!(verdict, Ok(()), "{} of seed {seed}", case.name);
+        let statement = &outcome.buffer[..length];
+        assert_eq!(demands::check(statement), Ok(()), "{} of seed {seed}", case.name);
+        averaged += u64::from(average(&case, statement, seed).is_some());
+    }
+    println!("the thermal average ruled {averaged} of {trials}");
+    assert!(averaged > trials / 5, "seed {seed}");
+}
+
+#[test]
+fn a_windless_quarter_is_averaged() {
+    let (seed, trials) = seed_and_trials();
+    let mut random = Random::from_seed(seed);
+    for _ in 0..trials / 4 {
+        let interval = accepted::interval(&mut random, accepted::Shape::Windless);
+        let mut statement = vec![0; interval.statement_length()];
+        reference::settle(&interval.bytes(), &[], &mut statement).expect("accepted");
+        let thermal = interval.rows.iter().any(|row| row.kind == cases::file::THERMAL);
+        assert_eq!(statement[statement_head(&statement).expect("a mark") - 1], u8::from(thermal), "seed {seed}");
     }
 }
 
@@ -71,7 +95,7 @@ fn the_terms_of_01_stated_give_the_lines_of_ph() {
         };
         let (of_pg, of_ph) = (statement(plain.clone().stating(Terms::OF_01)), statement(plain));
         assert_eq!(of_pg.1, of_ph.1, "{shape:?} of seed {seed}");
-        // Up to the rows, and the visits, the heads differ in their marks alone.
+        // Up to the rows, and from the visits on, the heads differ in their marks alone.
         assert_eq!((&of_pg.0[2..35], &of_pg.0[44..]), (&of_ph.0[2..35], &of_ph.0[35..]), "{shape:?} of seed {seed}");
     }
 }
@@ -141,7 +165,11 @@ fn scrambled_files_are_settled_or_refused_within_bounds() {
         let case = refused::scrambled(&mut random, whole);
         let outcome = run(&case, seed);
         match outcome.answer {
-            Ok(length) => assert_eq!(demands::check(&outcome.buffer[..length]), Ok(()), "{} of seed {seed}", case.name),
+            Ok(length) => {
+                let statement = &outcome.buffer[..length];
+                assert_eq!(demands::check(statement), Ok(()), "{} of seed {seed}", case.name);
+                average(&case, statement, seed);
+            }
             Err((number, place)) => {
                 assert!(matches!(number, 1..=11 | 14) && place <= 256, "{} of seed {seed}", case.name);
             }
@@ -224,7 +252,7 @@ fn a_changed_figure_fails_the_demands() {
         let statement = &outcome.buffer[..outcome.answer.expect("accepted")];
         // Total, shortfall, rounds and visits in the head; compensation, cut, paid, closing round, penalty and returned in a line.
         let before_lines = statement_head(statement).expect("a mark");
-        let mut places = vec![11, 19, 27, before_lines - 4];
+        let mut places = vec![11, 19, 27, before_lines - 5];
         let rows = (statement.len() - before_lines) / LINE;
         if rows > 0 {
             let line = before_lines + LINE * random.below(rows);
@@ -235,5 +263,12 @@ fn a_changed_figure_fails_the_demands() {
             changed[place] ^= 1;
             assert!(demands::check(&changed).is_err(), "byte {place}: {} of seed {seed}", case.name);
         }
+        // The flag is one of two, and only the rows that count say which.
+        let counting = Interval::read_pair(&case.interval, &case.correction).expect("accepted");
+        let mut changed = statement.to_vec();
+        changed[before_lines - 1] ^= 1;
+        assert!(demands::check_average(&counting, &changed).is_err(), "the flag: {} of seed {seed}", case.name);
+        changed[before_lines - 1] = 2;
+        assert!(demands::check(&changed).is_err(), "the flag: {} of seed {seed}", case.name);
     }
 }

@@ -77,7 +77,7 @@ mod tests {
     #[test]
     fn a_word_is_number_and_value() {
         assert_eq!(answer(0), Ok(0));
-        assert_eq!(answer(10_800), Ok(10_800));
+        assert_eq!(answer(10_801), Ok(10_801));
         assert_eq!(answer(7 << 32 | 256), Err(Refusal { number: 7, place: 256 }));
         assert_eq!(answer(14 << 32), Err(Refusal { number: 14, place: 0 }));
     }

@@ -7,6 +7,7 @@
 //! let head = wheatrudder::head(&statement[..length]).expect("a statement");
 //! assert_eq!((head.total, head.shortfall), (90_000, 0));
 //! assert_eq!((head.terms, head.stated), (wheatrudder::Terms::OF_01, false)); // a PH file states no terms
+//! assert!(!head.averaged); // there is wind, so the thermal average does not rule
 //! let paid: Vec<u32> = wheatrudder::lines(&statement[..length]).map(|line| line.paid).collect();
 //! assert_eq!(paid, [0, 65_000, 25_000]);
 //! ```

@@ -1,9 +1,9 @@
 //! A statement's bytes as figures: money in fen, energy in kWh, prices in li for each kWh.
 
 /// The head of a PH file's statement.
-pub const STATEMENT_HEAD_PS: usize = 39;
+pub const STATEMENT_HEAD_PS: usize = 40;
 /// The head of a PG file's statement.
-pub const STATEMENT_HEAD_PT: usize = 48;
+pub const STATEMENT_HEAD_PT: usize = 49;
 pub const LINE: usize = 42;
 /// Enough for the longest statement of either form, which has 256 lines.
 pub const STATEMENT_ROOM: usize = STATEMENT_HEAD_PT + LINE * 256;
@@ -46,6 +46,8 @@ pub struct Head {
     /// Payer visits: in each round one for each payer of weight above 0 that has not reached its cap in an earlier one, also in the
     /// last round, in which nobody does. With m payers of weight above 0 at most m(m + 1)/2.
     pub visits: u32,
+    /// Whether the thermal average took the baseline's place in what is paid, owed and weighed.
+    pub averaged: bool,
 }
 
 #[derive(Clone, Copy, Debug, PartialEq, Eq)]
@@ -93,9 +95,14 @@ fn head_length(statement: &[u8]) -> Option<usize> {
     (statement.len() >= length).then_some(length)
 }
 
-/// The head of a statement of either form; nothing where the bytes do not begin with one.
+/// The head of a statement of either form; nothing where the bytes do not begin with one. Its last byte is 0 or 1.
 pub fn head(statement: &[u8]) -> Option<Head> {
     let length = head_length(statement)?;
+    let averaged = match statement[length - 1] {
+        0 => false,
+        1 => true,
+        _ => return None,
+    };
     let stated = length == STATEMENT_HEAD_PT;
     let terms = if stated {
         Terms { percent: statement[35], limits: [36, 38, 40, 42].map(|at| u16_at(statement, at)) }
@@ -113,7 +120,8 @@ pub fn head(statement: &[u8]) -> Option<Head> {
         rows: u16_at(statement, 33),
         terms,
         stated,
-        visits: u32_at(statement, length - 4),
+        visits: u32_at(statement, length - 5),
+        averaged,
     })
 }
 
@@ -151,8 +159,8 @@ mod tests {
 
     const STATED: Terms = Terms { percent: 0xb1, limits: [0xb2b3, 0xb4b5, 0xb6b7, 0xb8b9] };
 
-    /// A statement of two lines in either form, no two bytes of its head alike.
-    fn statement(stated: bool) -> Vec<u8> {
+    /// A statement of two lines in either form, no two bytes of its head alike. The flag is given as the byte that it is.
+    fn statement(stated: bool, averaged: u8) -> Vec<u8> {
         let mut fields = vec![
             (0x1020_3040, 4),
             (95, 1),
@@ -168,7 +176,7 @@ mod tests {
             fields.push((STATED.percent.into(), 1));
             fields.extend(STATED.limits.map(|limit| (limit.into(), 2)));
         }
-        fields.push((0xa1a2_a3a4, 4));
+        fields.extend([(0xa1a2_a3a4, 4), (averaged.into(), 1)]);
         let mut bytes = record(if stated { b"PT" } else { b"PS" }, &fields);
         for id in [7, 0x0908] {
             let widths = [2, 4, 4, 4, 4, 4, 4, 4, 2, 4, 4];
@@ -179,7 +187,8 @@ mod tests {
         bytes
     }
 
-    fn is_read(stated: bool, terms: Terms) {
+    fn is_read(stated: bool, terms: Terms, averaged: bool) {
+        let bytes = statement(stated, averaged.into());
         let due = Head {
             day: 0x1020_3040,
             quarter: 95,
@@ -192,8 +201,9 @@ mod tests {
             terms,
             stated,
             visits: 0xa1a2_a3a4,
+            averaged,
         };
-        assert_eq!(head(&statement(stated)), Some(due));
+        assert_eq!(head(&bytes), Some(due));
         let line = |id| Line {
             id,
             called: [0x3132_3334, 42],
@@ -206,19 +216,30 @@ mod tests {
             penalty: 0x8182_8384,
             returned: 0x9192_9394,
         };
-        assert_eq!(lines(&statement(stated)).collect::<Vec<_>>(), [line(7), line(0x0908)]);
+        assert_eq!(lines(&bytes).collect::<Vec<_>>(), [line(7), line(0x0908)]);
     }
 
     #[test]
     fn every_field_is_read_where_it_stands() {
-        is_read(false, Terms { percent: 50, limits: [100, 320, 320, 750] });
-        is_read(true, STATED);
+        for averaged in [false, true] {
+            is_read(false, Terms { percent: 50, limits: [100, 320, 320, 750] }, averaged);
+            is_read(true, STATED, averaged);
+        }
+    }
+
+    #[test]
+    fn a_flag_other_than_0_or_1_is_no_head() {
+        for (stated, byte) in [false, true].into_iter().flat_map(|stated| (2..=255).map(move |byte| (stated, byte))) {
+            let other = statement(stated, byte);
+            assert_eq!(head(&other), None, "{byte}");
+            assert_eq!(lines(&other).count(), 0, "{byte}");
+        }
     }
 
     #[test]
     fn lines_end_where_the_head_says() {
         for (stated, before_lines) in [(false, STATEMENT_HEAD_PS), (true, STATEMENT_HEAD_PT)] {
-            let mut longer = statement(stated);
+            let mut longer = statement(stated, 1);
             longer.extend([0; 3 * LINE]);
             assert_eq!(lines(&longer).count(), 2);
             assert_eq!(lines(&longer[..before_lines + LINE + 1]).count(), 1);
@@ -235,7 +256,7 @@ mod tests {
     #[test]
     fn a_head_of_another_mark_is_none() {
         for mark in [*b"PH", *b"PG", *b"PU", *b"pt", *b"TP"] {
-            let mut other = statement(true);
+            let mut other = statement(true, 0);
             other[..2].copy_from_slice(&mark);
             assert_eq!(head(&other), None);
             assert_eq!(lines(&other).count(), 0);
@@ -244,6 +265,6 @@ mod tests {
 
     #[test]
     fn the_room_is_that_of_the_longest_statement() {
-        assert_eq!(STATEMENT_ROOM, 10_800);
+        assert_eq!(STATEMENT_ROOM, 10_801);
     }
 }

@@ -10,6 +10,7 @@ use cases::accepted::{self, Shape};
 use cases::file::{Interval, STATEMENT_ROOM};
 use cases::ladder::{MOST, filled, ladder};
 use cases::random::Random;
+use cases::windless;
 use reference::Desk;
 
 const QUARTERS: usize = 96;
@@ -116,6 +117,11 @@ fn stated_day(random: &mut Random) -> Vec<Pair> {
     })
 }
 
+/// A mixed day with its farms at 0 and no thermal row above half load, so that the thermal average rules every quarter.
+fn windless_day(random: &mut Random) -> Vec<Pair> {
+    day(|| windless::lowered(random, Shape::Mixed, ROWS as u32, None))
+}
+
 /// Quarters of so many rows, with as many rows in all as a day of full ones: of few rows, gone through again and again, a processor
 /// learns by heart which way each branch goes, as it never could of a day's real files.
 fn as_many_rows(random: &mut Random, rows: usize) -> Vec<Pair> {
@@ -147,8 +153,9 @@ fn main() {
         let day = day(|| accepted::interval_of(&mut random, shape, ROWS as u32));
         measure(&format!("{shape:?}"), &mut settle, &day);
     }
-    // Drawn by itself, so that the other days are the same with it and without it.
+    // Drawn by themselves, so that the other days are the same with them and without them.
     measure("Mixed, terms stated", &mut settle, &stated_day(&mut Random::from_seed(2)));
+    measure("a windless day", &mut settle, &windless_day(&mut Random::from_seed(3)));
     head("rows, mixed");
     for rows in [16, 64, 256] {
         measure(&rows.to_string(), &mut settle, &as_many_rows(&mut random, rows));

@@ -2,7 +2,7 @@
 
 use std::time::{Duration, Instant};
 
-use differential::{Tally, run};
+use differential::{Averaged, Tally, run};
 
 /// Trials between two looks at the clock.
 const BATCH: u64 = 1_000;
@@ -44,5 +44,11 @@ fn main() {
     println!("somebody cut all the same in {}, something returned in {}", tally.still_cut, tally.returned);
     println!("payers visited again in {}, as many visits as there can be in {}", tally.revisited, tally.at_bound);
     println!("others than by the lower id: calls, payments, cuts, returned penalties in {:?}", tally.turned);
+    let Averaged { all, stated, paid, penalised, at_average, below_40_percent, begun, ended } = tally.averaged;
+    println!(
+        "thermal average in {all}, of which under stated terms {stated}, somebody pays in {paid}, penalties in {penalised},"
+    );
+    println!("a row at its average in {at_average}, the average below 40 percent in {below_40_percent}");
+    println!("begun by a correction in {begun}, ended by one in {ended}");
     println!("rows copied {}, files rewritten {}", tally.rows_copied, tally.rewritten);
 }

@@ -7,6 +7,7 @@ use cases::accepted::{self, Shape};
 use cases::file::{Interval, STATEMENT_ROOM};
 use cases::ladder::{filled, ladder};
 use cases::random::Random;
+use cases::windless;
 
 const QUARTERS: usize = 96;
 const ROWS: usize = 256;
@@ -19,6 +20,7 @@ fn quarter(random: &mut Random, name: &str) -> Interval {
             let terms = accepted::terms(random);
             return accepted::interval_stating(random, Shape::Mixed, ROWS as u32, Some(terms));
         }
+        "windless" => return windless::lowered(random, Shape::Mixed, ROWS as u32, None),
         "edges" => Shape::Edges,
         "tied-bids" => Shape::TiedBids,
         "tied-remainders" => Shape::TiedRemainders,

@@ -6,6 +6,7 @@ use std::time::{Duration, Instant};
 use cases::accepted::{self, Shape};
 use cases::file::{ROW, STATEMENT_ROOM, heads};
 use cases::random::Random;
+use cases::windless;
 use reference::Desk;
 
 const QUARTERS: u32 = 96;
@@ -15,6 +16,7 @@ fn day(shape: Shape, seed: u64) -> Vec<Vec<u8>> {
     let mut random = Random::from_seed(seed);
     let interval = |_| match shape {
         Shape::ManyRounds => accepted::interval(&mut random, shape).bytes(),
+        Shape::Windless => windless::lowered(&mut random, Shape::Mixed, ROWS, None).bytes(),
         _ => accepted::interval_of(&mut random, shape, ROWS).bytes(),
     };
     (0..QUARTERS).map(interval).collect()
@@ -32,9 +34,16 @@ fn settle_all(desk: &mut Desk, intervals: &[Vec<u8>], statement: &mut [u8]) -> D
 fn main() {
     let mut desk = Desk::new();
     let mut statement = vec![0; STATEMENT_ROOM];
-    for shape in
-        [Shape::Full, Shape::Edges, Shape::TiedBids, Shape::TiedRemainders, Shape::AllCapped, Shape::ManyRounds]
-    {
+    let shapes = [
+        Shape::Full,
+        Shape::Edges,
+        Shape::TiedBids,
+        Shape::TiedRemainders,
+        Shape::AllCapped,
+        Shape::ManyRounds,
+        Shape::Windless,
+    ];
+    for shape in shapes {
         let intervals = day(shape, 1);
         let rows: usize = intervals.iter().map(|interval| (interval.len() - heads(interval).0) / ROW).sum();
         let best = (0..200).map(|_| settle_all(&mut desk, &intervals, &mut statement)).min().expect("many rounds");
