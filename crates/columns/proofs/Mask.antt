@@ -13,15 +13,22 @@
 --     where-each      the same value at each that passes: that value for each of them
 --     where-cross     a * f ≤ b * g at each that passes: a * (sum of f) ≤ b * (sum of g)
 --     where-cross-lt  the same with < at each: the gap is at least the number that pass
+--     where-reach     somebody passes, and the sum of f is at most that of g: f ≤ g at one that passes
+--     where-above     and where f is above g at one, it is below g at another
 --     count-parts     counts of two parts
 use Prim.Native.Nat.{ℕ, zero, suc, _+_, _*_, _≤_, _<_, zero-le}
 use mathlib.Core.Path.{_≡_, refl, sym, _∙_}
-use mathlib.Core.Bool.{Bool, true, false, cond, not}
+use mathlib.Core.Logic.{⊎-elim}
+use mathlib.Core.Bool.{Bool, true, false, cond, not, _&&_}
 use native.Mathlib.Nat.{le-refl}
 use native.Mathlib.Omega.{arith}
+use lib.Dec.{ltb, leb}
+use borrow.Author.Tests.{ltb-true, ltb-false, leb-true, leb-false}
 use Rattle.columns.specs.Sum.{bit, sumTo, countTo, sumWhere}
 use Rattle.columns.specs.Table.{Below}
-use Rattle.columns.proofs.Sum.{sum-next, sum-same, sum-le, sum-add, sum-bound, sum-zero, term-le}
+use Rattle.columns.proofs.Sum.{sum-next, sum-same, sum-same-le, sum-le, sum-add, sum-bound, sum-zero, term-le}
+use Rattle.columns.proofs.First.{left-true, right-true}
+use Rattle.columns.proofs.Rank.{some-or-none}
 
 pub where-next : (n : ℕ) (p : ℕ → Bool) (f : ℕ → ℕ) → sumWhere (n + 1) p f ≡ sumWhere n p f + cond (p n) (f n) 0
 unfolding sumWhere
@@ -120,3 +127,44 @@ pub count-parts : (n : ℕ) (u p q : ℕ → Bool) → Below n (λ k. bit (u k) 
 unfolding countTo
 count-parts n u p q h =
     sum-same n (λ k. bit (u k)) (λ k. bit (p k) + bit (q k)) h ∙ sum-add n (λ k. bit (p k)) (λ k. bit (q k))
+
+-- where the sum of f is at most that of g, f is at most g at one of those that pass
+pub where-reach : (n : ℕ) (p : ℕ → Bool) (f g : ℕ → ℕ) → 0 < countTo n p → sumWhere n p f ≤ sumWhere n p g
+    → (i : ℕ) × (i < n) × (p i ≡ true) × (f i ≤ g i)
+where-reach n p f g some h =
+    ⊎-elim
+    (λ (w : (i : ℕ) × (i < n) × (p i && leb (f i) (g i) ≡ true)). (
+      w .0,
+      w .1,
+      left-true (p (w .0)) (leb (f (w .0)) (g (w .0))) (w .2),
+      leb-true (f (w .0)) (g (w .0)) (right-true (p (w .0)) (leb (f (w .0)) (g (w .0))) (w .2)),
+    ))
+    (λ (none : Below n (λ i. p i && leb (f i) (g i) ≡ false)). absurd (omega (
+      arith,
+      some,
+      h,
+      where-cross-lt n p 1 1 g f (λ i l e. omega (arith, leb-false (f i) (g i) (rw e at (none i l)))),
+    ))) (some-or-none n (λ i. p i && leb (f i) (g i)))
+
+-- and where f is above g at one of them, it is below g at another
+pub where-above : (n : ℕ) (p : ℕ → Bool) (f g : ℕ → ℕ) (i : ℕ) → i < n → p i ≡ true → g i < f i → sumWhere n p f ≤ sumWhere n p g
+    → (j : ℕ) × (j < n) × (p j ≡ true) × (f j < g j)
+unfolding sumWhere
+where-above n p f g i l e high h =
+    ⊎-elim
+    (λ (w : (j : ℕ) × (j < n) × (p j && ltb (f j) (g j) ≡ true)). (
+      w .0,
+      w .1,
+      left-true (p (w .0)) (ltb (f (w .0)) (g (w .0))) (w .2),
+      ltb-true (f (w .0)) (g (w .0)) (right-true (p (w .0)) (ltb (f (w .0)) (g (w .0))) (w .2)),
+    ))
+    (λ (none : Below n (λ j. p j && ltb (f j) (g j) ≡ false)).
+    let low : Below n (λ j. cond (p j) (g j) 0 ≤ cond (p j) (f j) 0) = λ j m. each (p j) (f j) (g j) (none j m) in
+    let same = sum-same-le n (λ j. cond (p j) (g j) 0) (λ j. cond (p j) (f j) 0) low
+    (omega (arith, h, sum-le n (λ j. cond (p j) (g j) 0) (λ j. cond (p j) (f j) 0) low)) i l in
+    let here : g i ≡ f i = rw e at same in
+    absurd (omega (arith, here, high))) (some-or-none n (λ j. p j && ltb (f j) (g j)))
+  where
+    each : (b : Bool) (x y : ℕ) → b && ltb x y ≡ false → cond b y 0 ≤ cond b x 0
+    each true x y q = ltb-false x y q
+    each false x y q = le-refl 0

@@ -17,10 +17,10 @@ use Rattle.units.specs.Load.{load}
 use Rattle.units.specs.declared.Kwh.{Kwh}
 use Rattle.units.specs.declared.Fen.{Fen}
 use Rattle.files.specs.declared.Row.{Row}
-use Rattle.files.specs.declared.Terms.{Terms}
 use Rattle.files.specs.Terms.{baseline}
 use Rattle.duties.specs.Duty.{width1, width2, energy1, energy2, credit1, credit2, payer, thermalWeight, weight, cap, dutyOf}
 use Rattle.duties.specs.declared.Duty.{Duty}
+use Rattle.duties.specs.declared.weighing.Corrected.{Corrected}
 use Rattle.duties.specs.Ranged.{Ranged}
 
 -- two tests, of which k says the one that counts
@@ -29,11 +29,11 @@ joined true true b = refl
 joined true false b = refl
 joined false a b = refl
 
-pub pays-is : (t : Terms) (r : Row) (base : ℕ) → base ≡ baseline t (r .capacity)
+pub pays-is : (base : ℕ) (r : Row)
     → (eqb (r .kind) 1 && (leb base (r .metered .0) && not (eqb (r .status) 3))) || (not (eqb (r .kind) 1) && eqb (r .status) 0)
-    ≡ payer t r
+    ≡ payer base r
 unfolding payer
-pays-is t r base b = rw b (joined (eqb (r .kind) 1) _ _)
+pays-is base r = joined (eqb (r .kind) 1) _ _
 
 -- no energy weighs nothing
 weighed : (p k : Bool) (base c m : ℕ)
@@ -69,18 +69,17 @@ steps base c e low high one two three b l h f g i =
 pub low-base : (c d percent base : ℕ) → d ≤ c → percent ≤ 60 → base ≡ load d percent → base ≤ load c 60
 low-base c d percent base h l is = let wide : d * 250 ≤ c * 250 = omega arith in omega (arith, is, mul-le-mul wide l)
 
-module _ (t : Terms) (r : Row) (e : ℕ) (is : e ≡ cond (payer t r) (r .metered .0) 0) where
-  pub weight-of : (base w x : ℕ) → base ≡ baseline t (r .capacity) → w ≡ thermalWeight base (r .capacity) e
-      → x ≡ cond (eqb (r .kind) 1) w e → x ≡ weight t r
+module _ (base : ℕ) (r : Row) (e : ℕ) (is : e ≡ cond (payer base r) (r .metered .0) 0) where
+  pub weight-of : (w x : ℕ) → w ≡ thermalWeight base (r .capacity) e → x ≡ cond (eqb (r .kind) 1) w e → x ≡ weight base r
   unfolding weight
-  weight-of base w x b h p = rw (p, h, b, is) (weighed (payer t r) (eqb (r .kind) 1) (baseline t (r .capacity)) (r .capacity) (r .metered .0))
+  weight-of w x h p = rw (p, h, is) (weighed (payer base r) (eqb (r .kind) 1) base (r .capacity) (r .metered .0))
 
-  pub cap-of : (tariff farm x : ℕ) → farm ≡ cond (not (eqb (r .kind) 1)) e 0 → x ≡ thermalCap (e + farm) tariff → x ≡ cap t tariff r
+  pub cap-of : (tariff farm x : ℕ) → farm ≡ cond (not (eqb (r .kind) 1)) e 0 → x ≡ thermalCap (e + farm) tariff → x ≡ cap base tariff r
   unfolding cap
-  cap-of tariff farm x f h = rw (h, f, is) (capped (payer t r) (eqb (r .kind) 1) tariff (r .metered .0))
+  cap-of tariff farm x f h = rw (h, f, is) (capped (payer base r) (eqb (r .kind) 1) tariff (r .metered .0))
 
   pub counted-le : (m : ℕ) → r .metered .0 ≤ m → e ≤ m
-  counted-le m h = rw is (go (payer t r))
+  counted-le m h = rw is (go (payer base r))
     where
       go : (b : Bool) → cond b (r .metered .0) 0 ≤ m
       go true = h
@@ -93,8 +92,9 @@ module _ (t : Terms) (r : Row) (e : ℕ) (is : e ≡ cond (payer t r) (r .metere
       go true = omega (arith, counted-le (2 ^ 30) (h .metered))
       go false = omega (arith, counted-le (2 ^ 30) (h .metered))
 
-pub duty-of : (t : Terms) (tariff : ℕ) (r : Row) (w1 w2 e1 e2 x1 x2 w : Kwh) (c : Fen) → w1 .0 ≡ width1 t r → w2 .0 ≡ width2 t r
-    → e1 .0 ≡ energy1 t r → e2 .0 ≡ energy2 t r → x1 .0 ≡ credit1 t r → x2 .0 ≡ credit2 t r → w .0 ≡ weight t r → c .0 ≡ cap t tariff r
+pub duty-of : (limit base tariff : ℕ) (r : Row) (w1 w2 e1 e2 x1 x2 : Kwh) (w : Corrected) (c : Fen) → w1 .0 ≡ width1 limit r → w2 .0 ≡ width2 r
+    → e1 .0 ≡ energy1 base r → e2 .0 ≡ energy2 base r → x1 .0 ≡ credit1 limit base r → x2 .0 ≡ credit2 base r → w .0 ≡ weight base r
+    → c .0 ≡ cap base tariff r
     → _≡_ {A = Duty}
     (record {
       width1 = w1;
@@ -108,6 +108,6 @@ pub duty-of : (t : Terms) (tariff : ℕ) (r : Row) (w1 w2 e1 e2 x1 x2 w : Kwh) (
       bid1 = r .bid1;
       bid2 = r .bid2;
     })
-    (dutyOf t tariff r)
+    (dutyOf limit base tariff r)
 unfolding dutyOf
-duty-of t tariff r w1 w2 e1 e2 x1 x2 w c h1 h2 h3 h4 h5 h6 h7 h8 = rw (← h1, ← h2, ← h3, ← h4, ← h5, ← h6, ← h7, ← h8)
+duty-of limit base tariff r w1 w2 e1 e2 x1 x2 w c h1 h2 h3 h4 h5 h6 h7 h8 = rw (← h1, ← h2, ← h3, ← h4, ← h5, ← h6, ← h7, ← h8)

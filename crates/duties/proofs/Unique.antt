@@ -2,7 +2,11 @@
 use Prim.Native.Nat.{ℕ}
 use mathlib.Core.Path.{ap, sym, _∙_}
 use Rattle.columns.proofs.Unique.{One-result}
-use Rattle.duties.proofs.duty_of.Reads as duty-of
+use Rattle.duties.proofs.usual_duty.Reads as usual-duty
+use Rattle.duties.proofs.average_duty.Reads as average-duty
+use Rattle.duties.proofs.average.average_at.Reads as average-at
+use Rattle.duties.proofs.average.joined.Reads as joined
+use Rattle.duties.proofs.average.stirs.Reads as stirs
 use Rattle.duties.proofs.weighing.pays.Reads as pays
 use Rattle.duties.proofs.bands.width1.Reads as width1
 use Rattle.duties.proofs.bands.width2.Reads as width2
@@ -16,9 +20,22 @@ use Rattle.duties.proofs.baseline.Reads as baseline
 use Rattle.duties.proofs.weighing.thermal_weight.Reads as thermal-weight
 use Rattle.duties.proofs.weighing.weight.Reads as weight
 use Rattle.duties.proofs.weighing.cap.Reads as cap
+use Rattle.duties.proofs.weighing.Corrected.wide.Reads as wide
 
-pub duty-of-unique : One-result duty-of.Learnt
-duty-of-unique κs a x y e f p q = p ∙ sym q
+pub usual-duty-unique : One-result usual-duty.Learnt
+usual-duty-unique κs a x y e f p q = p ∙ sym q
+
+pub average-duty-unique : One-result average-duty.Learnt
+average-duty-unique κs a x y e f p q = p ∙ sym q
+
+pub stirs-unique : One-result stirs.Learnt
+stirs-unique κs a x y e f p q = p ∙ sym q
+
+pub joined-unique : One-result joined.Learnt
+joined-unique κs a x y e f p q = p ∙ sym q
+
+pub average-at-unique : One-result average-at.Learnt
+average-at-unique κs a x y e f p q = ap (λ (m : ℕ). record { 0 = m }) (p ∙ sym q)
 
 pub pays-unique : One-result pays.Learnt
 pays-unique κs a x y e f p q = p ∙ sym q
@@ -58,3 +75,6 @@ weight-unique κs a x y e f p q = ap (λ (m : ℕ). record { 0 = m }) (p ∙ sym
 
 pub cap-unique : One-result cap.Learnt
 cap-unique κs a x y e f p q = ap (λ (m : ℕ). record { 0 = m }) (p ∙ sym q)
+
+pub wide-unique : One-result wide.Learnt
+wide-unique κs a x y e f p q = p ∙ sym q

@@ -1,3 +1,4 @@
 pub mod Duty
 pub mod Duties
+pub mod Average
 pub mod Ranged

@@ -2,22 +2,20 @@
 use crate::FOOT;
 use crate::NORMAL;
 use crate::THERMAL;
-use crate::baseline;
 use files::Row;
-use files::Terms;
 use units::Kwh;
 use units::load;
 ghost use mathlib.Core.Path.{_≡_};
 ghost use Rattle.duties.specs.Duty.{energyIn1, energyIn2, receives, energy1, energy2};
 
-// From the baseline down to the meter, and no further than 40 percent.
+// From the base down to the meter, and no further than 40 percent.
 pub fn energy_in1(base: Kwh, capacity: u16, metered: Kwh) -> Kwh
     ensures { λ r. ⌜ r .0 ≡ energyIn1 (base .0) capacity (metered .0) ⌝ }
 {
     base.above(metered.larger(load(capacity, FOOT)))
 }
 
-// From 40 percent, or a baseline below it, down to the meter.
+// From 40 percent, or a base below it, down to the meter.
 pub fn energy_in2(base: Kwh, capacity: u16, metered: Kwh) -> Kwh
     ensures { λ r. ⌜ r .0 ≡ energyIn2 (base .0) capacity (metered .0) ⌝ }
 {
@@ -31,14 +29,14 @@ fn receives(row: Row) -> bool
     (row.kind == THERMAL) & (row.status == NORMAL)
 }
 
-pub fn energy1(terms: Terms, row: Row) -> Kwh
-    ensures { λ e. ⌜ e .0 ≡ energy1 terms row ⌝ }
+pub fn energy1(base: Kwh, row: Row) -> Kwh
+    ensures { λ e. ⌜ e .0 ≡ energy1 (base .0) row ⌝ }
 {
-    energy_in1(baseline(terms, row.capacity), row.capacity, row.metered).when(receives(row))
+    energy_in1(base, row.capacity, row.metered).when(receives(row))
 }
 
-pub fn energy2(terms: Terms, row: Row) -> Kwh
-    ensures { λ e. ⌜ e .0 ≡ energy2 terms row ⌝ }
+pub fn energy2(base: Kwh, row: Row) -> Kwh
+    ensures { λ e. ⌜ e .0 ≡ energy2 (base .0) row ⌝ }
 {
-    energy_in2(baseline(terms, row.capacity), row.capacity, row.metered).when(receives(row))
+    energy_in2(base, row.capacity, row.metered).when(receives(row))
 }

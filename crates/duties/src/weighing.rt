@@ -1,9 +1,8 @@
 // Who pays, by which weight, up to which cap (01, Weights and caps; Articles 21, 29, 30).
 use crate::NORMAL;
 use crate::THERMAL;
-use crate::baseline;
+use columns::counted as when;
 use files::Row;
-use files::Terms;
 use units::Fen;
 use units::Hao;
 use units::Kwh;
@@ -15,6 +14,25 @@ ghost use Rattle.units.specs.Load.{load};
 ghost use Rattle.duties.specs.Duty.{payer, thermalWeight, weight, cap};
 ghost use Rattle.duties.specs.Ranged.{Ranged};
 
+// Corrected energy, by which payers share: no measure that anything is priced in, and converted to none.
+pub struct Corrected(pub u32);
+
+impl Corrected {
+    // This weight if a test passed, else another.
+    fn or(self, t: bool, other: Corrected) -> Corrected
+        ensures { λ r. ⌜ r .0 ≡ cond t (self .0) (other .0) ⌝ }
+    {
+        Corrected(when(t, self.0) + when(!t, other.0))
+    }
+
+    // Into a line of the sheet.
+    pub fn wide(self) -> u64
+        ensures { λ r. ⌜ r ≡ self .0 ⌝ }
+    {
+        self.0 as u64
+    }
+}
+
 const ACCIDENT: u8 = 3;
 
 const SIXTY: u8 = 60;
@@ -22,50 +40,47 @@ const SIXTY: u8 = 60;
 const SEVENTY: u8 = 70;
 
 // Whether the row pays.
-pub fn pays(terms: Terms, row: Row) -> bool
-    ensures { λ b. ⌜ b ≡ payer terms row ⌝ }
+pub fn pays(base: Kwh, row: Row) -> bool
+    ensures { λ b. ⌜ b ≡ payer (base .0) row ⌝ }
 {
     let thermal = row.kind == THERMAL;
-    let ran = (baseline(terms, row.capacity).0 <= row.metered.0) & (row.status != ACCIDENT);
+    let ran = (base.0 <= row.metered.0) & (row.status != ACCIDENT);
     (thermal & ran) | (!thermal & (row.status == NORMAL))
 }
 
 // The energy that counts: what a payer's meter says, nothing of a row that does not pay.
-fn counted(terms: Terms, row: Row) -> Kwh
-    ensures { λ e. ⌜ e .0 ≡ cond (payer terms row) (row .metered .0) 0 ⌝ }
+fn counted(base: Kwh, row: Row) -> Kwh
+    ensures { λ e. ⌜ e .0 ≡ cond (payer (base .0) row) (row .metered .0) 0 ⌝ }
 {
-    row.metered.when(pays(terms, row))
+    row.metered.when(pays(base, row))
 }
 
-// A thermal unit's energy above its baseline: once to 60 percent, twice to 70, three times above. What lies above 70
-// percent lies above 60 and above the baseline too.
-pub fn thermal_weight(base: Kwh, capacity: u16, energy: Kwh) -> Kwh
+// A thermal unit's energy above its base: once to 60 percent, twice to 70, three times above. What lies above 70
+// percent lies above 60 and above the base too.
+pub fn thermal_weight(base: Kwh, capacity: u16, energy: Kwh) -> Corrected
     requires { ⌜ (energy .0 ≤ 2 ^ 30) × (base .0 ≤ load capacity 60) ⌝ }
     ensures { λ r. ⌜ r .0 ≡ thermalWeight (base .0) capacity (energy .0) ⌝ }
 {
     let low = load(capacity, SIXTY);
     let high = load(capacity, SEVENTY);
-    Kwh(energy.above(base).0 + energy.above(low).0 + energy.above(high).0)
+    Corrected(energy.above(base).0 + energy.above(low).0 + energy.above(high).0)
 }
 
 // The weight of a row, 0 for one that does not pay.
-pub fn weight(terms: Terms, row: Row) -> Kwh
-    requires { ⌜ Ranged row × (terms .percent ≤ 60) ⌝ }
-    ensures { λ w. ⌜ w .0 ≡ weight terms row ⌝ }
+pub fn weight(base: Kwh, row: Row) -> Corrected
+    requires { ⌜ Ranged row × (base .0 ≤ load (row .capacity) 60) ⌝ }
+    ensures { λ w. ⌜ w .0 ≡ weight (base .0) row ⌝ }
 {
-    let energy = counted(terms, row);
-    thermal_weight(baseline(terms, row.capacity), row.capacity, energy).or(
-        row.kind == THERMAL,
-        energy,
-    )
+    let energy = counted(base, row);
+    thermal_weight(base, row.capacity, energy).or(row.kind == THERMAL, Corrected(energy.0))
 }
 
 // The cap of a row, 0 for one that does not pay. A farm's is that of a unit with twice the energy, so that one division serves both kinds.
-pub fn cap(terms: Terms, tariff: Hao, row: Row) -> Fen
+pub fn cap(base: Kwh, tariff: Hao, row: Row) -> Fen
     requires { ⌜ Ranged row ⌝ }
-    ensures { λ c. ⌜ c .0 ≡ cap terms (tariff .0) row ⌝ }
+    ensures { λ c. ⌜ c .0 ≡ cap (base .0) (tariff .0) row ⌝ }
 {
-    let energy = counted(terms, row);
+    let energy = counted(base, row);
     let farm = energy.when(row.kind != THERMAL);
     Kwh(energy.0 + farm.0).thermal_cap(tariff)
 }

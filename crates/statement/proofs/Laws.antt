@@ -8,29 +8,27 @@
 use mathlib.Core.Path.{_≡_, refl, sym, ap, _∙_}
 use mathlib.Core.Bool.{Bool, true, false, cond}
 use mathlib.Core.List.{List, [], _++_, append-assoc}
-use Prim.Native.Nat.{ℕ, _+_, _*_, _<_, _^_}
+use Prim.Native.Nat.{ℕ, _+_, _*_, _<_}
 use native.Mathlib.Nat.{add-assoc}
 use lib.Dec.{eqb}
 use native.Mathlib.Omega.{arith}
 use lib.ListN.{length, length-append}
 use Rattle.columns.specs.Table.{table}
-use Rattle.records.specs.Number.{numberAt, numberBytes}
-use Rattle.records.specs.Fields.{fieldsBytes}
+use Rattle.records.specs.Fields.{span, fieldsBytes}
 use Rattle.records.specs.Record.{recordAt, recordBytes, recordsBytes, fieldsAt, Fits}
-use Rattle.records.proofs.Number.{number-length, number-read}
 use Rattle.records.proofs.Record.{fields-length, fields-read, record-length, record-read, record-drop}
 use Rattle.records.proofs.Sheet.{lines-length, lines-read}
 use Rattle.files.specs.Terms.{terms01}
 use Rattle.files.specs.Form.{termsWidths, termsFields, termsFrom, termsBytes, ruling, statedBytes}
 use Rattle.files.specs.declared.Form.{Form}
-use Rattle.statement.specs.Statement.{frontWidths, frontSize, visitsWidth, letterL, letterT, lineWidths, headSize, lineSize, lineStart, extraOf}
-use Rattle.statement.specs.Statement.{frontFields, headLetter, topBytes, hasTerms, headIn, termsIn, bodyIn}
+use Rattle.statement.specs.Statement.{frontWidths, frontSize, tailWidths, letterL, letterT, lineWidths, headSize, lineSize, lineStart, extraOf}
+use Rattle.statement.specs.Statement.{frontFields, tailFields, headLetter, topBytes, hasTerms, headIn, termsIn, bodyIn}
 use Rattle.statement.specs.declared.StatementHead.{StatementHead}
 
 -- every field fits the width that it has in a statement
 pub record HeadFits (h : StatementHead) : Type 0 where
   pub front : Fits frontWidths (frontFields h)
-  pub visits : h .visits < 256 ^ visitsWidth
+  pub tail : Fits tailWidths (tailFields h)
 
 abbrev pub LineFits : List ℕ → Type 0
 LineFits xs = Fits lineWidths xs
@@ -39,6 +37,9 @@ LineFits xs = Fits lineWidths xs
 
 pub front-length : (b : Bool) (h : StatementHead) → length (recordBytes (headLetter b) frontWidths (frontFields h)) ≡ frontSize
 front-length b h = record-length (headLetter b) frontWidths (frontFields h) refl
+
+pub tail-length : (h : StatementHead) → length (fieldsBytes tailWidths (tailFields h)) ≡ span tailWidths
+tail-length h = fields-length tailWidths (tailFields h) refl
 
 pub stated-length : (f : Form) → length (statedBytes f) ≡ extraOf (f .stated)
 unfolding termsBytes
@@ -51,19 +52,19 @@ module _ (f : Form) (h : StatementHead) where
   abbrev front : List ℕ
   front = recordBytes (headLetter (f .stated)) frontWidths (frontFields h)
 
-  abbrev visits : List ℕ
-  visits = numberBytes visitsWidth (h .visits)
+  abbrev tail : List ℕ
+  tail = fieldsBytes tailWidths (tailFields h)
 
   pub top-length : length (topBytes f h) ≡ extraOf (f .stated) + headSize
   unfolding topBytes
   top-length =
       omega (
         arith,
-        length-append front (statedBytes f ++ visits),
-        length-append (statedBytes f) visits,
+        length-append front (statedBytes f ++ tail),
+        length-append (statedBytes f) tail,
         front-length (f .stated) h,
         stated-length f,
-        number-length visitsWidth (h .visits),
+        tail-length h,
       )
 
   pub top-terms : (b : List ℕ) → hasTerms (topBytes f h ++ b) ≡ f .stated
@@ -74,15 +75,15 @@ module _ (f : Form) (h : StatementHead) where
     go false = refl
 
   -- the head's bytes part by part, with what follows
-  front-first : (b : List ℕ) → topBytes f h ++ b ≡ front ++ ((statedBytes f ++ visits) ++ b)
+  front-first : (b : List ℕ) → topBytes f h ++ b ≡ front ++ ((statedBytes f ++ tail) ++ b)
   unfolding topBytes
-  front-first b = append-assoc front (statedBytes f ++ visits) b
+  front-first b = append-assoc front (statedBytes f ++ tail) b
 
-  terms-next : (b : List ℕ) → topBytes f h ++ b ≡ front ++ (statedBytes f ++ (visits ++ b))
-  terms-next b = front-first b ∙ ap (λ (x : List ℕ). front ++ x) (append-assoc (statedBytes f) visits b)
+  terms-next : (b : List ℕ) → topBytes f h ++ b ≡ front ++ (statedBytes f ++ (tail ++ b))
+  terms-next b = front-first b ∙ ap (λ (x : List ℕ). front ++ x) (append-assoc (statedBytes f) tail b)
 
-  visits-last : (b : List ℕ) → topBytes f h ++ b ≡ (front ++ statedBytes f) ++ (visits ++ b)
-  visits-last b = terms-next b ∙ sym (append-assoc front (statedBytes f) (visits ++ b))
+  tail-last : (b : List ℕ) → topBytes f h ++ b ≡ (front ++ statedBytes f) ++ (tail ++ b)
+  tail-last b = terms-next b ∙ sym (append-assoc front (statedBytes f) (tail ++ b))
 
   pub top-read : (b : List ℕ) → HeadFits h → headIn (topBytes f h ++ b) ≡ h
   unfolding headIn
@@ -90,9 +91,9 @@ module _ (f : Form) (h : StatementHead) where
       let place : frontSize + extraOf (f .stated) ≡ length (front ++ statedBytes f) =
       omega (arith, length-append front (statedBytes f), front-length (f .stated) h, stated-length f) in
       let first : recordAt frontWidths (topBytes f h ++ b) 0 ≡ frontFields h =
-      rw (front-first b) (record-read (headLetter (f .stated)) frontWidths (frontFields h) [] ((statedBytes f ++ visits) ++ b) refl (fits .front)) in
-      let last : numberAt visitsWidth (topBytes f h ++ b) (frontSize + extraOf (f .stated)) ≡ h .visits =
-      rw (place, visits-last b) (number-read visitsWidth (h .visits) (front ++ statedBytes f) b (fits .visits)) in
+      rw (front-first b) (record-read (headLetter (f .stated)) frontWidths (frontFields h) [] ((statedBytes f ++ tail) ++ b) refl (fits .front)) in
+      let last : fieldsAt tailWidths (topBytes f h ++ b) (frontSize + extraOf (f .stated)) ≡ tailFields h =
+      rw (place, tail-last b) (fields-read tailWidths (tailFields h) (front ++ statedBytes f) b refl (fits .tail)) in
       rw (top-terms b, first, last)
 
   stated-is : f .stated ≡ true → statedBytes f ≡ fieldsBytes termsWidths (termsFields (f .terms))
@@ -106,7 +107,7 @@ module _ (f : Form) (h : StatementHead) where
     go true e =
         let there : fieldsAt termsWidths (topBytes f h ++ b) frontSize ≡ termsFields (f .terms) =
         rw (terms-next b, stated-is e, ← front-length (f .stated) h)
-        (fields-read termsWidths (termsFields (f .terms)) front (visits ++ b) refl fits) in
+        (fields-read termsWidths (termsFields (f .terms)) front (tail ++ b) refl fits) in
         ap termsFrom there
     go false e = refl
 

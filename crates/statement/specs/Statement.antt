@@ -1,11 +1,11 @@
--- Statements in bytes (01, The files; 02, requests 4, 6 and 8): a head, then a line for each row. A head PS is that of a file that states no
--- terms; a head PT has the terms in front of the visits, and lines stand so many bytes later. A statement is read by its mark.
+-- Statements in bytes (01, The files; 02, requests 4, 6, 8 and 9): a head, then a line for each row. A head PS is that of a file that
+-- states no terms; a head PT has the terms in front of the visits, and lines stand so many bytes later. A statement is read by its mark.
 use Prim.Native.Nat.{ℕ, _+_, _*_}
 use mathlib.Core.Bool.{Bool, cond}
 use mathlib.Core.List.{List, [], _∷_, _++_}
 use lib.ListN.{drop}
 use Rattle.columns.specs.Table.{at}
-use Rattle.records.specs.Number.{numberAt, numberBytes}
+use Rattle.records.specs.Fields.{span, fieldsBytes}
 use Rattle.records.specs.Record.{marked, recordSize, fieldsAt, recordAt, recordBytes}
 use Rattle.files.specs.Terms.{terms01}
 use Rattle.files.specs.Form.{termsWidths, termsSize, termsFrom, statedBytes}
@@ -30,9 +30,9 @@ frontWidths = 4 ∷ 1 ∷ 2 ∷ 2 ∷ 8 ∷ 8 ∷ 2 ∷ 4 ∷ 2 ∷ []
 abbrev pub frontSize : ℕ
 frontSize = recordSize frontWidths
 
--- and behind them: visits
-abbrev pub visitsWidth : ℕ
-visitsWidth = 4
+-- and behind them: visits, averaged
+abbrev pub tailWidths : List ℕ
+tailWidths = 4 ∷ 1 ∷ []
 
 -- id, called in tier 1, in tier 2, compensation, cut, weight, cap, paid, closing round, penalty, returned
 abbrev pub lineWidths : List ℕ
@@ -40,7 +40,7 @@ lineWidths = 2 ∷ 4 ∷ 4 ∷ 4 ∷ 4 ∷ 4 ∷ 4 ∷ 4 ∷ 2 ∷ 4 ∷ 4 ∷ [
 
 -- how many bytes a head PS takes, and a line
 abbrev pub headSize : ℕ
-headSize = frontSize + visitsWidth
+headSize = frontSize + span tailWidths
 
 abbrev pub lineSize : ℕ
 lineSize = recordSize lineWidths
@@ -53,14 +53,17 @@ lineStart i = headSize + i * lineSize
 abbrev pub extraOf : Bool → ℕ
 extraOf b = cond b termsSize 0
 
--- the front of a head as its fields
+-- the front of a head as its fields, and its tail
 abbrev pub frontFields : StatementHead → List ℕ
 frontFields h =
     h .day ∷ h .quarter ∷ h .price1 .0 ∷ h .price2 .0 ∷ h .total .0 ∷ h .shortfall .0 ∷ h .rounds ∷ h .uncovered .0 ∷ h .rows ∷ []
 
--- and the head of these and of its visits
-abbrev pub headFrom : List ℕ → ℕ → StatementHead
-headFrom xs visits =
+abbrev pub tailFields : StatementHead → List ℕ
+tailFields h = h .visits ∷ h .averaged ∷ []
+
+-- and the head of both
+abbrev pub headFrom : List ℕ → List ℕ → StatementHead
+headFrom xs ys =
     record {
       day = at xs 0;
       quarter = at xs 1;
@@ -71,7 +74,8 @@ headFrom xs visits =
       rounds = at xs 6;
       uncovered = record { 0 = at xs 7 };
       rows = at xs 8;
-      visits = visits;
+      visits = at ys 0;
+      averaged = at ys 1;
     }
 
 -- a head in bytes, by the form of the file that is settled
@@ -80,7 +84,7 @@ headLetter b = cond b letterT letterS
 
 unfoldable pub topBytes : Form → StatementHead → List ℕ
 topBytes f h =
-    recordBytes (headLetter (f .stated)) frontWidths (frontFields h) ++ (statedBytes f ++ numberBytes visitsWidth (h .visits))
+    recordBytes (headLetter (f .stated)) frontWidths (frontFields h) ++ (statedBytes f ++ fieldsBytes tailWidths (tailFields h))
 
 -- a statement has terms, by its mark; so many bytes later its lines stand
 unfoldable pub hasTerms : List ℕ → Bool
@@ -91,7 +95,7 @@ extraIn b = extraOf (hasTerms b)
 
 -- the head of a statement, the terms that ruled, and its bytes from where lines stand as behind a head PS
 unfoldable pub headIn : List ℕ → StatementHead
-headIn b = headFrom (recordAt frontWidths b 0) (numberAt visitsWidth b (frontSize + extraIn b))
+headIn b = headFrom (recordAt frontWidths b 0) (fieldsAt tailWidths b (frontSize + extraIn b))
 
 unfoldable pub termsIn : List ℕ → Terms
 termsIn b = cond (hasTerms b) (termsFrom (fieldsAt termsWidths b frontSize)) terms01

@@ -1,6 +1,6 @@
-// Statements in bytes (01, The files; 02, requests 4, 6 and 8): a head and a line for each row, each a record by its table of widths. A head
-// PS is that of a file that states no terms, a head PT has them too; lines are the same. A line is its list of fields, and a field of all
-// lines is a column.
+// Statements in bytes (01, The files; 02, requests 4, 6, 8 and 9): a head and a line for each row, each a record by its table of widths. A
+// head PS is that of a file that states no terms, a head PT has them too; lines are the same. A line is its list of fields, and a field of
+// all lines is a column.
 use files::Form;
 use files::TERMS;
 use files::TERMS_WIDTHS;
@@ -8,9 +8,7 @@ use files::terms_fields;
 use records::Field;
 use records::get_record;
 use records::marked;
-use records::number_at;
 use records::put_fields;
-use records::put_number;
 use records::put_record;
 use units::Fen;
 use units::Kwh;
@@ -20,9 +18,10 @@ ghost use Prim.Native.Nat.{_+_, _≤_};
 ghost use lib.ListN.{length};
 ghost use Rattle.records.specs.Buffer.{put};
 ghost use Rattle.files.specs.Form.{termsSize, statedBytes};
-ghost use Rattle.statement.specs.Statement.{frontSize, headSize, frontFields, headLetter, extraOf, extraIn, headIn, topBytes};
+ghost use Rattle.statement.specs.Statement.{frontSize, headSize, frontFields, tailFields, headLetter, extraOf};
+ghost use Rattle.statement.specs.Statement.{extraIn, headIn, topBytes};
 
-// A statement's head, without its mark and without terms.
+// A statement's head, without its mark and without terms. `averaged` is 1 if the thermal average ruled, else 0.
 pub struct StatementHead {
     pub day: u32,
     pub quarter: u8,
@@ -34,21 +33,24 @@ pub struct StatementHead {
     pub uncovered: Kwh,
     pub rows: u16,
     pub visits: u32,
+    pub averaged: u8,
 }
 
-// The widths of the fields that stand in front of a head's terms, of those of a whole head PS, of a whole head PT, and of a line.
+// The widths of the fields in front of a head's terms (its front), of those behind (its tail), of a whole head PS, a whole head PT, a line.
 pub const FRONT_WIDTHS: [u8; 9] = [4, 1, 2, 2, 8, 8, 2, 4, 2];
 
-pub const HEAD_WIDTHS: [u8; 10] = [4, 1, 2, 2, 8, 8, 2, 4, 2, 4];
+pub const TAIL_WIDTHS: [u8; 2] = [4, 1];
 
-pub const STATED_WIDTHS: [u8; 15] = [4, 1, 2, 2, 8, 8, 2, 4, 2, 1, 2, 2, 2, 2, 4];
+pub const HEAD_WIDTHS: [u8; 11] = [4, 1, 2, 2, 8, 8, 2, 4, 2, 4, 1];
+
+pub const STATED_WIDTHS: [u8; 16] = [4, 1, 2, 2, 8, 8, 2, 4, 2, 1, 2, 2, 2, 2, 4, 1];
 
 pub const LINE_WIDTHS: [u8; 11] = [2, 4, 4, 4, 4, 4, 4, 4, 2, 4, 4];
 
 // How many bytes the front of a head takes with its mark, a head PS, and a line.
 pub const FRONT: usize = 35;
 
-pub const HEAD: usize = 39;
+pub const HEAD: usize = 40;
 
 pub const LINE: usize = 42;
 
@@ -169,7 +171,7 @@ fn head_letter(stated: bool) -> u8
     b'S'
 }
 
-// The head at the front of a statement, by its mark.
+// The head at the front of a statement, by its mark. To the reader of records what stands in front of the tail stands where a mark would.
 pub fn head_in(s: &[u8]) -> StatementHead
     requires { ⌜ (headSize ≤ length (now s)) × (extraIn (now s) + headSize ≤ length (now s)) ⌝ }
     ensures { λ r. ⌜ r ≡ headIn (now (s .entry)) ⌝ }
@@ -177,7 +179,8 @@ pub fn head_in(s: &[u8]) -> StatementHead
     let mut x = [0u64; 9];
     get_record(s, 0, &FRONT_WIDTHS, &mut x);
     let extra = extra_of(marked(s, 0, b'T'));
-    let visits = number_at(s, FRONT + extra, 4);
+    let mut y = [0u64; 2];
+    get_record(s, FRONT - 2 + extra, &TAIL_WIDTHS, &mut y);
     StatementHead {
         day: x[0] as u32,
         quarter: x[1] as u8,
@@ -188,7 +191,8 @@ pub fn head_in(s: &[u8]) -> StatementHead
         rounds: x[6] as u16,
         uncovered: Kwh(x[7] as u32),
         rows: x[8] as u16,
-        visits: visits as u32,
+        visits: y[0] as u32,
+        averaged: y[1] as u8,
     }
 }
 
@@ -209,6 +213,13 @@ fn front_fields(h: StatementHead) -> [u64; 9]
     ]
 }
 
+// The fields behind them.
+fn tail_fields(h: StatementHead) -> [u64; 2]
+    ensures { λ r. ⌜ r ≡ tailFields h ⌝ }
+{
+    [h.visits as u64, h.averaged as u64]
+}
+
 // The terms behind the front of a head, where the form states them.
 fn put_terms(out: &mut [u8], form: Form)
     requires { ⌜ frontSize + extraOf (form .stated) ≤ length (now out) ⌝ }
@@ -220,7 +231,7 @@ fn put_terms(out: &mut [u8], form: Form)
     }
 }
 
-// Puts a head at the front of a buffer, by the form of the file that is settled: the front, the terms if it states them, the visits.
+// Puts a head at the front of a buffer, by the form of the file that is settled: the front, the terms if it states them, the tail.
 pub fn put_head(out: &mut [u8], form: Form, h: StatementHead)
     requires { ⌜ extraOf (form .stated) + headSize ≤ length (now out) ⌝ }
     ensures { λ r. ⌜ now (out .exit) ≡ put (now (out .entry)) 0 (topBytes form h) ⌝ }
@@ -229,5 +240,6 @@ pub fn put_head(out: &mut [u8], form: Form, h: StatementHead)
     let letter = head_letter(form.stated);
     put_record(out, 0, letter, &FRONT_WIDTHS, &fields);
     put_terms(out, form);
-    put_number(out, FRONT + extra_of(form.stated), 4, h.visits as u64);
+    let tail = tail_fields(h);
+    put_fields(out, FRONT + extra_of(form.stated), &TAIL_WIDTHS, &tail);
 }

@@ -23,17 +23,23 @@ put-record-requires c κs = search needs
 put-terms-requires : tie.Need-put-terms-requires
 put-terms-requires c κs = search needs
 
+tail-fields-requires : tie.Need-tail-fields-requires
+tail-fields-requires c κs = search needs
+
 extra-of-requires : tie.Need-extra-of-requires
 extra-of-requires c κs = search needs
 
-add-put-number : tie.Need-add-put-number
-add-put-number c = search needs
+add-put-fields : tie.Need-add-put-fields
+add-put-fields c = search needs
 
-cast-put-number : tie.Need-cast-put-number
-cast-put-number c = search needs
+slice-aggregate-put-fields : tie.Need-slice-aggregate-put-fields
+slice-aggregate-put-fields c = search needs
 
-put-number-requires : tie.Need-put-number-requires
-put-number-requires c κs = search needs
+slice-aggregate-put-fields-2 : tie.Need-slice-aggregate-put-fields-2
+slice-aggregate-put-fields-2 c = search needs
+
+put-fields-requires : tie.Need-put-fields-requires
+put-fields-requires c κs = search needs
 
 same-length : tie.Need-same-length
 same-length c = search needs
@@ -52,9 +58,11 @@ put-head-spec =
     slice-aggregate-put-record-2
     put-record-requires
     put-terms-requires
+    tail-fields-requires
     extra-of-requires
-    add-put-number
-    cast-put-number
-    put-number-requires
+    add-put-fields
+    slice-aggregate-put-fields
+    slice-aggregate-put-fields-2
+    put-fields-requires
     same-length
     returns)

@@ -4,9 +4,6 @@ use Rattle.duties.specs.Duty.{width1}
 use Rattle.duties.proofs.bands.width1.Statement.{statement}
 use Rattle.duties.proofs.bands.width1.Tie as tie
 
-baseline-requires : tie.Need-baseline-requires
-baseline-requires c κs = search needs
-
 load-requires : tie.Need-load-requires
 load-requires c κs = search needs
 
@@ -26,4 +23,4 @@ returns c = cc
 pub width1-spec : {M : Type 1} → statement M
 width1-spec =
     tie.close
-    (tie.spec baseline-requires load-requires larger-requires above-requires when-requires returns)
+    (tie.spec load-requires larger-requires above-requires when-requires returns)

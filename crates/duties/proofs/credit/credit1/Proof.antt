@@ -4,9 +4,6 @@ use Rattle.duties.specs.Duty.{credit1}
 use Rattle.duties.proofs.credit.credit1.Statement.{statement}
 use Rattle.duties.proofs.credit.credit1.Tie as tie
 
-baseline-requires : tie.Need-baseline-requires
-baseline-requires c κs = search needs
-
 energy-in1-requires : tie.Need-energy-in1-requires
 energy-in1-requires c κs = search needs
 
@@ -27,7 +24,6 @@ pub credit1-spec : {M : Type 1} → statement M
 credit1-spec =
     tie.close
     (tie.spec
-    baseline-requires
     energy-in1-requires
     liable-requires
     width1-requires

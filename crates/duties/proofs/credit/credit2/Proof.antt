@@ -4,9 +4,6 @@ use Rattle.duties.specs.Duty.{credit2}
 use Rattle.duties.proofs.credit.credit2.Statement.{statement}
 use Rattle.duties.proofs.credit.credit2.Tie as tie
 
-baseline-requires : tie.Need-baseline-requires
-baseline-requires c κs = search needs
-
 energy-in2-requires : tie.Need-energy-in2-requires
 energy-in2-requires c κs = search needs
 
@@ -27,7 +24,6 @@ pub credit2-spec : {M : Type 1} → statement M
 credit2-spec =
     tie.close
     (tie.spec
-    baseline-requires
     energy-in2-requires
     liable-requires
     width2-requires

@@ -4,9 +4,6 @@ use Rattle.duties.specs.Duty.{energy1}
 use Rattle.duties.proofs.delivery.energy1.Statement.{statement}
 use Rattle.duties.proofs.delivery.energy1.Tie as tie
 
-baseline-requires : tie.Need-baseline-requires
-baseline-requires c κs = search needs
-
 energy-in1-requires : tie.Need-energy-in1-requires
 energy-in1-requires c κs = search needs
 
@@ -23,4 +20,4 @@ returns c = cc
 pub energy1-spec : {M : Type 1} → statement M
 energy1-spec =
     tie.close
-    (tie.spec baseline-requires energy-in1-requires receives-requires when-requires returns)
+    (tie.spec energy-in1-requires receives-requires when-requires returns)

@@ -4,9 +4,6 @@ use Rattle.duties.specs.Duty.{energy2}
 use Rattle.duties.proofs.delivery.energy2.Statement.{statement}
 use Rattle.duties.proofs.delivery.energy2.Tie as tie
 
-baseline-requires : tie.Need-baseline-requires
-baseline-requires c κs = search needs
-
 energy-in2-requires : tie.Need-energy-in2-requires
 energy-in2-requires c κs = search needs
 
@@ -23,4 +20,4 @@ returns c = cc
 pub energy2-spec : {M : Type 1} → statement M
 energy2-spec =
     tie.close
-    (tie.spec baseline-requires energy-in2-requires receives-requires when-requires returns)
+    (tie.spec energy-in2-requires receives-requires when-requires returns)

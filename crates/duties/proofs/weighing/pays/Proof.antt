@@ -1,14 +1,10 @@
 -- `duties::pays` meets its contract: the tests are the definition's own, by kind.
-use borrow.Author.Needs.{needs}
 use Rattle.duties.proofs.Parts.{pays-is}
 use Rattle.duties.proofs.weighing.pays.Statement.{statement}
 use Rattle.duties.proofs.weighing.pays.Tie as tie
-
-baseline-requires : tie.Need-baseline-requires
-baseline-requires c κs = search needs
 
 returns : tie.Need-returns
 returns c = search pays-is
 
 pub pays-spec : {M : Type 1} → statement M
-pays-spec = tie.close (tie.spec baseline-requires returns)
+pays-spec = tie.close (tie.spec returns)
