@@ -7,7 +7,7 @@
 --   short-refused      accepted files and a buffer that is too short: 11, place 0
 --   refused-by         and there is no other refusal
 --   refusal-keeps      a refusal leaves every byte of the buffer as it was
---   settled-buffer     a settlement: the statement's 39 + 42n bytes, 9 more with terms (`settled-count` of `settle`), are put in front of what the buffer held
+--   settled-buffer     a settlement: the statement's 40 + 42n bytes, 9 more with terms (`settled-count` of `settle`), are put in front of what the buffer held
 --   settled-front      so they stand at the front of the buffer
 --   settled-past       and every byte past them is as before
 --   buffer-length      the buffer keeps its length, whatever the answer

@@ -17,11 +17,12 @@ use Rattle.files.specs.Counting.{countingRow}
 use Rattle.files.specs.declared.Verdict.the-variants.{Accepted}
 use Rattle.files.proofs.Ranges.{HeadRanges}
 use Rattle.files.proofs.Laws.{accepted-head, accepted-sound, counting-id}
+use Rattle.columns.proofs.Sum.{bit-le}
 use Rattle.duties.proofs.Laws.{duties-level}
 use Rattle.statement.specs.Statement.{lineWidths}
 use Rattle.statement.proofs.Laws.{HeadFits}
 use Rattle.settle.specs.Statement.{statementHead, lineOf}
-use Rattle.settle.specs.Answer.{dutiesIn, figuresOf, topOf}
+use Rattle.settle.specs.Answer.{averageIn, limitIn, baseIn, dutiesIn, figuresOf, topOf}
 use Rattle.settle.proofs.Sizes.{Sized, Long, figures-long, figures-sized}
 use Rattle.settle.proofs.Accepted.{duties-within}
 use Rattle.demands.specs.Promise.{Bytes}
@@ -30,7 +31,7 @@ pub accepted-long : (s k : List ℕ) → Long (rowCount s) (figuresOf s k)
 unfolding figuresOf dutiesIn
 accepted-long s k =
     figures-long (headAt s .need .0) _ (rowCount s) (dutiesIn s k)
-    (duties-level (termsOf s) (headAt s .tariff .0) (rowCount s) (countingRow s k))
+    (duties-level (limitIn s k) (baseIn s k) (headAt s .tariff .0) (rowCount s) (countingRow s k))
 
 module _ (s k : List ℕ) (n : ℕ) (h : verdictOf s k ≡ Accepted n) where
   head : HeadRanges (headAt s)
@@ -64,7 +65,7 @@ module _ (s k : List ℕ) (n : ℕ) (h : verdictOf s k ≡ Accepted n) where
             ),
           ),
         );
-        visits = omega (arith, f .visits);
+        tail = (omega (arith, f .visits), (omega (arith, bit-le (averageIn s k .rules)), tt));
       }
 
   pub accepted-terms-fit : Fits termsWidths (termsFields (termsOf s))

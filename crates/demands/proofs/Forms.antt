@@ -22,7 +22,7 @@ use Rattle.records.specs.Record.{letterP, marked, recordAt, fieldsAt, recordsBy
 use Rattle.records.proofs.Record.{fields-length, fields-read, fields-behind, record-drop, record-front}
 use Rattle.files.specs.Layout.{headWidths, headSize, rowSize, rowWidths, letterR, headOf, rowOf, headAt, rowAt, correctionHeadAt}
 use Rattle.files.specs.Layout.{rowCount, correctionCount, correctionStart}
-use Rattle.files.specs.Terms.{terms01}
+use Rattle.files.specs.Terms.{terms01, baseline}
 use Rattle.files.specs.Form.{letterH, letterG, termsWidths, termsSize, termsFields, termsFrom, termsAt, termsBytes, known, states, termsOf, formOf, rowsFrom, rowStart}
 use Rattle.files.specs.Range.{headOk, termsOk}
 use Rattle.files.specs.Walk.{hasId, findId, inCorrection}
@@ -30,11 +30,12 @@ use Rattle.files.specs.Order.{frontChecks, headChecks, rowChecks, rowChecksAt, 
 use Rattle.files.specs.Order.{nameChecks, besideOrder, presentOrder, fileOrder, verdict, verdictOf}
 use Rattle.files.specs.Counting.{countingRow}
 use Rattle.files.specs.declared.Head.{Head}
+use Rattle.duties.specs.Average.{averageOf, baseOf}
 use Rattle.duties.specs.Duties.{dutiesOf}
 use Rattle.statement.specs.Statement.{letterL, lineWidths, topBytes}
 use Rattle.settle.specs.Settlement.{firstTurn, figures}
 use Rattle.settle.specs.Statement.{statementHead, lineOf, statementBytes}
-use Rattle.settle.specs.Answer.{dutiesIn, figuresOf, topOf, lineIn, statementOf}
+use Rattle.settle.specs.Answer.{averageIn, dutiesIn, figuresOf, topOf, lineIn, statementOf}
 use Rattle.demands.specs.Promise.{restated, linesOf}
 
 module _ (s : List ℕ) (plain : marked s 0 letterH ≡ true) (whole : headSize ≤ length s) where
@@ -217,15 +218,21 @@ module _ (s : List ℕ) (plain : marked s 0 letterH ≡ true) (whole : headSize 
         λ j. let m = inCorrection k (row-same i j .id) in
         cond (ltb m (correctionCount k)) (rowAt k (correctionStart m)) (row-same i j)
 
+    pub restated-average : averageIn (restated s) k ≡ averageIn s k
+    unfolding averageIn
+    restated-average = λ j. averageOf (terms-same j) (head-same j .need .0) (head-same j .rows) (λ i. counting-same i j)
+
     pub restated-figures : figuresOf (restated s) k ≡ figuresOf s k
     unfolding figuresOf dutiesIn
     restated-figures =
         λ j. figures (head-same j .need .0) (firstTurn (head-same j .quarter) (head-same j .rows))
-        (dutiesOf (terms-same j) (head-same j .tariff .0) (head-same j .rows) (λ i. counting-same i j))
+        (dutiesOf (λ i. baseline (terms-same j) (counting-same i j .capacity))
+        (λ i. baseOf (terms-same j) (restated-average j) (counting-same i j .capacity)) (head-same j .tariff .0) (head-same j .rows)
+        (λ i. counting-same i j))
 
     pub restated-top : topOf (restated s) k ≡ topOf s k
     unfolding topOf
-    restated-top = λ j. statementHead (head-same j) (head-same j .rows) (restated-figures j)
+    restated-top = λ j. statementHead (head-same j) (head-same j .rows) (restated-average j .rules) (restated-figures j)
 
     line-same : (i : ℕ) → lineIn g k i ≡ lineIn s k i
     unfolding lineIn

@@ -2,6 +2,7 @@ pub mod Demand1
 pub mod Fitting
 pub mod Demand2
 pub mod Turns
+pub mod Averages
 pub mod Prices
 pub mod Demand3
 pub mod Penalties

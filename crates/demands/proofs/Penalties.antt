@@ -38,7 +38,7 @@ use Rattle.share.proofs.Laws.{share-more, shares-at}
 use Rattle.levy.specs.Rounds.{toCut, cuts}
 use Rattle.settle.specs.Settlement.{firstTurn, bandsOf, compensationsOf, penaltiesOf, Figures, levied, figures}
 use Rattle.settle.specs.Within.{Turn}
-use Rattle.settle.specs.Answer.{dutiesIn, figuresOf, answerOf, bufferAfter, numberOf}
+use Rattle.settle.specs.Answer.{limitIn, baseIn, dutiesIn, figuresOf, answerOf, bufferAfter, numberOf}
 use Rattle.demands.specs.Promise.{figuresAt, owedBy, Penalties, creditedWith, SameButPenalties, MorePenalty, LessCut}
 use Rattle.settle.proofs.Accepted.{first-inside, rows-ranged}
 use Rattle.demands.proofs.Demand1.{settled-accepted}
@@ -65,12 +65,13 @@ module _ (t : Terms) (r : Row) (ranged : RowRanges t r) where
       ⊎-elim (λ (z : w ≡ 0). z)
       (λ (some : 0 < w). absurd (eqb-false (r .kind) thermal other (ranged .offers (offers some) .kind))) (eq-zero-or-pos w)
 
-  pub owed-is : (c1 c2 p1 p2 : ℕ) → c1 ≤ width1 t r → c2 ≤ width2 t r
-      → penalty c1 c2 (credit1 t r) (credit2 t r) p1 p2 ≡ owedBy t r c1 c2 p1 p2
+  pub owed-is : (limit base c1 c2 p1 p2 : ℕ) → c1 ≤ width1 limit r → c2 ≤ width2 r
+      → penalty c1 c2 (credit1 limit base r) (credit2 base r) p1 p2 ≡ owedBy base r c1 c2 p1 p2
   unfolding credit1 credit2
-  owed-is c1 c2 p1 p2 h1 h2 =
-      by-status (eqb (r .kind) thermal) (eqb (r .status) reduced) c1 c2 (meterEnergy1 t r) (meterEnergy2 t r) (width1 t r) (width2 t r) p1 p2 h1 h2
-      (λ other. (no-band (width1 t r) (width1-offers t r) other, no-band (width2 t r) (width2-offers t r) other))
+  owed-is limit base c1 c2 p1 p2 h1 h2 =
+      by-status (eqb (r .kind) thermal) (eqb (r .status) reduced) c1 c2 (meterEnergy1 base r) (meterEnergy2 base r) (width1 limit r) (width2 r)
+      p1 p2 h1 h2
+      (λ other. (no-band (width1 limit r) (width1-offers limit r) other, no-band (width2 r) (width2-offers r) other))
 
 -- ---- an accepted pair, and the bytes of its statement
 
@@ -87,16 +88,16 @@ module _ (s k : List ℕ) (n : ℕ) (h : verdictOf s k ≡ Accepted n) where
   pub accepted-penalties : Penalties s k (figuresOf s k)
   unfolding figuresOf figures penaltiesOf dutiesIn dutiesOf
   accepted-penalties i l =
-      let t = termsOf s in
       let row = countingRow s k in
-      let w1 = table-at 0 (rowCount s) (λ j. width1 t (row j)) i l in
-      let w2 = table-at 0 (rowCount s) (λ j. width2 t (row j)) i l in
-      let x1 = table-at 0 (rowCount s) (λ j. credit1 t (row j)) i l in
-      let x2 = table-at 0 (rowCount s) (λ j. credit2 t (row j)) i l in
-      let inside : i < length (table (rowCount s) (λ j. width1 t (row j))) = omega (arith, table-length (rowCount s) (λ j. width1 t (row j))) in
+      let w1 = table-at 0 (rowCount s) (λ j. width1 (limitIn s k j) (row j)) i l in
+      let w2 = table-at 0 (rowCount s) (λ j. width2 (row j)) i l in
+      let x1 = table-at 0 (rowCount s) (λ j. credit1 (limitIn s k j) (baseIn s k j) (row j)) i l in
+      let x2 = table-at 0 (rowCount s) (λ j. credit2 (baseIn s k j) (row j)) i l in
+      let inside : i < length (table (rowCount s) (λ j. width1 (limitIn s k j) (row j))) =
+      omega (arith, table-length (rowCount s) (λ j. width1 (limitIn s k j) (row j))) in
       table-at 0 (length (d .widths1)) _ i inside
       ∙ (λ j. penalty (at (made one) i) (at (made two) i) (x1 j) (x2 j) (figuresOf s k .price1) (figuresOf s k .price2))
-      ∙ owed-is t (row i) (rows-ranged s k n h i l) (at (made one) i) (at (made two) i) (figuresOf s k .price1) (figuresOf s k .price2)
+      ∙ owed-is (termsOf s) (row i) (rows-ranged s k n h i l) (limitIn s k i) (baseIn s k i) (at (made one) i) (at (made two) i) (figuresOf s k .price1) (figuresOf s k .price2)
       (omega (arith, called-within one i, w1)) (omega (arith, called-within two i, w2))
 
 pub statement-penalties : (s k out : List ℕ) → numberOf (answerOf s k (length out)) ≡ 0 → Penalties s k (figuresAt (bufferAfter s k out))
@@ -169,9 +170,9 @@ pub accepted-less-cut : (s k t j : List ℕ) → MorePenalty (figuresOf s k) (fi
 unfolding figuresOf dutiesIn
 accepted-less-cut s k t j =
     less-cut (headAt s .need .0) _ (rowCount s) (dutiesIn s k)
-    (duties-level (termsOf s) (headAt s .tariff .0) (rowCount s) (countingRow s k)) (first-inside (headAt s .quarter) (rowCount s))
+    (duties-level (limitIn s k) (baseIn s k) (headAt s .tariff .0) (rowCount s) (countingRow s k)) (first-inside (headAt s .quarter) (rowCount s))
     (headAt t .need .0) _ (rowCount t) (dutiesIn t j)
-    (duties-level (termsOf t) (headAt t .tariff .0) (rowCount t) (countingRow t j)) (first-inside (headAt t .quarter) (rowCount t))
+    (duties-level (limitIn t j) (baseIn t j) (headAt t .tariff .0) (rowCount t) (countingRow t j)) (first-inside (headAt t .quarter) (rowCount t))
 
 -- and of the bytes of their statements
 pub statement-less-cut : (s k out t j room : List ℕ) → numberOf (answerOf s k (length out)) ≡ 0 → numberOf (answerOf t j (length room)) ≡ 0

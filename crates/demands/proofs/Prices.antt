@@ -27,7 +27,7 @@ use Rattle.merit.specs.Call.{calls}
 use Rattle.merit.specs.Price.{price}
 use Rattle.merit.proofs.Laws.{calls-le, Delivered, price-reached, price-least, price-zero}
 use Rattle.settle.specs.Settlement.{firstTurn, bandsOf, figures}
-use Rattle.settle.specs.Answer.{dutiesIn, figuresOf, answerOf, bufferAfter, numberOf}
+use Rattle.settle.specs.Answer.{limitIn, baseIn, dutiesIn, figuresOf, answerOf, bufferAfter, numberOf}
 use Rattle.demands.specs.Promise.{figuresAt, Delivers, SetBy, Prices}
 use Rattle.settle.proofs.Accepted.{rows-ranged}
 use Rattle.demands.proofs.Demand1.{settled-accepted}
@@ -35,20 +35,21 @@ use Rattle.demands.proofs.Demand2.{statement-figures}
 
 -- ---- of either tier: what a row offers there, is paid for, shows by its meter and bid, and what each row is called for
 
-module _ (t : Terms) (n : ℕ) (row : ℕ → Row) (ranged : Below n (λ i. RowRanges t (row i))) (width energy shown bid : Row → ℕ) (cs : List ℕ)
-    (offers : (r : Row) → 0 < width r → r .offered ≡ 1)
-    (whose : (r : Row) → 0 < energy r → (r .kind ≡ thermal) × (r .status ≡ normal) × (0 < shown r))
-    (is : (r : Row) → r .kind ≡ thermal → r .status ≡ normal → energy r ≡ shown r)
+module _ (t : Terms) (n : ℕ) (row : ℕ → Row) (ranged : Below n (λ i. RowRanges t (row i))) (width energy shown : ℕ → ℕ)
+    (bid : Row → ℕ) (cs : List ℕ)
+    (offers : (i : ℕ) → 0 < width i → row i .offered ≡ 1)
+    (whose : (i : ℕ) → 0 < energy i → (row i .kind ≡ thermal) × (row i .status ≡ normal) × (0 < shown i))
+    (is : (i : ℕ) → row i .kind ≡ thermal → row i .status ≡ normal → energy i ≡ shown i)
     (bids : (r : Row) → Offers t r → 0 < bid r)
-    (band : (i : ℕ) → 0 < at cs i → 0 < at (table n (λ j. width (row j))) i) where
+    (band : (i : ℕ) → 0 < at cs i → 0 < at (table n width) i) where
   abbrev bs : List ℕ
   bs = table n (λ i. bid (row i))
 
   abbrev es : List ℕ
-  es = table n (λ i. energy (row i))
+  es = table n energy
 
   abbrev deliver : ℕ → Type 0
-  deliver i = Delivers (row i) (at cs i) (shown (row i))
+  deliver i = Delivers (row i) (at cs i) (shown i)
 
   bid-at : (i : ℕ) → i < n → at bs i ≡ bid (row i)
   bid-at = table-at 0 n (λ i. bid (row i))
@@ -56,21 +57,21 @@ module _ (t : Terms) (n : ℕ) (row : ℕ → Row) (ranged : Below n (λ i. RowR
   -- who is called offers
   offering : (i : ℕ) → i < n → 0 < at cs i → Offers t (row i)
   offering i l p =
-      ranged i l .offers (offers (row i) (omega (arith, table-at 0 n (λ j. width (row j)) i l, band i p)))
+      ranged i l .offers (offers i (omega (arith, table-at 0 n width i l, band i p)))
 
   -- a row delivers by its columns just if it does by its own fields
   by-fields : (i : ℕ) → Delivered bs cs es i → (i < n) × deliver i
   by-fields i x =
       let l : i < n = omega (arith, x .0, table-length n (λ j. bid (row j))) in
-      let w = whose (row i) (omega (arith, x .2, table-at 0 n (λ j. energy (row j)) i l)) in
+      let w = whose i (omega (arith, x .2, table-at 0 n energy i l)) in
       (l, record { normal = w .1; called = x .1; delivered = w .2 })
 
   by-columns : (i : ℕ) → i < n → deliver i → Delivered bs cs es i
   by-columns i l x =
-      let same = is (row i) (offering i l (x .called) .kind) (x .normal) in (
+      let same = is i (offering i l (x .called) .kind) (x .normal) in (
         omega (arith, table-length n (λ j. bid (row j))),
         x .called,
-        omega (arith, table-at 0 n (λ j. energy (row j)) i l, same, x .delivered),
+        omega (arith, table-at 0 n energy i l, same, x .delivered),
       )
 
   pub set-by : SetBy n deliver (λ i. bid (row i)) (price bs cs es)
@@ -106,15 +107,19 @@ module _ (s k : List ℕ) (n : ℕ) (h : verdictOf s k ≡ Accepted n) where
   pub accepted-prices : Prices s k (figuresOf s k)
   unfolding figuresOf figures dutiesIn dutiesOf
   accepted-prices =
-      let t = termsOf s in
+      let row = countingRow s k in
+      let limit = limitIn s k in
+      let base = baseIn s k in
       let sound = accepted-sound s k n h in
-      let of = set-by t (rowCount s) (countingRow s k) (rows-ranged s k n h) in
+      let of = set-by (termsOf s) (rowCount s) row (rows-ranged s k n h) in
       record {
         tier1 =
-            of (width1 t) (energy1 t) (meterEnergy1 t) (λ r. r .bid1 .0) (made one) (width1-offers t) (energy1-whose t) (energy1-is t)
+            of (λ i. width1 (limit i) (row i)) (λ i. energy1 (base i) (row i)) (λ i. meterEnergy1 (base i) (row i)) (λ r. r .bid1 .0) (made one)
+            (λ i. width1-offers (limit i) (row i)) (λ i. energy1-whose (base i) (row i)) (λ i. energy1-is (base i) (row i))
             (λ r o. omega (arith, o .bid1-low, sound .first)) (called-width one);
         tier2 =
-            of (width2 t) (energy2 t) (meterEnergy2 t) (λ r. r .bid2 .0) (made two) (width2-offers t) (energy2-whose t) (energy2-is t)
+            of (λ i. width2 (row i)) (λ i. energy2 (base i) (row i)) (λ i. meterEnergy2 (base i) (row i)) (λ r. r .bid2 .0) (made two)
+            (λ i. width2-offers (row i)) (λ i. energy2-whose (base i) (row i)) (λ i. energy2-is (base i) (row i))
             (λ r o. omega (arith, o .bid2-low, sound .first, sound .rising1, sound .apart)) (called-width two);
       }
 

@@ -2,7 +2,7 @@
 -- follow from the rows, whose turn it is, how much work the rounds were, and demand 3 said of any figures.
 use Prim.Native.Nat.{ℕ, _+_, _-_, _*_, _/_, _≤_, _<_}
 use mathlib.Core.Path.{_≡_}
-use mathlib.Core.Bool.{Bool, cond}
+use mathlib.Core.Bool.{Bool, true, false, cond}
 use mathlib.Core.List.{List, _∷_, _++_}
 use lib.Dec.{eqb}
 use lib.ListN.{length, take, drop}
@@ -14,8 +14,8 @@ use Rattle.files.specs.Terms.{terms01}
 use Rattle.files.specs.Form.{letterG, termsBytes, termsOf}
 use Rattle.files.specs.Counting.{countingRow}
 use Rattle.files.specs.declared.Row.{Row}
-use Rattle.files.specs.declared.Terms.{Terms}
-use Rattle.duties.specs.Duty.{normal, reduced, meterEnergy1, meterEnergy2}
+use Rattle.duties.specs.Average.{isThermal, windless}
+use Rattle.duties.specs.Duty.{normal, reduced, meterEnergy1, meterEnergy2, payer, weight}
 use Rattle.duties.specs.Duties.{Duties}
 use Rattle.pay.specs.Pay.{penalty}
 use Rattle.share.specs.Share.{turn, SameOrOneMore}
@@ -26,7 +26,7 @@ use Rattle.records.specs.Sheet.{columnOf}
 use Rattle.statement.specs.Statement.{letterL, lineWidths, headIn, bodyIn}
 use Rattle.statement.specs.Line as line
 use Rattle.settle.specs.Settlement.{firstTurn, Figures, figures}
-use Rattle.settle.specs.Answer.{dutiesIn, lineIn}
+use Rattle.settle.specs.Answer.{limitIn, baseIn, dutiesIn, lineIn}
 
 -- every number of the list is a byte, as it is in every file
 abbrev pub Bytes : List ℕ → Type 0
@@ -68,6 +68,29 @@ restated s = (letterP ∷ letterG ∷ take (headSize - 2) (drop 2 s)) ++ (termsB
 unfoldable pub linesOf : List ℕ → List ℕ → List ℕ
 linesOf s k = recordsBytes letterL lineWidths (table (rowCount s) (lineIn s k))
 
+-- ---- the thermal average (02, request 9), said of the rows that count
+
+-- the condition: something is needed, no wind or solar meter is above 0, no thermal row above its limit, and one is thermal
+abbrev pub windlessIn : List ℕ → List ℕ → Bool
+windlessIn s k = windless (termsOf s) (headAt s .need .0) (rowCount s) (countingRow s k)
+
+-- row i is thermal and stands so to its base
+abbrev pub ThermalAt : List ℕ → List ℕ → (ℕ → ℕ → Type 0) → ℕ → Type 0
+ThermalAt s k stands i = (i < rowCount s) × (isThermal (countingRow s k i) ≡ true) × stands (baseIn s k i) (countingRow s k i .metered .0)
+
+-- what an average that rules comes to
+pub record Averaged (s k : List ℕ) : Type 0 where
+  -- no base is above its limit
+  pub under : (i : ℕ) → i < rowCount s → baseIn s k i ≤ limitIn s k i
+  -- some thermal row is at its base or above, so that somebody may pay
+  pub reached : (i : ℕ) × ThermalAt s k (λ base e. base ≤ e) i
+  -- and if one is below, one is above
+  pub above : (i : ℕ) → ThermalAt s k (λ base e. e < base) i → (j : ℕ) × ThermalAt s k (λ base e. base < e) j
+  -- a thermal row that pays weighs its energy above the base, counted once; wind and solar weigh nothing
+  pub once : (i : ℕ) → i < rowCount s → isThermal (countingRow s k i) ≡ true → payer (baseIn s k i) (countingRow s k i) ≡ true
+      → weight (baseIn s k i) (countingRow s k i) ≡ countingRow s k i .metered .0 - baseIn s k i
+  pub still : (i : ℕ) → i < rowCount s → isThermal (countingRow s k i) ≡ false → weight (baseIn s k i) (countingRow s k i) ≡ 0
+
 -- ---- a tier's price (02, request 1), said of the rows that count
 
 -- a row delivers in a tier: it ran as usual, was called there for more than 0 (so it is thermal), and its meter shows energy there
@@ -88,25 +111,25 @@ pub record SetBy (n : ℕ) (deliver : ℕ → Type 0) (bid : ℕ → ℕ) (price
 -- both prices of a pair of files, by the calls that are stated and by what the meters show
 pub record Prices (s k : List ℕ) (f : Figures) : Type 0 where
   pub tier1 :
-      SetBy (rowCount s) (λ i. Delivers (countingRow s k i) (at (f .called1) i) (meterEnergy1 (termsOf s) (countingRow s k i)))
+      SetBy (rowCount s) (λ i. Delivers (countingRow s k i) (at (f .called1) i) (meterEnergy1 (baseIn s k i) (countingRow s k i)))
       (λ i. countingRow s k i .bid1 .0) (f .price1)
   pub tier2 :
-      SetBy (rowCount s) (λ i. Delivers (countingRow s k i) (at (f .called2) i) (meterEnergy2 (termsOf s) (countingRow s k i)))
+      SetBy (rowCount s) (λ i. Delivers (countingRow s k i) (at (f .called2) i) (meterEnergy2 (baseIn s k i) (countingRow s k i)))
       (λ i. countingRow s k i .bid2 .0) (f .price2)
 
 -- ---- a row's penalty (02, request 4), said of the rows that count
 
 -- what a row owes by its status and its meter: a row of status 2, for what it was called for and the meter does not show, others nothing
-abbrev pub owedBy : Terms → Row → ℕ → ℕ → ℕ → ℕ → ℕ
-owedBy t r call1 call2 price1 price2 =
-    cond (eqb (r .status) reduced) (penalty call1 call2 (meterEnergy1 t r) (meterEnergy2 t r) price1 price2) 0
+abbrev pub owedBy : ℕ → Row → ℕ → ℕ → ℕ → ℕ → ℕ
+owedBy base r call1 call2 price1 price2 =
+    cond (eqb (r .status) reduced) (penalty call1 call2 (meterEnergy1 base r) (meterEnergy2 base r) price1 price2) 0
 
 -- the penalties of a pair of files are these, by the calls and prices that are stated
 abbrev pub Penalties : List ℕ → List ℕ → Figures → Type 0
 Penalties s k f =
     (i : ℕ) → i < rowCount s
     → at (f .penalties) i
-    ≡ owedBy (termsOf s) (countingRow s k i) (at (f .called1) i) (at (f .called2) i) (f .price1) (f .price2)
+    ≡ owedBy (baseIn s k i) (countingRow s k i) (at (f .called1) i) (at (f .called2) i) (f .price1) (f .price2)
 
 -- the same rows, credited with something else: so they may owe something else, and nothing else about them has changed
 abbrev pub creditedWith : List ℕ → List ℕ → Duties → Duties

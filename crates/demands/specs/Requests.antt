@@ -38,6 +38,10 @@ thermalRow id metered = id ∷ 1 ∷ 100 ∷ metered ∷ 0 ∷ 0 ∷ 0 ∷ 0 ∷
 abbrev pub windRow : ℕ → ℕ → List ℕ
 windRow id metered = id ∷ 2 ∷ 100 ∷ metered ∷ 0 ∷ 0 ∷ 0 ∷ 0 ∷ 0 ∷ []
 
+-- a farm in a grid accident, which does not pay; its meter shows a kWh, so that the thermal average does not rule
+abbrev pub downRow : ℕ → List ℕ
+downRow id = id ∷ 2 ∷ 100 ∷ 1 ∷ 3 ∷ 0 ∷ 0 ∷ 0 ∷ 0 ∷ []
+
 -- the file of a quarter, a tariff, a need and rows
 unfoldable pub fileOf : ℕ → ℕ → ℕ → List (List ℕ) → List ℕ
 fileOf quarter tariff need rows =
@@ -103,8 +107,8 @@ tiedCuts quarter =
 unfoldable pub settledNone : ℕ → List ℕ
 settledNone quarter =
     let s = fileOf quarter 1300 3000 [] in
-    let h = headIn (bufferAfter s [] (replicate 39 255)) in
-    numberOf (answerOf s [] 39) ∷ valueOf (answerOf s [] 39) ∷ h .quarter ∷ h .uncovered .0 ∷ []
+    let h = headIn (bufferAfter s [] (replicate 40 255)) in
+    numberOf (answerOf s [] 40) ∷ valueOf (answerOf s [] 40) ∷ h .quarter ∷ h .uncovered .0 ∷ []
 
 -- ---- request 4, penalty money first
 
@@ -112,17 +116,17 @@ settledNone quarter =
 -- what row 2 owes, and what is returned to it
 unfoldable pub settledReduced : ℕ → ℕ → List ℕ
 settledReduced tariff metered =
-    let out = bufferAfter (besideAt tariff 9000 metered 2) [] (replicate 165 255) in
+    let out = bufferAfter (besideAt tariff 9000 metered 2) [] (replicate 166 255) in
     let h = headIn out in
     h .total .0 ∷ h .shortfall .0 ∷ h .rounds ∷ cell line.cut out 0 ∷ cell line.paid out 1 ∷ cell line.paid out 2
     ∷ cell line.penalty out 1 ∷ cell line.returned out 1 ∷ []
 
--- a row that delivers 5 kWh at 200 li, for which nobody pays the 100 fen, and three rows that are a kWh short each
+-- a row that delivers 5 kWh at 200 li, for which nobody pays the 100 fen, three rows that are a kWh short each, and a farm in an accident
 abbrev pub tiedReturns : ℕ → List ℕ
 tiedReturns quarter =
     told line.returned
     (fileOf quarter 1300 10000
-    (offering 1 12495 0 200 400 ∷ offering 2 10001 2 200 400 ∷ offering 3 10001 2 200 400 ∷ offering 4 10001 2 200 400 ∷ []))
+    (offering 1 12495 0 200 400 ∷ offering 2 10001 2 200 400 ∷ offering 3 10001 2 200 400 ∷ offering 4 10001 2 200 400 ∷ downRow 5 ∷ []))
 
 -- rows that deliver 40, 40 and 1 kWh at 105 li, a wind farm that pays 3 of the 851 fen, and a row that is short of so many kWh
 abbrev pub shortOf : ℕ → List ℕ
@@ -159,11 +163,11 @@ answered room s = numberOf (answerOf s [] room) ∷ valueOf (answerOf s [] room)
 
 -- the number that a file with these terms and no rows gets, at a tariff
 abbrev pub termsAnswer : ℕ → List ℕ → ℕ
-termsAnswer tariff terms = numberOf (answerOf (statedFile terms 0 tariff 0 []) [] 48)
+termsAnswer tariff terms = numberOf (answerOf (statedFile terms 0 tariff 0 []) [] 49)
 
 -- the answer to one row of 1 MW at 45 percent, by its minimum and its bids
 abbrev pub rowAnswer : ℕ → ℕ → ℕ → List ℕ
-rowAnswer minimum bid1 bid2 = answered 90 (statedFile at45 0 1300 0 ((1 ∷ 1 ∷ 1 ∷ 100 ∷ 0 ∷ 1 ∷ minimum ∷ bid1 ∷ bid2 ∷ []) ∷ []))
+rowAnswer minimum bid1 bid2 = answered 91 (statedFile at45 0 1300 0 ((1 ∷ 1 ∷ 1 ∷ 100 ∷ 0 ∷ 1 ∷ minimum ∷ bid1 ∷ bid2 ∷ []) ∷ []))
 
 -- the terms that a file's statement says
 unfoldable pub ruled : List ℕ → List ℕ
@@ -213,6 +217,42 @@ ladder =
     (rungs (λ c e. thermalWeight (load c 50) c e) thermalRungs ++ rungs (λ c e. e) windRungs)
     (rungs (λ c e. thermalCap e 7777) thermalRungs ++ rungs (λ c e. renewableCap e 7777) windRungs)
 
+-- ---- request 9, when there is no wind and everybody is low
+
+-- a thermal row that does not offer, by its capacity, metered energy and status
+abbrev pub unitRow : ℕ → ℕ → ℕ → ℕ → List ℕ
+unitRow id capacity metered status = id ∷ 1 ∷ capacity ∷ metered ∷ status ∷ 0 ∷ 0 ∷ 0 ∷ 0 ∷ []
+
+-- the settlement of a file read back: whether the average ruled, prices, total, shortfall; then what rows are paid, weigh and pay
+unfoldable pub settledLow : List ℕ → List ℕ
+settledLow s =
+    let h = headIn (bufferAfter s [] (replicate (sizeOf s) 255)) in
+    h .averaged ∷ h .price1 .0 ∷ h .price2 .0 ∷ h .total .0 ∷ h .shortfall .0
+    ∷ (told line.compensation s ++ told line.weight s ++ told line.paid s)
+
+-- row 1 of interval X beside units of 200 and 150 MW, the first of them at this meter; and whatever else
+abbrev pub calmAt : ℕ → ℕ → List (List ℕ) → List ℕ
+calmAt need metered more = fileOf 0 1300 need (offering 1 9000 0 200 400 ∷ unitRow 2 200 metered 0 ∷ unitRow 3 150 18000 0 ∷ more)
+
+-- row 1 of interval X at a meter beside two units of 100 MW
+abbrev pub threeLow : ℕ → ℕ → ℕ → List ℕ
+threeLow e1 e2 e3 = fileOf 0 1300 3000 (offering 1 e1 0 200 400 ∷ unitRow 2 100 e2 0 ∷ unitRow 3 100 e3 0 ∷ [])
+
+-- a unit reduced for reasons of its own, one in a grid accident, one that was starting: each counts in the average
+abbrev pub lowStatuses : List ℕ
+lowStatuses =
+    fileOf 0 1300 9000 (offering 1 9000 0 200 400 ∷ offering 2 10500 2 200 400 ∷ unitRow 3 100 12400 3 ∷ unitRow 4 100 11301 1 ∷ [])
+
+-- row 1 of interval X and one like it that is reduced, beside two units at half load
+abbrev pub lowReduced : List ℕ
+lowReduced =
+    fileOf 0 1300 6000 (offering 1 9000 0 200 400 ∷ offering 2 9000 2 200 400 ∷ unitRow 3 100 12500 0 ∷ unitRow 4 100 12500 0 ∷ [])
+
+-- row 1 of interval X at 45 percent, beside a unit of 101 MW and a farm at rest
+abbrev pub lowStated : ℕ → List ℕ
+lowStated metered =
+    statedFile at45 0 1300 3000 (offering 1 9000 0 200 400 ∷ unitRow 2 101 metered 0 ∷ windRow 3 0 ∷ [])
+
 -- the figures, request by request
 unfoldable pub requestTable : List Entry
 requestTable =
@@ -244,7 +284,7 @@ requestTable =
     ∷ entry (sharedAt 3 100 (1 ∷ 1 ∷ 1 ∷ 0 ∷ [])) (34 ∷ 33 ∷ 33 ∷ 0 ∷ [])
     -- one row, and none
     ∷ entry (sharedAt 95 7 (3 ∷ [])) (7 ∷ [])
-    ∷ entry (settledNone 95) (0 ∷ 39 ∷ 95 ∷ 3000 ∷ [])
+    ∷ entry (settledNone 95) (0 ∷ 40 ∷ 95 ∷ 3000 ∷ [])
     -- calls: 50 each and one more; at quarter 5 position 2 is the wind farm's, and row 1 is next
     ∷ entry (tiedCalls 0) (51 ∷ 50 ∷ 0 ∷ [])
     ∷ entry (tiedCalls 1) (50 ∷ 51 ∷ 0 ∷ [])
@@ -283,11 +323,11 @@ requestTable =
     -- of 204 li 4 are dropped, of 206 li 6 make a fen; 315 li, with half a fen, are doubled before fen are made; 204 and 644 li together
     ∷ entry (penalty 2500 0 2499 0 102 0 ∷ penalty 2500 0 2499 0 103 0 ∷ penalty 2500 0 2497 0 105 0 ∷ penalty 2500 1 2499 0 102 322 ∷ [])
     (20 ∷ 21 ∷ 63 ∷ 85 ∷ [])
-    -- 40 fen from each of three rows, of which 20 go back: 6 each and two more, at quarters 0, 2, 3 and 95 of four rows
-    ∷ entry (tiedReturns 0) (0 ∷ 7 ∷ 7 ∷ 6 ∷ [])
-    ∷ entry (tiedReturns 2) (0 ∷ 6 ∷ 7 ∷ 7 ∷ [])
-    ∷ entry (tiedReturns 3) (0 ∷ 7 ∷ 6 ∷ 7 ∷ [])
-    ∷ entry (tiedReturns 95) (0 ∷ 7 ∷ 6 ∷ 7 ∷ [])
+    -- 40 fen from each of three rows, of which 20 go back: 6 each and two more, at quarters 0, 2, 3 and 95 of five rows
+    ∷ entry (tiedReturns 0) (0 ∷ 7 ∷ 7 ∷ 6 ∷ 0 ∷ [])
+    ∷ entry (tiedReturns 2) (0 ∷ 6 ∷ 7 ∷ 7 ∷ 0 ∷ [])
+    ∷ entry (tiedReturns 3) (0 ∷ 7 ∷ 6 ∷ 7 ∷ 0 ∷ [])
+    ∷ entry (tiedReturns 95) (0 ∷ 7 ∷ 7 ∷ 6 ∷ 0 ∷ [])
     -- a penalty larger by 21 fen leaves 29 to cut in place of 50, and row 3 is cut by a fen more
     ∷ entry (told line.penalty (shortOf 38) ++ told line.cut (shortOf 38)) (0 ∷ 0 ∷ 0 ∷ 0 ∷ 798 ∷ 25 ∷ 25 ∷ 0 ∷ 0 ∷ 0 ∷ [])
     ∷ entry (told line.penalty (shortOf 39) ++ told line.cut (shortOf 39)) (0 ∷ 0 ∷ 0 ∷ 0 ∷ 819 ∷ 14 ∷ 14 ∷ 1 ∷ 0 ∷ 0 ∷ [])
@@ -307,7 +347,7 @@ requestTable =
     ∷ entry (settledThree (statedFile at01 0 1300 3000 rowsX)) (0 ∷ 200 ∷ 400 ∷ 90000 ∷ 0 ∷ 1 ∷ 90000 ∷ 0 ∷ 0 ∷ 0 ∷ 65000 ∷ 25000 ∷ [])
     -- the head says which terms ruled; a statement with terms has 9 bytes more, and a buffer a byte short of that is refused
     ∷ entry (ruled (statedFile at45 0 1300 3000 rowsX) ++ ruled (intervalX 1300)) (45 ∷ 150 ∷ 330 ∷ 330 ∷ 760 ∷ 50 ∷ 100 ∷ 320 ∷ 320 ∷ 750 ∷ [])
-    ∷ entry (answered 174 (statedFile at45 0 1300 3000 rowsX) ++ answered 173 (statedFile at45 0 1300 3000 rowsX)) (0 ∷ 174 ∷ 11 ∷ 0 ∷ [])
+    ∷ entry (answered 175 (statedFile at45 0 1300 3000 rowsX) ++ answered 174 (statedFile at45 0 1300 3000 rowsX)) (0 ∷ 175 ∷ 11 ∷ 0 ∷ [])
     -- 14: percent 40 and 51, first limit 0, limits equal or falling in a tier, tier 2 from below tier 1's end, last limit above 1,000
     ∷ entry
     (termsAnswer 1 (40 ∷ 1 ∷ 2 ∷ 3 ∷ 4 ∷ []) ∷ termsAnswer 1 (51 ∷ 1 ∷ 2 ∷ 3 ∷ 4 ∷ []) ∷ termsAnswer 1 (45 ∷ 0 ∷ 2 ∷ 3 ∷ 4 ∷ [])
@@ -326,10 +366,10 @@ requestTable =
     ∷ entry (answered 99 (80 ∷ 71 ∷ replicate 12 0) ++ answered 99 (80 ∷ 71 ∷ replicate 21 0)) (1 ∷ 0 ∷ 1 ∷ 0 ∷ [])
     ∷ entry (answered 99 (80 ∷ 71 ∷ replicate 22 0) ++ answered 99 (80 ∷ 70 ∷ replicate 21 0)) (3 ∷ 0 ∷ 2 ∷ 0 ∷ [])
     -- a row of 1 MW: its minimum at 112 kWh and above, bids at the limits and past each of them
-    ∷ entry (rowAnswer 112 330 330 ++ rowAnswer 113 330 330) (0 ∷ 90 ∷ 6 ∷ 1 ∷ [])
+    ∷ entry (rowAnswer 112 330 330 ++ rowAnswer 113 330 330) (0 ∷ 91 ∷ 6 ∷ 1 ∷ [])
     ∷ entry
     (rowAnswer 0 150 760 ++ rowAnswer 0 149 760 ++ rowAnswer 0 331 760 ++ rowAnswer 0 150 329 ++ rowAnswer 0 150 761)
-    (0 ∷ 90 ∷ 6 ∷ 1 ∷ 6 ∷ 1 ∷ 6 ∷ 1 ∷ 6 ∷ 1 ∷ [])
+    (0 ∷ 91 ∷ 6 ∷ 1 ∷ 6 ∷ 1 ∷ 6 ∷ 1 ∷ 6 ∷ 1 ∷ [])
     -- request 8, how much work a quarter can take. P1 to P5: two payers are looked at; once row 2 has closed, the wind farm again
     ∷ entry (visited (intervalX 3545)) (0 ∷ 2 ∷ 0 ∷ 0 ∷ 0 ∷ [])
     ∷ entry (visited (intervalX 1350)) (1 ∷ 3 ∷ 0 ∷ 1 ∷ 0 ∷ [])
@@ -338,8 +378,8 @@ requestTable =
     ∷ entry (visited (intervalX 1000)) (2 ∷ 3 ∷ 0 ∷ 1 ∷ 2 ∷ [])
     -- nobody is open: no rows; only a row that receives; and one at half load, which weighs nothing
     ∷ entry (visited (fileOf 0 1300 3000 [])) (0 ∷ 0 ∷ [])
-    ∷ entry (visited (fileOf 0 1300 3000 (offering 1 9000 0 200 400 ∷ []))) (0 ∷ 0 ∷ 0 ∷ [])
-    ∷ entry (visited (fileOf 0 1300 3000 (offering 1 9000 0 200 400 ∷ thermalRow 2 12500 ∷ []))) (0 ∷ 0 ∷ 0 ∷ 0 ∷ [])
+    ∷ entry (visited (fileOf 0 1300 3000 (offering 1 9000 0 200 400 ∷ downRow 2 ∷ []))) (0 ∷ 0 ∷ 0 ∷ 0 ∷ [])
+    ∷ entry (visited (fileOf 0 1300 3000 (offering 1 9000 0 200 400 ∷ thermalRow 2 12500 ∷ downRow 3 ∷ []))) (0 ∷ 0 ∷ 0 ∷ 0 ∷ 0 ∷ [])
     -- three payers: nobody ever closes, row 2's cap being 75,006; it closes at 74,937, and two are looked at once more
     ∷ entry (visited (threePayers 1091)) (0 ∷ 3 ∷ 0 ∷ 0 ∷ 0 ∷ 0 ∷ [])
     ∷ entry (visited (threePayers 1090)) (1 ∷ 5 ∷ 0 ∷ 1 ∷ 0 ∷ 0 ∷ [])
@@ -354,4 +394,33 @@ requestTable =
     ∷ entry (visited (fileOf 0 1 0 (windRow 1 199 ∷ windRow 2 199 ∷ windRow 3 200 ∷ []))) (1 ∷ 4 ∷ 1 ∷ 1 ∷ 0 ∷ [])
     -- the ladder of 27 rounds: 14 payers looked at once, 23 twice, and so on to the last, looked at in all 27
     ∷ entry ladder (27 ∷ 1960 ∷ [])
+    -- request 9, no wind and everybody low. 52,000 kWh over 450 MW: 11,555, 23,111 and 17,333; row 2 is just at half load
+    ∷ entry (settledLow (calmAt 3000 25000 []))
+    (1 ∷ 200 ∷ 400 ∷ 71100 ∷ 0 ∷ 71100 ∷ 0 ∷ 0 ∷ 0 ∷ 1889 ∷ 667 ∷ 0 ∷ 52546 ∷ 18554 ∷ [])
+    -- the bands stay those of half load
+    ∷ entry (told line.called1 (calmAt 3000 25000 []) ++ told line.called2 (calmAt 3000 25000 [])) (2500 ∷ 0 ∷ 0 ∷ 500 ∷ 0 ∷ 0 ∷ [])
+    -- with a wind farm at 0; at 1 the baseline rules
+    ∷ entry (settledLow (calmAt 3000 25000 (windRow 4 0 ∷ [])))
+    (1 ∷ 200 ∷ 400 ∷ 71100 ∷ 0 ∷ 71100 ∷ 0 ∷ 0 ∷ 0 ∷ 0 ∷ 1889 ∷ 667 ∷ 0 ∷ 0 ∷ 52546 ∷ 18554 ∷ 0 ∷ [])
+    ∷ entry (settledLow (calmAt 3000 25000 (windRow 4 1 ∷ [])))
+    (0 ∷ 200 ∷ 400 ∷ 90000 ∷ 89994 ∷ 90000 ∷ 0 ∷ 0 ∷ 0 ∷ 0 ∷ 0 ∷ 0 ∷ 1 ∷ 0 ∷ 0 ∷ 0 ∷ 6 ∷ [])
+    -- a unit a kWh above half load; nothing needed; no thermal row
+    ∷ entry (settledLow (calmAt 3000 25001 [])) (0 ∷ 200 ∷ 400 ∷ 90000 ∷ 8747 ∷ 90000 ∷ 0 ∷ 0 ∷ 0 ∷ 1 ∷ 0 ∷ 0 ∷ 81253 ∷ 0 ∷ [])
+    ∷ entry (settledLow (calmAt 0 25000 [])) (0 ∷ 0 ∷ 0 ∷ 0 ∷ 0 ∷ 0 ∷ 0 ∷ 0 ∷ 0 ∷ 0 ∷ 0 ∷ 0 ∷ 0 ∷ 0 ∷ [])
+    ∷ entry (settledLow (fileOf 0 1300 3000 (windRow 1 0 ∷ []))) (0 ∷ 0 ∷ 0 ∷ 0 ∷ 0 ∷ 0 ∷ 0 ∷ 0 ∷ [])
+    -- an average of 8,333, below 40 percent: tier 1 pays nobody, tier 2 from there down; row 3 closes
+    ∷ entry (settledLow (threeLow 7000 8500 9500)) (1 ∷ 0 ∷ 400 ∷ 53320 ∷ 0 ∷ 53320 ∷ 0 ∷ 0 ∷ 0 ∷ 167 ∷ 1167 ∷ 0 ∷ 22445 ∷ 30875 ∷ [])
+    -- an average of 10,000, at which row 3 is
+    ∷ entry (settledLow (threeLow 9000 11000 10000)) (1 ∷ 0 ∷ 400 ∷ 40000 ∷ 4250 ∷ 40000 ∷ 0 ∷ 0 ∷ 0 ∷ 1000 ∷ 0 ∷ 0 ∷ 35750 ∷ 0 ∷ [])
+    -- all at half load: nobody is below the average, and nobody weighs
+    ∷ entry (settledLow (threeLow 12500 12500 12500)) (1 ∷ 0 ∷ 0 ∷ 0 ∷ 0 ∷ 0 ∷ 0 ∷ 0 ∷ 0 ∷ 0 ∷ 0 ∷ 0 ∷ 0 ∷ 0 ∷ [])
+    -- an average of 10,800 by units of every status. Row 3 is above it and does not pay; row 2 owes for 2,200 and 2,000 kWh
+    ∷ entry (settledLow lowStatuses) (1 ∷ 200 ∷ 400 ∷ 56000 ∷ 19272 ∷ 56000 ∷ 0 ∷ 0 ∷ 0 ∷ 0 ∷ 0 ∷ 0 ∷ 501 ∷ 0 ∷ 0 ∷ 0 ∷ 36728 ∷ [])
+    ∷ entry (told line.penalty lowStatuses ++ told line.returned lowStatuses) (0 ∷ 248000 ∷ 0 ∷ 0 ∷ 0 ∷ 228728 ∷ 0 ∷ 0 ∷ [])
+    -- called for 2,500 and 500 kWh, delivered 750 and 1,000 from an average of 10,750: too much in tier 2 does not make up for tier 1
+    ∷ entry (settledLow lowReduced) (1 ∷ 200 ∷ 400 ∷ 55000 ∷ 0 ∷ 55000 ∷ 0 ∷ 0 ∷ 0 ∷ 0 ∷ 0 ∷ 1750 ∷ 1750 ∷ 0 ∷ 0 ∷ 27500 ∷ 27500 ∷ [])
+    ∷ entry (told line.penalty lowReduced ++ told line.returned lowReduced) (0 ∷ 70000 ∷ 0 ∷ 0 ∷ 0 ∷ 70000 ∷ 0 ∷ 0 ∷ [])
+    -- at 45 percent: the unit of 101 MW at its baseline, 11,362 and a half, cut; and a kWh above it
+    ∷ entry (settledLow (lowStated 11362)) (1 ∷ 200 ∷ 400 ∷ 42600 ∷ 5674 ∷ 42600 ∷ 0 ∷ 0 ∷ 0 ∷ 1131 ∷ 0 ∷ 0 ∷ 36926 ∷ 0 ∷ [])
+    ∷ entry (settledLow (lowStated 11363)) (0 ∷ 200 ∷ 400 ∷ 65000 ∷ 28071 ∷ 65000 ∷ 0 ∷ 0 ∷ 0 ∷ 1 ∷ 0 ∷ 0 ∷ 36929 ∷ 0 ∷ [])
     ∷ []

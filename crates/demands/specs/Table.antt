@@ -28,9 +28,9 @@ intervalX tariff =
 unfoldable pub settledX : ℕ → List ℕ
 settledX tariff =
     let s = intervalX tariff in
-    let out = bufferAfter s [] (replicate 165 255) in
+    let out = bufferAfter s [] (replicate 166 255) in
     let h = headIn out in
-    numberOf (answerOf s [] 165) ∷ valueOf (answerOf s [] 165) ∷ h .total .0 ∷ cell line.paid out 1 ∷ cell line.paid out 2
+    numberOf (answerOf s [] 166) ∷ valueOf (answerOf s [] 166) ∷ h .total .0 ∷ cell line.paid out 1 ∷ cell line.paid out 2
     ∷ h .rounds ∷ h .shortfall .0 ∷ []
 
 -- one line of the table: what is worked out, and what the paper says
@@ -52,11 +52,11 @@ twoBands =
 -- P1 to P11 in order
 unfoldable pub figuresTable : List Entry
 figuresTable =
-    entry (settledX 3545) (0 ∷ 165 ∷ 90000 ∷ 67500 ∷ 22500 ∷ 0 ∷ 0 ∷ [])
-    ∷ entry (settledX 1350) (0 ∷ 165 ∷ 90000 ∷ 67500 ∷ 22500 ∷ 1 ∷ 0 ∷ [])
-    ∷ entry (settledX 1300) (0 ∷ 165 ∷ 90000 ∷ 65000 ∷ 25000 ∷ 1 ∷ 0 ∷ [])
-    ∷ entry (settledX 1200) (0 ∷ 165 ∷ 90000 ∷ 60000 ∷ 30000 ∷ 2 ∷ 0 ∷ [])
-    ∷ entry (settledX 1000) (0 ∷ 165 ∷ 90000 ∷ 50000 ∷ 25000 ∷ 2 ∷ 15000 ∷ [])
+    entry (settledX 3545) (0 ∷ 166 ∷ 90000 ∷ 67500 ∷ 22500 ∷ 0 ∷ 0 ∷ [])
+    ∷ entry (settledX 1350) (0 ∷ 166 ∷ 90000 ∷ 67500 ∷ 22500 ∷ 1 ∷ 0 ∷ [])
+    ∷ entry (settledX 1300) (0 ∷ 166 ∷ 90000 ∷ 65000 ∷ 25000 ∷ 1 ∷ 0 ∷ [])
+    ∷ entry (settledX 1200) (0 ∷ 166 ∷ 90000 ∷ 60000 ∷ 30000 ∷ 2 ∷ 0 ∷ [])
+    ∷ entry (settledX 1000) (0 ∷ 166 ∷ 90000 ∷ 50000 ∷ 25000 ∷ 2 ∷ 15000 ∷ [])
     ∷ entry
     (weight100 12500 ∷ weight100 15000 ∷ weight100 15001 ∷ weight100 17500 ∷ weight100 17501 ∷ weight100 27500 ∷ [])
     (0 ∷ 2500 ∷ 2502 ∷ 7500 ∷ 7503 ∷ 37500 ∷ [])

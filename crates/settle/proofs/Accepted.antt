@@ -2,7 +2,7 @@
 --   first-is, first-inside     the position that goes first is one of the rows, unless there is none
 --   rows-ranged        the rows that count are in their ranges
 --   duties-within      the columns of duties are within sizes
-use Prim.Native.Nat.{ℕ, _%_, _<_}
+use Prim.Native.Nat.{ℕ, _%_, _≤_, _<_}
 use mathlib.Core.Path.{_≡_}
 use mathlib.Core.List.{List}
 use native.Mathlib.Nat.{mod-lt}
@@ -16,9 +16,10 @@ use Rattle.files.specs.Counting.{countingRow}
 use Rattle.files.specs.declared.Verdict.the-variants.{Accepted}
 use Rattle.files.proofs.Ranges.{HeadRanges, RowRanges}
 use Rattle.files.proofs.Laws.{accepted-head, accepted-few, accepted-sound, accepted-ranges, accepted-count}
-use Rattle.duties.proofs.Laws.{duties-level, duties-sized, bids-apart}
+use Rattle.duties.proofs.Laws.{baseline-most, duties-level, duties-sized, bids-apart}
+use Rattle.duties.proofs.Reached.{base-under}
 use Rattle.settle.specs.Settlement.{firstTurn}
-use Rattle.settle.specs.Answer.{dutiesIn}
+use Rattle.settle.specs.Answer.{averageIn, limitIn, baseIn, dutiesIn}
 use Rattle.settle.specs.Within.{Turn, Within}
 
 pub first-is : (quarter n : ℕ) → 0 < n → firstTurn quarter n ≡ quarter % n
@@ -35,16 +36,29 @@ module _ (s k : List ℕ) (n : ℕ) (h : verdictOf s k ≡ Accepted n) where
   pub rows-ranged : Below (rowCount s) (λ i. RowRanges (termsOf s) (countingRow s k i))
   rows-ranged i l = accepted-ranges s k n h i (omega (arith, accepted-count s k n h))
 
+  limits : Below (rowCount s) (λ i. limitIn s k i ≤ 250000)
+  limits i l = baseline-most (termsOf s) (accepted-sound s k n h) (countingRow s k i) (rows-ranged i l)
+
+  bases : Below (rowCount s) (λ i. baseIn s k i ≤ 250000)
+  unfolding averageIn
+  bases i l =
+      omega (
+        arith,
+        limits i l,
+        base-under (termsOf s) (headAt s .need .0) (rowCount s) (countingRow s k) rows-ranged (countingRow s k i .capacity),
+      )
+
   pub duties-within : Within (rowCount s) (dutiesIn s k)
   unfolding dutiesIn
   duties-within =
       let t = termsOf s in
       let tariff = headAt s .tariff .0 in
       let sound = accepted-sound s k n h in
-      let sized = duties-sized t tariff (rowCount s) (countingRow s k) sound (head .tariff-high) rows-ranged in
+      let sized =
+      duties-sized (limitIn s k) (baseIn s k) tariff (rowCount s) (countingRow s k) t sound (head .tariff-high) rows-ranged limits bases in
       record {
         few = omega (arith, accepted-few s k n h, accepted-count s k n h);
-        level = duties-level t tariff (rowCount s) (countingRow s k);
+        level = duties-level (limitIn s k) (baseIn s k) tariff (rowCount s) (countingRow s k);
         narrow1 = sized .widths1;
         narrow2 = sized .widths2;
         delivered = sized .energies;
@@ -54,5 +68,6 @@ module _ (s k : List ℕ) (n : ℕ) (h : verdictOf s k ≡ Accepted n) where
         low2 = sized .bids2;
         credited1 = sized .credits1;
         credited2 = sized .credits2;
-        apart = bids-apart t tariff (rowCount s) (countingRow s k) sound (head .tariff-high) rows-ranged;
+        apart =
+            bids-apart (limitIn s k) (baseIn s k) tariff (rowCount s) (countingRow s k) t sound (head .tariff-high) rows-ranged limits bases;
       }

@@ -2,7 +2,7 @@
 --   files-stop, room-stop, none-stop     which check comes first, by the files' verdict and the buffer's length
 --   settle-numbers             every check gives a number of refusal
 --   accepted-free              no check of the files applies to an accepted pair, and it has as many rows as its head says
---   settled-count              a statement of n rows has 39 + 42n bytes, and 9 more with terms
+--   settled-count              a statement of n rows has 40 + 42n bytes, and 9 more with terms
 --   told                       the verdict that was matched on
 --   refusal-told, refusal-left     the files are refused: the answer, and the buffer
 --   short-told, short-left         the buffer is too short: the same

@@ -9,13 +9,12 @@ use mathlib.Core.Path.{_≡_, sym, ap, _∙_}
 use mathlib.Core.List.{List, []}
 use native.Mathlib.Omega.{arith}
 use lib.ListN.{length}
-use Rattle.columns.specs.Sum.{whole}
+use Rattle.columns.specs.Sum.{bit, whole}
 use Rattle.columns.specs.Table.{at}
 use Rattle.columns.proofs.Table.{table-at}
 use Rattle.records.proofs.Sheet.{sheet-same}
 use Rattle.units.specs.declared.Fen.{Fen}
 use Rattle.files.specs.Layout.{headAt, rowCount}
-use Rattle.files.specs.Form.{termsOf}
 use Rattle.files.specs.Order.{verdictOf}
 use Rattle.files.specs.Counting.{countingRow}
 use Rattle.files.specs.declared.Head.{Head}
@@ -31,7 +30,7 @@ use Rattle.statement.specs.Statement.{letterL, lineWidths, headSize, lineStart}
 use Rattle.statement.specs.declared.StatementHead.{StatementHead}
 use Rattle.settle.specs.Settlement.{firstTurn, Figures, figures}
 use Rattle.settle.specs.Statement.{statementHead, lineOf}
-use Rattle.settle.specs.Answer.{dutiesIn, figuresOf, topOf, lineIn}
+use Rattle.settle.specs.Answer.{averageIn, limitIn, baseIn, dutiesIn, figuresOf, topOf, lineIn}
 use Rattle.settle.specs.Within.{Turn, Within}
 use Rattle.settle.specs.Work.{lined, rowLine, tierOne, tierTwo, Offered, Called, Tradable, Traded, Accountable, Accounted, Leviable, Levied, dividedTo, Divisible}
 use Rattle.settle.specs.declared.market.Accounts.{Accounts}
@@ -41,7 +40,7 @@ use Rattle.settle.proofs.Accepted.{first-inside, duties-within}
 use Rattle.settle.proofs.Staged as stage
 
 module _ (s k : List ℕ) (n : ℕ) (ok : verdictOf s k ≡ Accepted n) (out : List ℕ) (room : lineStart n ≤ length out) (h : Head) (is : h ≡ headAt s)
-    (first : ℕ) (goes : first ≡ firstTurn (h .quarter) n) where
+    (first : ℕ) (goes : first ≡ firstTurn (h .quarter) n) (flag : ℕ) (flagged : flag ≡ bit (averageIn s k .rules)) where
   count : rowCount s ≡ n
   count = sym (accepted-count s k n ok)
 
@@ -76,28 +75,29 @@ module _ (s k : List ℕ) (n : ℕ) (ok : verdictOf s k ≡ Accepted n) (out : L
   L0 = stage.lines0 n d within need first turn id out room
 
   -- a row's line is that of the columns
-  row-line : (i : ℕ) → i < n → rowLine (headAt s .tariff .0) s k i ≡ L0 i
+  row-line : (i : ℕ) → i < n → rowLine (headAt s .tariff .0) (averageIn s k) s k i ≡ L0 i
   unfolding dutiesIn dutiesOf dutyOf
-  row-line i l =
-      let t = termsOf s in
+  row-line i inside =
+      let l = limitIn s k in
+      let b = baseIn s k in
       let r = countingRow s k in
       let m : i < rowCount s = omega (arith, count) in
       rw (
-        table-at 0 (rowCount s) (λ j. width1 t (r j)) i m,
-        table-at 0 (rowCount s) (λ j. width2 t (r j)) i m,
-        table-at 0 (rowCount s) (λ j. energy1 t (r j)) i m,
-        table-at 0 (rowCount s) (λ j. energy2 t (r j)) i m,
-        table-at 0 (rowCount s) (λ j. weight t (r j)) i m,
-        table-at 0 (rowCount s) (λ j. cap t (headAt s .tariff .0) (r j)) i m,
+        table-at 0 (rowCount s) (λ j. width1 (l j) (r j)) i m,
+        table-at 0 (rowCount s) (λ j. width2 (r j)) i m,
+        table-at 0 (rowCount s) (λ j. energy1 (b j) (r j)) i m,
+        table-at 0 (rowCount s) (λ j. energy2 (b j) (r j)) i m,
+        table-at 0 (rowCount s) (λ j. weight (b j) (r j)) i m,
+        table-at 0 (rowCount s) (λ j. cap (b j) (headAt s .tariff .0) (r j)) i m,
         table-at 0 (rowCount s) (λ j. r j .bid2 .0) i m,
         table-at 0 (rowCount s) (λ j. r j .bid1 .0) i m,
-        table-at 0 (rowCount s) (λ j. credit1 t (r j)) i m,
-        table-at 0 (rowCount s) (λ j. credit2 t (r j)) i m,
+        table-at 0 (rowCount s) (λ j. credit1 (l j) (b j) (r j)) i m,
+        table-at 0 (rowCount s) (λ j. credit2 (b j) (r j)) i m,
       )
 
-  module _ (t0 : List ℕ) (read : t0 ≡ lined out n (rowLine (headAt s .tariff .0) s k)) where
+  module _ (t0 : List ℕ) (read : t0 ≡ lined out n (rowLine (headAt s .tariff .0) (averageIn s k) s k)) where
     read-lines : t0 ≡ lined out n L0
-    read-lines = read ∙ sheet-same headSize letterL lineWidths out n (rowLine (headAt s .tariff .0) s k) L0 row-line
+    read-lines = read ∙ sheet-same headSize letterL lineWidths out n (rowLine (headAt s .tariff .0) (averageIn s k) s k) L0 row-line
 
     asked-1 : Offered n first tierOne t0
     asked-1 = rw read-lines (stage.called1-asked n d within need first turn id out room)
@@ -213,6 +213,7 @@ module _ (s k : List ℕ) (n : ℕ) (ok : verdictOf s k ≡ Accepted n) (out : L
                       uncovered = c2 .left;
                       rows = n;
                       visits = r .visits;
+                      averaged = flag;
                     })
                     (topOf s k)
                 unfolding topOf statementHead
@@ -228,8 +229,9 @@ module _ (s k : List ℕ) (n : ℕ) (ok : verdictOf s k ≡ Accepted n) (out : L
                       uncovered = record { 0 = left-2 j };
                       rows = n;
                       visits = visits-5 j;
+                      averaged = flagged j;
                     })
-                    ∙ (λ j. statementHead (headAt s) (sym count j) (figures-are j))
+                    ∙ (λ j. statementHead (headAt s) (sym count j) (averageIn s k .rules) (figures-are j))
 
     -- ---- the same by the market that both tiers leave
 
@@ -275,6 +277,7 @@ module _ (s k : List ℕ) (n : ℕ) (ok : verdictOf s k ≡ Accepted n) (out : L
                   uncovered = m .uncovered;
                   rows = n;
                   visits = r .visits;
+                  averaged = flag;
                 })
                 (topOf s k)
             top-told =

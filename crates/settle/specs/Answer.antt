@@ -10,7 +10,10 @@ use Rattle.files.specs.Form.{states, termsOf, formOf}
 use Rattle.columns.specs.Checks.{Refusal, refusal, firstRefusal, answerBy}
 use Rattle.files.specs.Order.{fileOrder}
 use Rattle.files.specs.Counting.{countingRow}
+use Rattle.files.specs.Terms.{baseline}
+use Rattle.duties.specs.Average.{averageOf, baseOf}
 use Rattle.duties.specs.Duties.{Duties, dutiesOf}
+use Rattle.duties.specs.declared.average.Average.{Average}
 use Rattle.statement.specs.Statement.{lineStart, extraOf}
 use Rattle.statement.specs.declared.StatementHead.{StatementHead}
 use Rattle.settle.specs.Settlement.{Figures, firstTurn, figures}
@@ -18,9 +21,20 @@ use Rattle.settle.specs.Statement.{statementHead, lineOf, statementBytes
 use Rattle.settle.specs.declared.Answer.{Answer}
 use Rattle.settle.specs.declared.Answer.the-variants.{Settled, Refused}
 
--- what the rows of an accepted pair of files offer, delivered, weigh and may be asked to pay
+-- whether the thermal average rules an accepted pair of files, and by which sums
+unfoldable pub averageIn : List ℕ → List ℕ → Average
+averageIn s k = averageOf (termsOf s) (headAt s .need .0) (rowCount s) (countingRow s k)
+
+-- the limit of row i, and its base
+abbrev pub limitIn : List ℕ → List ℕ → ℕ → ℕ
+limitIn s k i = baseline (termsOf s) (countingRow s k i .capacity)
+
+abbrev pub baseIn : List ℕ → List ℕ → ℕ → ℕ
+baseIn s k i = baseOf (termsOf s) (averageIn s k) (countingRow s k i .capacity)
+
+-- what the rows of an accepted pair offer, delivered, weigh and may be asked to pay
 unfoldable pub dutiesIn : List ℕ → List ℕ → Duties
-dutiesIn s k = dutiesOf (termsOf s) (headAt s .tariff .0) (rowCount s) (countingRow s k)
+dutiesIn s k = dutiesOf (limitIn s k) (baseIn s k) (headAt s .tariff .0) (rowCount s) (countingRow s k)
 
 -- the figures of an accepted pair
 unfoldable pub figuresOf : List ℕ → List ℕ → Figures
@@ -28,7 +42,7 @@ figuresOf s k = figures (headAt s .need .0) (firstTurn (headAt s .quarter) (rowC
 
 -- what the head of its statement says beside terms, and the fields of line i
 unfoldable pub topOf : List ℕ → List ℕ → StatementHead
-topOf s k = statementHead (headAt s) (rowCount s) (figuresOf s k)
+topOf s k = statementHead (headAt s) (rowCount s) (averageIn s k .rules) (figuresOf s k)
 
 unfoldable pub lineIn : List ℕ → List ℕ → ℕ → List ℕ
 lineIn s k i = lineOf (countingRow s k i .id) (figuresOf s k) i

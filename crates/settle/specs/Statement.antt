@@ -1,6 +1,8 @@
--- The statement that the figures make (01, The files; 02, requests 4, 6 and 8).
+-- The statement that the figures make (01, The files; 02, requests 4, 6, 8 and 9).
 use Prim.Native.Nat.{ℕ}
+use mathlib.Core.Bool.{Bool}
 use mathlib.Core.List.{List, [], _∷_, _++_}
+use Rattle.columns.specs.Sum.{bit}
 use Rattle.columns.specs.Table.{at, table}
 use Rattle.records.specs.Record.{recordsBytes}
 use Rattle.files.specs.declared.Form.{Form}
@@ -9,9 +11,9 @@ use Rattle.statement.specs.Statement.{letterL, lineWidths, topBytes}
 use Rattle.statement.specs.declared.StatementHead.{StatementHead}
 use Rattle.settle.specs.Settlement.{Figures}
 
--- the head
-unfoldable pub statementHead : Head → ℕ → Figures → StatementHead
-statementHead h n f =
+-- the head, by the head of the file, the count of rows, whether the thermal average ruled, and the figures
+unfoldable pub statementHead : Head → ℕ → Bool → Figures → StatementHead
+statementHead h n averaged f =
     record {
       day = h .day;
       quarter = h .quarter;
@@ -23,6 +25,7 @@ statementHead h n f =
       uncovered = record { 0 = f .uncovered };
       rows = n;
       visits = f .visits;
+      averaged = bit averaged;
     }
 
 -- the fields of the line of the row at position i, which has this id

@@ -7,12 +7,15 @@ use mathlib.Core.List.{List, [], _∷_}
 use lib.Dec.{eqb}
 use lib.ListN.{length, take}
 use Rattle.columns.specs.Sum.{whole}
-use Rattle.columns.specs.Table.{at, table}
+use Rattle.columns.specs.Table.{at, table, Below}
 use Rattle.records.specs.Sheet.{Lined, cell, columnOf, withColumn, fieldOf, sheet}
 use Rattle.records.specs.declared.Field.{Field}
 use Rattle.files.specs.Form.{termsOf, rowsFrom}
-use Rattle.files.specs.Counting.{countingRow}
+use Rattle.files.specs.Terms.{baseline}
+use Rattle.files.specs.Counting.{sourceOf, countingRow}
+use Rattle.duties.specs.Average.{baseOf}
 use Rattle.duties.specs.Duty.{dutyOf}
+use Rattle.duties.specs.declared.average.Average.{Average}
 use Rattle.duties.specs.declared.Duty.{Duty}
 use Rattle.merit.specs.OneTier.{tierCalls}
 use Rattle.merit.specs.Price.{price}
@@ -52,9 +55,16 @@ dutyLine id d =
     id ∷ d .width1 .0 ∷ d .width2 .0 ∷ d .energy1 .0 ∷ d .energy2 .0 ∷ d .weight .0 ∷ d .cap .0 ∷ d .bid2 .0 ∷ d .bid1 .0
     ∷ d .credit1 .0 ∷ d .credit2 .0 ∷ []
 
--- that of the row that counts at position i
-abbrev pub rowLine : ℕ → List ℕ → List ℕ → ℕ → List ℕ
-rowLine tariff s k i = dutyLine (countingRow s k i .id) (dutyOf (termsOf s) tariff (countingRow s k i))
+-- that of the row that counts at position i, by the average that rules
+abbrev pub rowLine : ℕ → Average → List ℕ → List ℕ → ℕ → List ℕ
+rowLine tariff a s k i =
+    let r = countingRow s k i in
+    dutyLine (r .id) (dutyOf (baseline (termsOf s) (r .capacity)) (baseOf (termsOf s) a (r .capacity)) tariff r)
+
+-- an array says where each of the n rows stands that count
+pub record Sourced (n : ℕ) (s k sources : List ℕ) : Type 0 where
+  pub long : length sources ≡ 256
+  pub each : Below n (λ i. at sources i ≡ sourceOf s k i)
 
 -- the sheet has n lines, as far as a field goes
 pub record Ruled (n : ℕ) (f : Field) (s : List ℕ) : Type 0 where

@@ -41,7 +41,7 @@ pub fn write_lines<'a>(
     ensures { λ r. ⌜ r ≡ topOf (now (interval .entry)) (now (correction .entry)) ⌝ }
     ensures { λ _. ⌜ now (sheet .exit) ≡ lined (now (sheet .entry)) n (lineIn (now (interval .entry)) (now (correction .entry))) ⌝ }
 {
-    read(interval, correction, form, n, sheet);
+    let averaged = read(interval, correction, form, n, sheet);
     let head = files::head_at(interval);
     let need = head.need;
     let first = first_turn(head.quarter, n);
@@ -68,5 +68,6 @@ pub fn write_lines<'a>(
         uncovered,
         rows,
         visits: rest.visits,
+        averaged,
     }
 }

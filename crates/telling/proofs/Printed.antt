@@ -34,8 +34,8 @@ use Rattle.telling.specs.Text.{room, numberMost, lineMost, textMost, ref
 use Rattle.telling.proofs.Texts.{placed-none, placed-after}
 use Rattle.telling.proofs.Size.{settled-is, settled-terms, settled-whole}
 
-pub fields-lent : (n : ℕ) → n ≤ 15 → length (take {A = ℕ} n (replicate 15 0)) ≡ n
-fields-lent n l = length-take-le n (replicate 15 0) l
+pub fields-lent : (n : ℕ) → n ≤ 16 → length (take {A = ℕ} n (replicate 16 0)) ≡ n
+fields-lent n l = length-take-le n (replicate 16 0) l
 
 pub record-placed : (l l′ fields ws b : List ℕ) (from end k : ℕ) → fields ≡ recordAt ws b k
     → Placed l l′ from (lineText fields) end lineMost → Placed l l′ from (lineText (recordAt ws b k)) end lineMost

@@ -85,7 +85,7 @@ pub text-next : (i : ℕ) (fields : List ℕ) → textTo (i + 1) fields ≡ text
 unfolding textTo
 text-next i fields = rw add-one
 
-pub fields-more : (l l′ l″ fields : List ℕ) (from at i end e : ℕ) → i < length fields → length fields ≤ 15 → from + lineMost ≤ length l
+pub fields-more : (l l′ l″ fields : List ℕ) (from at i end e : ℕ) → i < length fields → length fields ≤ 16 → from + lineMost ≤ length l
     → Placed l l′ from (textTo i fields) at (i * numberMost) → e ≡ endOf (length fields) i
     → Placed l′ l″ at (decimal (getD fields i 0) ++ (e ∷ [])) end numberMost
     → Placed l l″ from (textTo (i + 1) fields) end ((i + 1) * numberMost)
@@ -94,7 +94,7 @@ fields-more l l′ l″ fields from at i end e inside few room p q r =
     rw (text-next i fields)
     (placed-after l l′ l″ (textTo i fields) new from at end (i * numberMost) numberMost ((i + 1) * numberMost) (omega arith) (omega arith) p (rw q at r))
 
-pub fields-all : (l l′ fields : List ℕ) (from at i : ℕ) → i ≤ length fields → length fields ≤ i → length fields ≤ 15
+pub fields-all : (l l′ fields : List ℕ) (from at i : ℕ) → i ≤ length fields → length fields ≤ i → length fields ≤ 16
     → Placed l l′ from (textTo i fields) at (i * numberMost) → Placed l l′ from (lineText fields) at lineMost
 fields-all l l′ fields from at i h k few p =
     let e : i ≡ length fields = omega arith in

@@ -9,7 +9,7 @@ use lib.ListN.{length, getD}
 use Rattle.records.specs.Buffer.{put}
 use Rattle.records.specs.Record.{recordAt}
 use Rattle.files.specs.Form.{termsWidths, termsSize}
-use Rattle.statement.specs.Statement.{frontWidths, visitsWidth, lineWidths, headSize, lineSize, lineStart, hasTerms, extraIn, bodyIn}
+use Rattle.statement.specs.Statement.{frontWidths, tailWidths, lineWidths, headSize, lineSize, lineStart, hasTerms, extraIn, bodyIn}
 use Rattle.settle.specs.Answer.{statementOf, answerOf}
 use Rattle.settle.specs.declared.Answer.{Answer}
 use Rattle.settle.specs.declared.Answer.the-variants.{Settled, Refused}
@@ -48,7 +48,7 @@ linesIn b = (length (bodyIn b) - headSize) / lineSize
 
 -- the widths of a whole head's fields, without terms or with them, and the text of a statement's head, by its mark
 abbrev pub headWidths : Bool → List ℕ
-headWidths terms = frontWidths ++ (cond terms termsWidths [] ++ (visitsWidth ∷ []))
+headWidths terms = frontWidths ++ (cond terms termsWidths [] ++ tailWidths)
 
 unfoldable pub headText : List ℕ → List ℕ
 headText b = lineText (recordAt (headWidths (hasTerms b)) b 0)
@@ -90,13 +90,13 @@ pub record Placed (before after : List ℕ) (from : ℕ) (text : List ℕ) (end 
   pub end-is : end ≡ from + length text
   pub fits : end ≤ from + most
 
--- how many bytes a number takes at most with the one after it, a record's line of at most fifteen of them, a statement's text and a
+-- how many bytes a number takes at most with the one after it, a record's line of at most sixteen of them, a statement's text and a
 -- refusal's
 abbrev pub numberMost : ℕ
 numberMost = 20 + 1
 
 abbrev pub lineMost : ℕ
-lineMost = 15 * numberMost
+lineMost = 16 * numberMost
 
 abbrev pub textMost : ℕ
 textMost = (1 + 256) * lineMost

@@ -1,18 +1,16 @@
 -- `settle::rows::read_corrected` meets its contract: the lines of the rows passed are put.
 use Prim.Native.Nat.{_-_}
-use Rattle.settle.proofs.Reading.{Sofar, sofar-none, source-inside, source-is, line-room, sofar-more, sofar-long, sofar-all}
+use Rattle.duties.specs.Average.{usual}
+use Rattle.settle.proofs.Reading.{Sofar, sofar-none, source-room, source-at-row, line-room, sofar-more, sofar-long, sofar-all}
 use borrow.Author.Needs.{needs}
 use Rattle.settle.proofs.rows.read_corrected.Statement.{statement}
 use Rattle.settle.proofs.rows.read_corrected.Tie as tie
 
 abbrev Inv-loop : tie.InvT-loop
-Inv-loop interval correction n job sheet₀ sources i₀ sheet i = Sofar n (job .tariff .0) interval correction sheet₀ sheet i
+Inv-loop interval correction n sources job sheet₀ i₀ sheet i = Sofar n (job .tariff .0) usual interval correction sheet₀ sheet i
 
 abbrev μ-loop : tie.MeasureT-loop
-μ-loop interval correction n job sheet₀ sources i₀ sheet i = n - i
-
-sources-requires : tie.Need-sources-requires Inv-loop μ-loop
-sources-requires c κs = search needs
+μ-loop interval correction n sources job sheet₀ i₀ sheet i = n - i
 
 loop-holds : tie.Need-loop-holds Inv-loop μ-loop
 loop-holds c = search sofar-none
@@ -20,11 +18,11 @@ loop-holds c = search sofar-none
 mul-read-row : tie.Need-mul-read-row Inv-loop μ-loop
 mul-read-row c = search needs
 
-array-read-read-row : tie.Need-array-read-read-row Inv-loop μ-loop
-array-read-read-row c = search source-inside
+element-copy-out-read-row : tie.Need-element-copy-out-read-row Inv-loop μ-loop
+element-copy-out-read-row c = search source-room
 
 read-row-requires : tie.Need-read-row-requires Inv-loop μ-loop
-read-row-requires c κs = search (source-is, line-room)
+read-row-requires c κs = search (source-at-row, line-room)
 
 add-i : tie.Need-add-i Inv-loop μ-loop
 add-i c = search needs
@@ -47,10 +45,9 @@ read-corrected-spec =
     (tie.spec
     Inv-loop
     μ-loop
-    sources-requires
     loop-holds
     mul-read-row
-    array-read-read-row
+    element-copy-out-read-row
     read-row-requires
     add-i
     loop-less

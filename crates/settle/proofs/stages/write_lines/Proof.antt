@@ -46,7 +46,7 @@ trade-requires c κs =
     let h = before-first-turn o in
     let r = before-head-at h in
     let p = r .before .before .before .before .before .pre in
-    asked-trade _ _ _ (p .0 .0) _ (p .1) _ (h .head-at .ensures) _ (o .first-turn .ensures) _ (r .read .ensures)
+    asked-trade _ _ _ (p .0 .0) _ (p .1) _ (h .head-at .ensures) _ (o .first-turn .ensures) _ (r .read .ensures .0) _ (r .read .ensures .1)
 
 account-requires : tie.Need-account-requires
 account-requires c κs =
@@ -55,7 +55,7 @@ account-requires c κs =
     let h = before-first-turn o in
     let r = before-head-at h in
     let p = r .before .before .before .before .before .pre in
-    asked-account _ _ _ (p .0 .0) _ (p .1) _ (h .head-at .ensures) _ (o .first-turn .ensures) _ (r .read .ensures) _ _ (a .trade .ensures)
+    asked-account _ _ _ (p .0 .0) _ (p .1) _ (h .head-at .ensures) _ (o .first-turn .ensures) _ (r .read .ensures .0) _ (r .read .ensures .1) _ _ (a .trade .ensures)
 
 collect-requires : tie.Need-collect-requires
 collect-requires c κs =
@@ -65,7 +65,7 @@ collect-requires c κs =
     let h = before-first-turn o in
     let r = before-head-at h in
     let p = r .before .before .before .before .before .pre in
-    asked-levy _ _ _ (p .0 .0) _ (p .1) _ (h .head-at .ensures) _ (o .first-turn .ensures) _ (r .read .ensures) _ _ (a .trade .ensures) _ _
+    asked-levy _ _ _ (p .0 .0) _ (p .1) _ (h .head-at .ensures) _ (o .first-turn .ensures) _ (r .read .ensures .0) _ (r .read .ensures .1) _ _ (a .trade .ensures) _ _
     (e .account .ensures)
 
 shortfall-requires : tie.Need-shortfall-requires
@@ -85,7 +85,7 @@ divide-requires c κs =
     let h = before-first-turn o in
     let r = before-head-at h in
     let p = r .before .before .before .before .before .pre in
-    asked-divide _ _ _ (p .0 .0) _ (p .1) _ (h .head-at .ensures) _ (o .first-turn .ensures) _ (r .read .ensures) _ _ (a .trade .ensures) _ _
+    asked-divide _ _ _ (p .0 .0) _ (p .1) _ (h .head-at .ensures) _ (o .first-turn .ensures) _ (r .read .ensures .0) _ (r .read .ensures .1) _ _ (a .trade .ensures) _ _
     (e .account .ensures) _ _ (g .collect .ensures) _ (q .shortfall .ensures) _ (v .cover .ensures)
 
 cast-rows : tie.Need-cast-rows
@@ -106,9 +106,9 @@ returns c =
     let h = before-first-turn o in
     let r = before-head-at h in
     let p = r .before .before .before .before .before .pre in (
-      top-told _ _ _ (p .0 .0) _ (p .1) _ (h .head-at .ensures) _ (o .first-turn .ensures) _ (r .read .ensures) _ _ (a .trade .ensures) _ _
+      top-told _ _ _ (p .0 .0) _ (p .1) _ (h .head-at .ensures) _ (o .first-turn .ensures) _ (r .read .ensures .0) _ (r .read .ensures .1) _ _ (a .trade .ensures) _ _
           (e .account .ensures) _ _ (g .collect .ensures) _ (q .shortfall .ensures) _ (v .cover .ensures) _ (w .divide .ensures),
-      lines-told _ _ _ (p .0 .0) _ (p .1) _ (h .head-at .ensures) _ (o .first-turn .ensures) _ (r .read .ensures) _ _ (a .trade .ensures) _ _
+      lines-told _ _ _ (p .0 .0) _ (p .1) _ (h .head-at .ensures) _ (o .first-turn .ensures) _ (r .read .ensures .0) _ (r .read .ensures .1) _ _ (a .trade .ensures) _ _
           (e .account .ensures) _ _ (g .collect .ensures) _ (q .shortfall .ensures) _ (v .cover .ensures) _ (w .divide .ensures),
     )
 
