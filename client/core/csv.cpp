@@ -164,10 +164,11 @@ void put_row(Sheet &sheet, const std::optional<Row> &row) {
 }
 
 Heads terms_heads() {
-    return {Word::csv_baseline, Word::csv_limit_1, Word::csv_limit_2, Word::csv_limit_3, Word::csv_limit_4};
+    return {Word::csv_baseline, Word::csv_limit_1, Word::csv_limit_2,
+            Word::csv_limit_3,  Word::csv_limit_4, Word::csv_averaged};
 }
 
-// The terms that ruled, stated or not; none where nothing was settled.
+// The terms that ruled, stated or not, and whether the thermal average did; none where nothing was settled.
 void put_terms(Sheet &sheet, const QuarterRead &quarter) {
     if (!quarter.statement) {
         sheet.blank(terms_heads().size());
@@ -178,6 +179,7 @@ void put_terms(Sheet &sheet, const QuarterRead &quarter) {
     for (const Li limit : terms.limits) {
         sheet.number(limit.count);
     }
+    sheet.number(quarter.statement->is_averaged() ? 1 : 0);
 }
 
 std::string hash_of(const File &file) {

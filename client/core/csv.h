@@ -10,7 +10,8 @@
 //   head: its first field says so in both tongues and names the files, all others are empty. So the head is the first
 //   record whose first field is "date 日期", and it is the first or second.
 // - The terms under which a quarter was settled stand in five columns: the baseline in percent of full load, and the
-//   limits of bids in li. They are those that its interval file states, or else those of the rules as issued.
+//   limits of bids in li. They are those that its interval file states, or else those of the rules as issued. Behind
+//   them "averaged" is 1 where the thermal average ruled in the baseline's place, else 0.
 // - A field that holds a number has digits, perhaps a "-" before them, and in yuan a point with two digits behind it.
 //   A figure that does not exist is an empty field: 0 is a figure.
 // - Every other field is text. One apostrophe at its front is no part of it: it stands before = + - @, their wide

@@ -25,7 +25,7 @@ std::string load_of(const Row &row, unsigned least, unsigned most) {
 }
 
 Kwh baseline_of(const Row &row, const Rules &rules) {
-    return row.at_percent(rules.terms.baseline);
+    return rules.average ? rules.average->of(row) : row.at_percent(rules.terms.baseline);
 }
 
 Role role_of(const Row &row, const Rules &rules) {
@@ -41,9 +41,16 @@ Role role_of(const Row &row, const Rules &rules) {
     return row.status == Status::normal ? Role::receiver : Role::bystander;
 }
 
+// An average may lie where tier 2 is: then nothing of tier 1 counts, and of tier 2 what is below it.
+std::array<Stretch, 2> stretches_of(const Row &row, const Rules &rules) {
+    const Kwh baseline = baseline_of(row, rules), tier_2 = row.at_percent(rules.tier_2);
+    const Kwh end_1 = std::max(row.metered, tier_2), end_2 = row.metered;
+    return {Stretch{std::max(baseline, end_1), end_1}, Stretch{std::max(std::min(baseline, tier_2), end_2), end_2}};
+}
+
 std::array<Kwh, 2> held_back(const Row &row, const Rules &rules) {
-    const Kwh tier_2 = row.at_percent(rules.tier_2);
-    return {above(baseline_of(row, rules), std::max(row.metered, tier_2)), above(tier_2, row.metered)};
+    const auto [first, second] = stretches_of(row, rules);
+    return {first.energy(), second.energy()};
 }
 
 std::array<Kwh, 3> bands_of(const Row &row, const Rules &rules) {
@@ -74,6 +81,10 @@ Exactly cap_of(const Row &row, const Rules &rules) {
     const Ratio &part = rules.cap_part(row.kind);
     // A hao is a hundredth of a fen.
     return {static_cast<Wide>(row.metered.count) * rules.tariff.count * part.numerator, part.denominator * 100};
+}
+
+bool has_delivered(const Row &row, const Rules &rules, const std::array<Kwh, 2> &called, std::size_t tier) {
+    return role_of(row, rules) == Role::receiver && called[tier] > Kwh{0} && held_back(row, rules)[tier] > Kwh{0};
 }
 
 Due compensation_of(const Row &row, const Rules &rules, const Calls &calls) {

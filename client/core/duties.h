@@ -19,13 +19,22 @@ enum class Role {
 // solar, which have none that the rules ask for.
 std::string load_of(const Row &row, unsigned least, unsigned most);
 
-// The energy below which a thermal unit is paid, and from which upward it pays.
+// The energy below which a thermal unit is paid, and from which upward it pays: its baseline, or its part of the
+// thermal average where that rules.
 Kwh baseline_of(const Row &row, const Rules &rules);
 
 Role role_of(const Row &row, const Rules &rules);
 
-// What it held back in each tier, by the meter: the energy between the baseline and where tier 2 begins, and below that
+// From a higher energy down to a lower one, or to the same.
+struct Stretch {
+    Kwh from, to;
+
+    Kwh energy() const { return from - to; }
+};
+
+// What it held back in each tier, by the meter: below the baseline down to where tier 2 begins, and below that
 // (Article 27).
+std::array<Stretch, 2> stretches_of(const Row &row, const Rules &rules);
 std::array<Kwh, 2> held_back(const Row &row, const Rules &rules);
 
 // A thermal unit's energy above the baseline, by the bands of the rules (Article 29).
@@ -60,6 +69,9 @@ struct Calls {
     std::array<Kwh, 2> called;
     std::array<Li, 2> prices;
 };
+
+// Whether it is among those who set the price of a tier: it can be paid, was called there and held something back.
+bool has_delivered(const Row &row, const Rules &rules, const std::array<Kwh, 2> &called, std::size_t tier);
 
 // What a receiver has earned in the tiers in which it was called (Article 28).
 Due compensation_of(const Row &row, const Rules &rules, const Calls &calls);

@@ -63,6 +63,10 @@ std::uint32_t Statement::visits() const {
     return wheatrudder_statement_visits(bytes_.data());
 }
 
+unsigned Statement::averaged() const {
+    return wheatrudder_statement_averaged(bytes_.data());
+}
+
 std::size_t Statement::rows() const {
     return wheatrudder_statement_rows(bytes_.data());
 }

@@ -84,6 +84,10 @@ class Statement {
     unsigned rounds() const;
     Kwh uncovered() const;
     std::uint32_t visits() const;
+    // 1 where the thermal average ruled in the baseline's place (Article 22), else 0. No statement of ours has another
+    // number there.
+    unsigned averaged() const;
+    bool is_averaged() const { return averaged() == 1; }
     std::size_t rows() const;
     // Line i, counted from 0 and below rows().
     Line line(std::size_t i) const;

@@ -1,9 +1,10 @@
 // Why a row owes, gets or has nothing: step by step to the statement's own fen.
 //
 // The statement counts. Every step is worked out here once more from the rows that count, in whole numbers, and held
-// against the statement: weights, caps, compensations and penalties of all rows, every round, every quota and leftover
-// fen. Where one fen differs there are no steps, only the check that failed. Calls and prices are taken from the
-// statement: they follow from bids, which are not shown.
+// against the statement: whether the thermal average rules, weights, caps, compensations and penalties of all rows,
+// every round, every quota and leftover fen. Where one fen differs there are no steps, only the check that failed.
+// Calls and prices are taken from the statement, since they follow from bids, which are not shown; but whether a tier
+// has a price is checked.
 #pragma once
 
 #include "named.h"

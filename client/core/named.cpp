@@ -46,6 +46,13 @@ Said in_words(const Terms &terms) {
     return {Word::terms, holes};
 }
 
+std::optional<Said> change_of_average(const Statement &before, const Statement &now) {
+    if (before.is_averaged() == now.is_averaged()) {
+        return std::nullopt;
+    }
+    return Said(now.is_averaged() ? Word::change_averaged : Word::change_averaged_no_more);
+}
+
 bool has_name(RowId id, const Namer &name_of) {
     return name_of && !name_of(id, Tongue::english).empty();
 }

@@ -1,10 +1,11 @@
-// What rows, their kinds and their statuses are called, and terms in words.
+// What rows, their kinds and their statuses are called; terms, and whether the thermal average rules, in words.
 #pragma once
 
 #include "engine.h"
 #include "words.h"
 
 #include <functional>
+#include <optional>
 #include <string>
 
 namespace client {
@@ -14,6 +15,9 @@ Word status_word(Status status);
 
 // "baseline 45 percent of full load; bids from 0.150 to 0.300 yuan for each kWh in tier 1, ..."
 Said in_words(const Terms &terms);
+
+// That the thermal average rules now and did not before, or the reverse; nothing where both are alike.
+std::optional<Said> change_of_average(const Statement &before, const Statement &now);
 
 // A row's name in a tongue, empty where it has none; and nobody has one where there is no function.
 using Namer = std::function<std::string(RowId, Tongue)>;

@@ -47,6 +47,9 @@ std::string number(RowId id) {
 }
 
 Said baseline(const Row &row, const Rules &rules) {
+    if (rules.average) {
+        return {Word::energy, {text(baseline_of(row, rules))}};
+    }
     const Word word = row.is_whole_at(rules.terms.baseline) ? Word::baseline : Word::baseline_cut;
     return {word, {std::to_string(rules.terms.baseline), text(baseline_of(row, rules))}};
 }
@@ -61,6 +64,14 @@ std::string part_of(Fen amount, std::int64_t weight, std::int64_t weights) {
 
 std::string in_yuan(std::int64_t li) {
     return yuan(li, 10);
+}
+
+Said cut_to_kwh(const Average &average, const Row &row) {
+    const std::int64_t product = row.capacity * average.energy.count;
+    if (product % average.capacity == 0) {
+        return {Word::energy, {text(average.of(row))}};
+    }
+    return {Word::energy_cut, {decimal(product, average.capacity, 0, 3), text(average.of(row))}};
 }
 
 Said cut_to_fen(const Exactly &fen) {

@@ -12,7 +12,8 @@ namespace client {
 Word tier_word(std::size_t tier); // 0 for tier 1
 std::string number(RowId id);
 
-// The baseline of a row: "50 percent (12,500 kWh)".
+// What a row is paid below and pays from: its baseline, "50 percent (12,500 kWh)", or its part of the thermal average
+// where that rules, "10,800 kWh".
 Said baseline(const Row &row, const Rules &rules);
 // Fen for each kWh; the weight is above 0.
 std::string rate(Fen money, Kwh weight);
@@ -21,6 +22,8 @@ std::string part_of(Fen amount, std::int64_t weight, std::int64_t weights);
 // Money in li, shown in yuan.
 std::string in_yuan(std::int64_t li);
 
+// A row's part of the thermal average and, where it is no whole number of kWh, what it is cut to.
+Said cut_to_kwh(const Average &average, const Row &row);
 // An exact amount and, where it is no whole number of fen, what it is cut to.
 Said cut_to_fen(const Exactly &fen);
 // A sum of li and, where it is no whole number of fen, what it is rounded to.

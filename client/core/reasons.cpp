@@ -1,6 +1,7 @@
 // Why a row's figures are others than before a correction.
 #include "explain.h"
 
+#include "average.h"
 #include "phrases.h"
 
 #include <algorithm>
@@ -91,6 +92,17 @@ void add_if_other(std::vector<Said> &all, Word word, Figure before, Figure now) 
     }
 }
 
+// What the correction did to the thermal average, by which every unit is paid and pays where it rules.
+void add_average(std::vector<Said> &all, const Settlement &before, const Settlement &now) {
+    if (const auto change = change_of_average(before.statement, now.statement)) {
+        all.push_back(*change);
+    }
+    const auto was = thermal_average(before.rows), is = thermal_average(now.rows);
+    if (before.statement.is_averaged() && now.statement.is_averaged() && was && is) {
+        add_if_other(all, Word::change_average, was->energy, is->energy);
+    }
+}
+
 // A tier in which nobody delivered has no price.
 Said price(Li of) {
     return of == Li{0} ? Said(Word::price_none) : Said(Word::price, {text(of)});
@@ -122,7 +134,9 @@ struct Lines {
 // One neighbour's weight has moved the rate that the row pays, and nothing else has changed: one sentence tells it.
 std::optional<Said> neighbour(const Settlement &before, const Settlement &now, const std::vector<Changed> &others,
                               const Lines &own, const Namer &name_of) {
-    if (others.size() != 1 || !own.is_below_its_cap()) {
+    // Where the thermal average rules, a neighbour's reading may change everybody's weight.
+    const bool is_averaged = before.statement.is_averaged() || now.statement.is_averaged();
+    if (others.size() != 1 || is_averaged || !own.is_below_its_cap()) {
         return std::nullopt;
     }
     const RowId id = others.front().now.id;
@@ -186,6 +200,7 @@ std::vector<Said> reasons(const Settlement &before, const Settlement &now, RowId
         }
     }
     add_changes(all, others, name_of);
+    add_average(all, before, now);
     if (all.empty()) {
         all.push_back(Word::change_nothing);
     } else if (!is_own) {

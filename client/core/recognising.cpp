@@ -100,7 +100,7 @@ bool is_whole_statement(View bytes) {
     const bool rises = std::adjacent_find(lines.begin(), lines.end(), [](const Line &one, const Line &next) {
                            return one.id >= next.id;
                        }) == lines.end();
-    return rises && are_allowed(terms_of(statement)) && !imbalance(statement);
+    return rises && are_allowed(terms_of(statement)) && statement.averaged() <= 1 && !imbalance(statement);
 }
 
 } // namespace client

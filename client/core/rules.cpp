@@ -13,7 +13,9 @@ Rules rules_of(View accepted_interval) {
     return {
         .form = head.form,
         .tariff = head.tariff,
+        .need = head.need,
         .terms = head.terms.value_or(issued_terms),
+        .average = std::nullopt,
         .tier_2 = 40,
         .band_ends = {60, 70},
         .factors = {1, 2, 3},

@@ -18,6 +18,7 @@ void Steps::end(Word word, std::vector<Hole> holes, Fen amount) {
 
 void Steps::tell() {
     terms();
+    average();
     role();
     switch (role_here()) {
     case Role::payer:
@@ -42,15 +43,30 @@ void Steps::terms() {
     }
 }
 
+// Who takes no part whatever it produced is not told its own part of the average.
+void Steps::average() {
+    if (!rules().average) {
+        return;
+    }
+    const Average &all = *rules().average;
+    const std::string energy = text(all.energy), capacity = text(all.capacity);
+    const Row together{{}, Kind::thermal, all.capacity, all.energy, Status::normal};
+    say(Word::average_why, {text(rules().need), std::to_string(rules().terms.baseline)});
+    say(Word::average_all, {energy, capacity, load_of(together, 0, 3)});
+    if (row().kind == Kind::thermal && row().status != Status::accident) {
+        say(Word::average_row, {text(row().capacity), energy, capacity, cut_to_kwh(all, row())});
+    }
+}
+
 void Steps::role() {
     const std::vector<Hole> load_of_unit{load_of(row(), 0, 3), text(row().metered), baseline(row(), rules())};
     const bool is_thermal = row().kind == Kind::thermal;
     switch (role_here()) {
     case Role::payer:
-        return is_thermal ? say(Word::role_thermal_pays, load_of_unit)
+        return is_thermal ? say(ruled(Word::role_thermal_pays, Word::role_thermal_pays_average), load_of_unit)
                           : say(Word::role_renewable_pays, {Said(kind_word(row().kind))});
     case Role::receiver:
-        return say(Word::role_thermal_gets, load_of_unit);
+        return say(ruled(Word::role_thermal_gets, Word::role_thermal_gets_average), load_of_unit);
     case Role::bystander:
         break;
     }
@@ -58,7 +74,7 @@ void Steps::role() {
     if (is_thermal && row().status != Status::accident) {
         std::vector<Hole> holes = load_of_unit;
         holes.emplace_back(status);
-        return say(Word::role_thermal_low, holes);
+        return say(ruled(Word::role_thermal_low, Word::role_thermal_low_average), holes);
     }
     say(Word::role_none, {Said(kind_word(row().kind)), status});
 }

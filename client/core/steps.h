@@ -19,6 +19,8 @@ class Steps {
   private:
     // Terms that are not those of the rules as issued.
     void terms();
+    // The thermal average, where it rules: why, what it is made of, what it is for the row.
+    void average();
     // What the row is, and what part it has in the quarter.
     void role();
     // A payer's share: weight, cap, rounds and leftover fen.
@@ -48,6 +50,8 @@ class Steps {
     const Line &line() const { return quarter_.lines[position_]; }
     Calls calls() const { return {line().called, quarter_.prices}; }
     Role role_here() const { return role_of(row(), rules()); }
+    // One of two sentences with the same holes, by what rules: the baseline or the thermal average.
+    Word ruled(Word by_baseline, Word by_average) const { return rules().average ? by_average : by_baseline; }
     bool is_called() const { return line().called[0] > Kwh{0} || line().called[1] > Kwh{0}; }
     // What it was called for in each tier, and where the tiers begin and end.
     std::vector<Hole> calls_by_tier() const;

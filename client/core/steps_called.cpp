@@ -13,7 +13,7 @@ void Steps::compensation() {
     if (!is_called()) {
         return say(Word::call_none);
     }
-    say(Word::call_paid, calls_by_tier());
+    say(ruled(Word::call_paid, Word::call_paid_average), calls_by_tier());
     paid_tier(0);
     paid_tier(1);
     const Due due = compensation_of(row(), rules(), calls());
@@ -23,15 +23,17 @@ void Steps::compensation() {
 
 void Steps::paid_tier(std::size_t tier) {
     const Said name = tier_word(tier);
-    const Kwh energy = held_back(row(), rules())[tier];
+    const Stretch held = stretches_of(row(), rules())[tier];
+    const Kwh energy = held.energy();
     const bool is_called_here = line().called[tier] > Kwh{0};
     if (is_called_here && energy > Kwh{0}) {
         const Due due = compensation_of(row(), rules(), calls());
         const std::string earned = in_yuan(due.by_tier[tier]);
-        return say(Word::tier_paid, {name, text(energy), text(quarter_.prices[tier]), earned}, earned);
+        return say(ruled(Word::tier_paid, Word::tier_paid_average),
+                   {name, text(energy), text(quarter_.prices[tier]), earned, text(held.from), text(held.to)}, earned);
     }
     if (is_called_here) {
-        return say(Word::tier_undelivered, {name});
+        return say(ruled(Word::tier_undelivered, Word::tier_undelivered_average), {name});
     }
     if (energy > Kwh{0}) {
         say(Word::tier_uncalled, {name, text(energy)});
@@ -65,7 +67,7 @@ void Steps::penalty() {
         // A payer need not be told what it does not owe.
         return role_here() == Role::bystander ? say(Word::penalty_uncalled) : void();
     }
-    say(Word::penalty_why, calls_by_tier());
+    say(ruled(Word::penalty_why, Word::penalty_why_average), calls_by_tier());
     missing_tier(0);
     missing_tier(1);
     if (line().penalty == Fen{0}) {

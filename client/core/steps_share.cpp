@@ -17,16 +17,20 @@ constexpr std::size_t last_rounds_told = 2;
 
 void Steps::share() {
     if (is_called() && !is_liable(row())) {
-        say(Word::call_above, {text(line().called[0]), text(line().called[1]), std::to_string(rules().terms.baseline)});
+        say(ruled(Word::call_above, Word::call_above_average),
+            {text(line().called[0]), text(line().called[1]), std::to_string(rules().terms.baseline),
+             baseline(row(), rules())});
     }
     if (quarter_.total == Fen{0}) {
         return say(Word::share_nothing);
     }
     if (line().weight == Kwh{0}) {
-        return row().kind == Kind::thermal ? say(Word::weight_baseline, {baseline(row(), rules())})
-                                           : say(Word::weight_still);
+        return row().kind == Kind::thermal
+                   ? say(ruled(Word::weight_baseline, Word::weight_baseline_average), {baseline(row(), rules())})
+                   : say(Word::weight_still);
     }
-    say(Word::share_total, {std::to_string(rules().terms.baseline), text(quarter_.total)}, text(quarter_.total));
+    say(ruled(Word::share_total, Word::share_total_average),
+        {std::to_string(rules().terms.baseline), text(quarter_.total)}, text(quarter_.total));
     weight();
     cap();
     if (line().cap == Fen{0}) {
@@ -44,6 +48,11 @@ void Steps::share() {
 void Steps::weight() {
     if (row().kind != Kind::thermal) {
         return say(Word::weight_renewable, {text(line().weight)});
+    }
+    // All its energy above the average is in the first band: no unit is above its baseline.
+    if (rules().average) {
+        return say(Word::weight_thermal_average, {std::to_string(rules().factors[0]), text(row().metered),
+                                                  text(baseline_of(row(), rules())), text(line().weight)});
     }
     std::vector<Hole> holes{std::to_string(rules().terms.baseline)};
     for (const int end : rules().band_ends) {

@@ -67,18 +67,19 @@ Said amount_of(const Statement &statement, RowId id) {
                          : Said(Word::outdated_pays, {text(-net)});
 }
 
-// A statement of another time beside that of now: both amounts, and both terms where the interval file was replaced by
-// one with others.
+// A statement of another time beside that of now: both amounts, both terms where the interval file was replaced by one
+// with others, and whether the thermal average ruled where only one of the two says so.
 Said outdated_by(const Reading &reading, const File &file, RowId id) {
     const Statement then(file.bytes);
     const Statement &now = *reading.at(*file.slot).statement;
-    const Said amounts{Word::outdated,
-                       {file.name, text(*file.slot), plant_name(reading, id), amount_of(then, id), amount_of(now, id)}};
-    if (terms_of(then) == terms_of(now)) {
-        return amounts;
+    Said told{Word::outdated,
+              {file.name, text(*file.slot), plant_name(reading, id), amount_of(then, id), amount_of(now, id)}};
+    if (terms_of(then) != terms_of(now)) {
+        const Said terms{Word::outdated_terms, {in_words(terms_of(then)), in_words(terms_of(now))}};
+        told = {Word::listing_sentences, {told, terms}};
     }
-    const Said terms{Word::outdated_terms, {in_words(terms_of(then)), in_words(terms_of(now))}};
-    return {Word::listing_sentences, {amounts, terms}};
+    const auto average = change_of_average(then, now);
+    return average ? Said(Word::listing_sentences, {told, *average}) : told;
 }
 
 } // namespace

@@ -1,5 +1,6 @@
 #include "workings.h"
 
+#include "average.h"
 #include "balance.h"
 
 #include <algorithm>
@@ -34,8 +35,8 @@ class Work {
 
     std::variant<Workings, Said> done() {
         using Stage = Failed (Work::*)();
-        for (const Stage stage : {&Work::read, &Work::add_up, &Work::weigh, &Work::earn, &Work::owe, &Work::close,
-                                  &Work::pay, &Work::cover}) {
+        for (const Stage stage : {&Work::read, &Work::average, &Work::add_up, &Work::weigh, &Work::price, &Work::earn,
+                                  &Work::owe, &Work::close, &Work::pay, &Work::cover}) {
             if (Failed failed = (this->*stage)()) {
                 return *failed;
             }
@@ -45,8 +46,10 @@ class Work {
 
   private:
     Failed read();
+    Failed average();
     Failed add_up();
     Failed weigh();
+    Failed price();
     Failed earn();
     Failed owe();
     Failed close();
@@ -84,6 +87,12 @@ Failed Work::read() {
     return fits ? Failed() : Word::check_rows;
 }
 
+// From here on the rules are those of this quarter: its rows decide whether the thermal average rules.
+Failed Work::average() {
+    is_.rules.average = ruling_average(is_.rows, is_.rules);
+    return statement_.averaged() == (is_.rules.average ? 1u : 0u) ? Failed() : Word::check_averaged;
+}
+
 // The statement's own sums, before anything is worked out.
 Failed Work::add_up() {
     const auto failed = imbalance(statement_);
@@ -102,6 +111,21 @@ Failed Work::weigh() {
         if (weight > Kwh{0}) {
             open_.push_back(position);
             is_.weight += weight;
+        }
+    }
+    return {};
+}
+
+// A tier's price is a bid, so it is above 0, of one of those who delivered; without them there is none (Article 27).
+Failed Work::price() {
+    constexpr std::array checks{Word::check_price_1, Word::check_price_2};
+    for (std::size_t tier = 0; tier < checks.size(); ++tier) {
+        bool has_price = false;
+        for (std::size_t position = 0; position < count(); ++position) {
+            has_price |= has_delivered(is_.rows[position], is_.rules, is_.lines[position].called, tier);
+        }
+        if (has_price != (is_.prices[tier] > Li{0})) {
+            return checks[tier];
         }
     }
     return {};

@@ -27,7 +27,7 @@ struct Workings {
     std::vector<Line> lines; // the statement's
     std::vector<Row> rows;
     std::array<Li, 2> prices;
-    Rules rules;
+    Rules rules; // with the thermal average, where it rules
     Turns turns;
     Fen total;
     Kwh weight; // of all payers

@@ -23,6 +23,16 @@ inline std::vector<Entry> rows_of_x() {
     return {{1, 1, 100, 9'000, 0, 1, 8'000, 200, 400}, {2, 1, 100, 20'000}, {3, 2, 100, 5'000}};
 }
 
+// The same without wind, and row 2 at or below half load: the thermal average rules. At 12,000 kWh it is 10,500 of 100
+// MW, and by hand: row 1 holds back 500 and 1,000 kWh at 200 and 400 li, 500.00 yuan; row 2 weighs 1,500 kWh and pays
+// its cap at tariff 1300, 390.00 yuan; the other 110.00 are cut.
+inline std::vector<Entry> rows_without_wind(unsigned metered = 12'000) {
+    std::vector<Entry> rows = rows_of_x();
+    rows[1].metered = metered;
+    rows[2].metered = 0;
+    return rows;
+}
+
 inline void put(Bytes &bytes, std::uint64_t number, unsigned width) {
     for (unsigned at = 0; at < width; ++at) {
         bytes.push_back(static_cast<std::uint8_t>(number >> (8 * at)));

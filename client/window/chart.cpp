@@ -41,6 +41,19 @@ QAccessibleInterface *reader_of(const QString &, QObject *object) {
     return chart ? new ChartReader(chart) : nullptr;
 }
 
+// The amount of a quarter that the plant is in, and what it was before a correction.
+Said amount_of(const PlantQuarter &here, const std::string &when) {
+    const Fen net = here.line->net();
+    const Said amount = net > Fen{}   ? Said(Word::chart_gets, {when, text(net)})
+                        : net < Fen{} ? Said(Word::chart_pays, {when, text(-net)})
+                                      : Said(Word::chart_zero, {when});
+    if (!here.before) {
+        return amount;
+    }
+    const Fen before = here.before->net();
+    return before == net ? Said(Word::chart_was_same, {amount}) : Said(Word::chart_was, {amount, text(before)});
+}
+
 void install_reader() {
     static const bool is_installed = (QAccessible::installFactory(reader_of), true);
     Q_UNUSED(is_installed);
@@ -126,7 +139,7 @@ QString Chart::told_of(Quarter quarter) const {
     if (!day_) {
         return {};
     }
-    const Said amount = amount_of(quarter);
+    const Said amount = said_of(quarter);
     const QuarterRead &read = *day_->quarters[quarter.number].read;
     const auto open = reservation(*day_->reading, read);
     // Where there is no amount, what stands in its place is a sentence already.
@@ -134,24 +147,14 @@ QString Chart::told_of(Quarter quarter) const {
     return words(open ? Said(both, {amount, *open}) : amount, tongue_);
 }
 
-Said Chart::amount_of(Quarter quarter) const {
+Said Chart::said_of(Quarter quarter) const {
     const std::string when = span(quarter);
     const PlantQuarter &here = day_->quarters[quarter.number];
     if (const auto why = hindrance(*day_->reading, *here.read)) {
         return {Word::chart_hindered, {when, *why}};
     }
-    if (!here.line) {
-        return {Word::chart_not_in, {when}};
-    }
-    const Fen net = here.line->net();
-    const Said amount = net > Fen{}   ? Said(Word::chart_gets, {when, text(net)})
-                        : net < Fen{} ? Said(Word::chart_pays, {when, text(-net)})
-                                      : Said(Word::chart_zero, {when});
-    if (!here.before) {
-        return amount;
-    }
-    const Fen before = here.before->net();
-    return before == net ? Said(Word::chart_was_same, {amount}) : Said(Word::chart_was, {amount, text(before)});
+    const Said amount = here.line ? amount_of(here, when) : Said(Word::chart_not_in, {when});
+    return here.read->statement->is_averaged() ? Said(Word::chart_by_average, {amount}) : amount;
 }
 
 QSize Chart::sizeHint() const {

@@ -44,7 +44,7 @@ class Chart : public QWidget {
 
   private:
     QString told_of(Quarter quarter) const;
-    Said amount_of(Quarter quarter) const;
+    Said said_of(Quarter quarter) const;
     std::optional<Quarter> quarter_at(QPoint place) const;
     ChartPlan plan() const;
     void pick(int number);

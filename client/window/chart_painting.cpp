@@ -74,6 +74,8 @@ void ChartPainting::paint_swatch(QRect place, Mark mark) {
         return painter_.drawRect(place);
     case Mark::missing:
         return paint_hatching(place);
+    case Mark::averaged:
+        return painter_.fillRect(QRect(place.left(), place.center().y(), place.width(), plan_.lid(0).height()), ink_);
     case Mark::corrected:
     case Mark::without:
     case Mark::absent: {
@@ -203,6 +205,9 @@ void ChartPainting::paint_quarter(const PlantQuarter &quarter, int number) {
             break;
         case Mark::missing:
             paint_hatching(column);
+            break;
+        case Mark::averaged:
+            painter_.fillRect(plan_.lid(number), ink_);
             break;
         case Mark::corrected:
         case Mark::without:

@@ -126,10 +126,14 @@ std::vector<Mark> marks_of(const PlantQuarter &quarter) {
     if (!quarter.read->statement) {
         return {state == State::missing ? Mark::missing : Mark::without};
     }
-    if (!quarter.line) {
-        return {Mark::absent};
-    }
     std::vector<Mark> marks;
+    if (quarter.read->statement->is_averaged()) {
+        marks.push_back(Mark::averaged);
+    }
+    if (!quarter.line) {
+        marks.push_back(Mark::absent);
+        return marks;
+    }
     const Fen net = quarter.line->net();
     if (net != Fen{}) {
         marks.push_back(net > Fen{} ? Mark::earned : Mark::paid);
@@ -153,6 +157,8 @@ Word word_of(Mark mark) {
         return Word::chart_before;
     case Mark::corrected:
         return Word::chart_corrected;
+    case Mark::averaged:
+        return Word::chart_averaged;
     case Mark::missing:
         return Word::chart_missing;
     case Mark::without:
@@ -170,6 +176,11 @@ QString axis_text(Fen amount, Fen step) {
 QRect ChartPlan::column(int number) const {
     const auto edge = [this](int n) { return plot.left() + n * plot.width() / quarters; };
     return {edge(number), plot.top(), std::max(1, edge(number + 1) - edge(number)), plot.height()};
+}
+
+QRect ChartPlan::lid(int number) const {
+    const int thick = std::max(2, marks.height() / 7);
+    return {column(number).left(), marks.top() + thick, column(number).width(), thick};
 }
 
 int ChartPlan::height_of(Fen amount) const {

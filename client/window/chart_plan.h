@@ -13,7 +13,7 @@
 namespace client {
 
 // What a quarter is marked with, in the order of the legend.
-enum class Mark { earned, paid, before, corrected, missing, without, absent };
+enum class Mark { earned, paid, before, corrected, averaged, missing, without, absent };
 
 std::vector<Mark> marks_of(const PlantQuarter &quarter);
 Word word_of(Mark mark);
@@ -41,6 +41,9 @@ struct ChartPlan {
     int least_bar = 1; // an amount is never so small that nothing is seen of it
 
     QRect column(int number) const;
+    // The bar above a quarter that the thermal average rules. It leaves room for a sign, and quarters beside one
+    // another make one line.
+    QRect lid(int number) const;
     int height_of(Fen amount) const;
     // The quarter at a place, if there is one.
     std::optional<Quarter> quarter_at(QPoint place) const;

@@ -293,6 +293,9 @@ QString DayModel::note(const PlantQuarter &quarter) const {
     if (const Terms terms = terms_of(*read.statement); terms != issued_terms) {
         notes.push_back({Word::note_terms, {std::to_string(terms.baseline)}});
     }
+    if (read.statement->is_averaged()) {
+        notes.push_back(Word::note_averaged);
+    }
     return notes.empty() ? QString() : words(beside(notes), tongue_);
 }
 

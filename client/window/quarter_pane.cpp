@@ -89,6 +89,7 @@ void QuarterPane::make_page() {
     };
     headline_ = add_label();
     headline_->setTextInteractionFlags(Qt::TextSelectableByMouse | Qt::TextSelectableByKeyboard);
+    averaged_ = add_label();
     hindrance_ = add_label();
     reservation_ = add_label();
     reasons_heading_ = add_label();
@@ -163,7 +164,7 @@ void QuarterPane::name(Section &section, Word word, Tongue tongue) {
 }
 
 void QuarterPane::forget(Tongue tongue) {
-    for (QLabel *label : {headline_, hindrance_, reservation_, reasons_heading_, reasons_, disagreement_}) {
+    for (QLabel *label : {headline_, averaged_, hindrance_, reservation_, reasons_heading_, reasons_, disagreement_}) {
         label->clear();
     }
     for (Section *section : {&comparison_, &steps_, &line_, &head_, &files_}) {
@@ -188,7 +189,7 @@ void QuarterPane::forget(Tongue tongue) {
 // Only what says something is seen.
 void QuarterPane::show_what_is_there() {
     reasons_heading_->setVisible(!reasons_->text().isEmpty());
-    for (QLabel *label : {headline_, hindrance_, reservation_, reasons_, disagreement_}) {
+    for (QLabel *label : {headline_, averaged_, hindrance_, reservation_, reasons_, disagreement_}) {
         label->setVisible(!label->text().isEmpty());
     }
     for (const Section &section : {comparison_, steps_, line_, head_, files_}) {
@@ -234,6 +235,9 @@ void QuarterPane::show_statement(const At &at) {
         headline_->setText(words({Word::quarter_none, {name, text(at.slot)}}, at.tongue));
         hindrance_->setText(words(*why, at.tongue));
         return;
+    }
+    if (at.read.statement->is_averaged()) {
+        averaged_->setText(words(Word::quarter_averaged, at.tongue));
     }
     const auto line = at.read.statement->of(at.id);
     if (!line) {
@@ -360,6 +364,8 @@ void QuarterPane::show_head(const At &at) {
     add(with_unit(Word::head_need, Word::unit_kwh), text(head.need));
     add(Word::head_terms, Said(head.terms ? Word::head_terms_stated : Word::head_terms_issued).in(at.tongue));
     add(Word::head_baseline, number(terms.baseline));
+    add(Word::head_averaged,
+        say(statement.is_averaged() ? Word::head_averaged_yes : Word::head_averaged_no, at.tongue));
     add_limits(Word::head_limits_1, terms.limits[0], terms.limits[1]);
     add_limits(Word::head_limits_2, terms.limits[2], terms.limits[3]);
     add(with_unit(Word::head_price_1, Word::unit_price), text(statement.prices()[0]));

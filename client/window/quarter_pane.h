@@ -81,6 +81,7 @@ class QuarterPane : public QScrollArea, public Screen {
 
     QWidget *page_ = nullptr;
     QLabel *headline_ = nullptr;
+    QLabel *averaged_ = nullptr; // says that the thermal average ruled, where it did
     QLabel *hindrance_ = nullptr;
     QLabel *reservation_ = nullptr;
     QLabel *reasons_heading_ = nullptr;

@@ -197,21 +197,28 @@ QString RowsModel::sums_head() const {
     return words(is_ready ? Word::day_sum : Word::rows_sum_so_far, tongue_);
 }
 
+// A quarter, and what there is to say of it as a whole.
+Said RowsModel::said_of(Quarter quarter) const {
+    const std::string when = client::span(quarter);
+    if (const auto why = hindrance_of(quarter.number)) {
+        return {Word::chart_hindered, {when, *why}};
+    }
+    const bool is_averaged = shown_ && quarter_at(quarter.number).statement->is_averaged();
+    return {is_averaged ? Word::chart_by_average : Word::listing_one, {when}};
+}
+
 QVariant RowsModel::column_head(int column, int role) const {
     const auto quarter = quarter_of(column);
-    const auto why = hindrance_of(column);
     switch (role) {
     case Qt::DisplayRole:
         return quarter ? text(start(*quarter)) : sums_head();
     case Qt::AccessibleTextRole:
     case Qt::ToolTipRole: {
-        const QString said = !quarter ? sums_head()
-                             : why    ? words({Word::chart_hindered, {client::span(*quarter), *why}}, tongue_)
-                                      : text(client::span(*quarter));
+        const QString said = quarter ? words(said_of(*quarter), tongue_) : sums_head();
         return role == Qt::ToolTipRole ? tool_tip(said) : said;
     }
     case CellDelegate::void_role:
-        return why.has_value();
+        return hindrance_of(column).has_value();
     case Qt::TextAlignmentRole:
         return static_cast<int>(Qt::AlignRight | Qt::AlignVCenter);
     default:

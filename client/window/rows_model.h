@@ -60,6 +60,7 @@ class RowsModel : public QAbstractTableModel {
     std::string column_text(const QModelIndex &index) const;
     QString row_text(int row) const;
     QString sums_head() const;
+    Said said_of(Quarter quarter) const;
     QVariant column_head(int column, int role) const;
 
     std::optional<Shown> shown_;

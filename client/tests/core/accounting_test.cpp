@@ -345,7 +345,7 @@ void halves_are_at_fault(const fs::path &in, const std::vector<Bytes> &halves) {
 }
 
 void statements_are_compared() {
-    Drawer drawer(8);
+    Drawer drawer(14);
     const fs::path in = whole_day(drawer);
     const Bytes interval = bytes_at(in / "9"), same = statement_of(interval);
     const Bytes other = statement_of(drawer.interval(day, 9, 3));
@@ -360,7 +360,8 @@ void statements_are_compared() {
     equal(reading->outdated.size(), 1u);
     holds(arrived(*reading, {day}).is_ready(), "whole statements are at fault");
     halves_are_at_fault(in, {cut(same, 20), bytes_of("PS"), with(same, 2, 40'000, 4), with(same, 6, 96, 1),
-                             with(same, 11, 1 + same[11], 1), cut(same, same.size() - 42)});
+                             with(same, 11, 1 + same[11], 1), with(same, 39, 2, 1), with(same, 39, 255, 1),
+                             cut(same, same.size() - 42)});
     // The longest of all: 256 rows. And a correction makes an old statement of the one that was the same.
     const Bytes longest = drawer.interval(day, 20, 256);
     put(in / "20", longest);
@@ -396,10 +397,10 @@ void statements_with_terms() {
     equal(reading->outdated.size(), 2u);
     holds(arrived(*reading, {day}).is_ready(), "whole statements are at fault");
     // Cut, out of range, terms that no file may state, another total, a line lost, the mark of the other form.
-    halves_are_at_fault(in, {cut(same, 47), bytes_of("PT"), with(same, 2, 40'000, 4), with(same, 6, 96, 1),
+    halves_are_at_fault(in, {cut(same, 48), bytes_of("PT"), with(same, 2, 40'000, 4), with(same, 6, 96, 1),
                              with(same, 35, 40, 1), with(same, 36, 0, 2), with(same, 42, 1'001, 2),
-                             with(same, 11, 1 + same[11], 1), cut(same, same.size() - 42), with(same, 1, 'S', 1),
-                             with(statement_of(bytes_at(in / "9")), 1, 'T', 1)});
+                             with(same, 48, 2, 1), with(same, 11, 1 + same[11], 1), cut(same, same.size() - 42),
+                             with(same, 1, 'S', 1), with(statement_of(bytes_at(in / "9")), 1, 'T', 1)});
     const Bytes longest = drawer.stated_interval(day, 70, 256);
     put(in / "70", longest);
     put(in / "long", statement_of(longest));
@@ -471,6 +472,41 @@ void an_interval_file_with_other_terms(const fs::path &examples) {
           "250.00 yuan. Somebody may have booked it.");
 }
 
+// A statement of another time by which the thermal average ruled, and now it does not, and the reverse: told with both
+// amounts. Interval X, and its rows without wind, under the terms as issued.
+void an_average_of_another_time() {
+    const fs::path in = folder();
+    const Slot at{{day}, {9}};
+    const Bytes windy = made::interval(at), still = made::interval(at, 1'300, made::rows_without_wind());
+    const auto told = [&](const Bytes &then, const Bytes &now) {
+        put(in / "h", now);
+        put(in / "booked", statement_of(then));
+        return outdated(*read_now(in), at, {2}).value();
+    };
+    equal(
+        english(told(still, windy)),
+        "booked is a statement of another time for 2026-10-31 02:15–02:30. By it Row 2 pays 390.00 yuan; now it pays "
+        "650.00 yuan. Somebody may have booked it. Before, the thermal average ruled in the baseline's place, and now "
+        "it does not (Article 22).");
+    equal(english(told(windy, still)),
+          "booked is a statement of another time for 2026-10-31 02:15–02:30. By it Row 2 pays 650.00 yuan; now it pays "
+          "390.00 yuan. Somebody may have booked it. Now the thermal average rules in the baseline's place, and before "
+          "it did not (Article 22).");
+    equal(chinese(told(windy, still)), "booked 是 2026-10-31 02:15–02:30 的旧结算单：编号 2当时支付 650.00 "
+                                       "元，现在支付 390.00 元。可能已有人据此入账。"
+                                       "现有偿调峰基准临时调整为火电机组平均负荷率，原先未调整（第二十二条）。");
+    // The number alone is another: a whole statement, and not that of now.
+    put(in / "h", still);
+    put(in / "booked", with(statement_of(still), 39, 0, 1));
+    equal(english(outdated(*read_now(in), at, {2}).value()),
+          "booked is a statement of another time for 2026-10-31 02:15–02:30. By it Row 2 pays 390.00 yuan; now it pays "
+          "390.00 yuan. Somebody may have booked it. Now the thermal average rules in the baseline's place, and before "
+          "it did not (Article 22).");
+    put(in / "booked", with(statement_of(still), 39, 2, 1));
+    equal(english(file_named(read_now(in), "booked").says),
+          "It begins as a statement and is none that is whole. It may be a correction that was damaged.");
+}
+
 // ---- names of plants ----
 
 void plants_are_named() {
@@ -535,6 +571,7 @@ int main(int argc, char **argv) {
     statements_with_terms();
     an_old_statement_is_told(argv[1]);
     an_interval_file_with_other_terms(argv[1]);
+    an_average_of_another_time();
     plants_are_named();
     return check::passed("accounting");
 }

@@ -164,6 +164,11 @@ void are_terms(const std::map<std::string, std::string> &line, View interval) {
     equal(line.at("tier2_highest_li"), due[4]);
 }
 
+// The last byte of the statement's head; nothing where nothing was settled.
+std::string averaged_in(const std::optional<Statement> &statement) {
+    return statement ? std::to_string(statement->bytes()[statement->terms() ? 48 : 39]) : "";
+}
+
 // ---- folders ----
 
 // A drawn day: quarter 7 is missing, 8 is refused, 9 has two files, 10 a correction that is refused. From noon on the
@@ -207,6 +212,7 @@ void is_quarter(const std::map<std::string, std::string> &line, const PlantDay &
         equal(line.at("net_fen") + line.at("paid_yuan") + line.at("metered_kwh") + line.at("kind"), "");
     }
     are_terms(line, plant.reading->interval(*quarter.read));
+    equal(line.at("averaged"), averaged_in(quarter.read->statement));
     if (quarter.before) {
         is_money(line, "before_net", quarter.before->net());
     } else {
@@ -284,6 +290,7 @@ void all_rows() {
         const Table table = table_of(rows_as_csv(*reading, day), "date 日期");
         equal(table.note.empty(), is_complete);
         std::size_t at = 0;
+        std::map<std::string, std::size_t> averaged;
         for (std::uint8_t number = 0; number < quarters_of_day; ++number) {
             const QuarterRead &quarter = reading->at({day, {number}});
             std::int64_t sum = 0;
@@ -293,6 +300,8 @@ void all_rows() {
                 is_whole(written.at("row"), line.id.number);
                 is_line(written, line);
                 are_terms(written, reading->interval(quarter));
+                equal(written.at("averaged"), averaged_in(quarter.statement));
+                ++averaged[written.at("averaged")];
                 sum += line.net().count;
                 const std::string name = unguarded(written.at("name"));
                 equal(name, line.id.number == 1 ? "=1+1, or \"so\" =一厂" : line.id.number == 2 ? "二厂" : "");
@@ -301,6 +310,7 @@ void all_rows() {
             equal(sum, 0);
         }
         equal(at, table.lines.size());
+        holds(averaged["0"] > 0 && averaged["1"] > 0 && averaged.size() == 2, "quarters of one kind alone");
     }
 }
 

@@ -3,10 +3,10 @@
 //
 //   damage_test [DRAWS [SEED]]
 //
-// A third of the interval files of a day state their terms. First every damage of one correction of either form of
-// interval file, and of one file that states its terms: each byte changed (to all other values within its head), each
-// cut, each lost byte, a byte added at each place; links, files that may not be read, other names. Then so many drawn
-// damages of drawn days, of interval files too.
+// A third of the interval files of a day state their terms, and one in four has neither wind nor sun. First every
+// damage of one correction of either form of interval file, and of one file that states its terms: each byte changed
+// (to all other values within its head), each cut, each lost byte, a byte added at each place; links, files that may
+// not be read, other names. Then so many drawn damages of drawn days, of interval files too.
 #include "check.h"
 #include "trial.h"
 #include "view.h"
@@ -289,7 +289,8 @@ void tell(const char *what, const Tally &tally) {
 
 int main(int argc, char **argv) {
     const std::size_t draws = argc > 1 ? std::stoul(argv[1]) : 1'000;
-    const unsigned seed = argc > 2 ? static_cast<unsigned>(std::stoul(argv[2])) : 31;
+    // With this seed the thermal average rules quarters of which every place is damaged.
+    const unsigned seed = argc > 2 ? static_cast<unsigned>(std::stoul(argv[2])) : 78;
     Drawer drawer(seed);
     Tally every, drawn;
     for (const auto &[number, names] : {std::pair{9'800u, Naming::plain}, std::pair{0x0403u, Naming::written}}) {

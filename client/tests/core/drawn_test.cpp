@@ -4,6 +4,7 @@
 //
 // Standard input has pairs of files: an interval file of either form and its correction, each behind its length in four
 // bytes. A pair that states no terms is explained once more with the terms as issued stated: alike, word for word.
+#include "average.h"
 #include "check.h"
 #include "duties.h"
 #include "explain.h"
@@ -53,8 +54,13 @@ std::optional<Quarter> settled(const Bytes &interval, const Bytes &correction) {
 
 struct Tally {
     std::size_t refused = 0, statements = 0, stated = 0, rows = 0, steps = 0, reasons = 0, alike = 0, most_rounds = 0;
+    // Quarters that the thermal average rules, of these with stated terms; and such as it rules only before, or only
+    // after their corrections.
+    std::size_t averaged = 0, averaged_and_stated = 0, turned = 0;
     // Rows between the stated baseline and that of the rules as issued: they pay, and would be paid there.
     std::size_t between = 0;
+    // Rows between the thermal average that rules and their baselines: they pay, and would not by their baselines.
+    std::size_t above_average = 0;
     std::map<std::string, std::size_t> moved; // and noticed
 };
 
@@ -130,12 +136,16 @@ class Moving {
         in_head("shortfall", WHEATRUDDER_HEAD_SHORTFALL, 8);
         in_head("rounds", WHEATRUDDER_HEAD_ROUNDS, 2);
         in_head("rows", WHEATRUDDER_HEAD_ROWS, 2);
+        no_price("price of tier 1", WHEATRUDDER_HEAD_PRICE1, 0);
+        no_price("price of tier 2", WHEATRUDDER_HEAD_PRICE2, 1);
         if (states_terms(quarter_.statement.bytes())) {
             in_head("visits, with stated terms", WHEATRUDDER_HEAD_VISITS_PT, 4);
+            in_head("averaged, with stated terms", WHEATRUDDER_HEAD_AVERAGED_PT, 1);
             in_head("baseline", WHEATRUDDER_HEAD_PERCENT_PT, 1);
             in_head("a limit of bids", WHEATRUDDER_HEAD_LIMITS_PT + 2 * below(4), 2);
         } else {
             in_head("visits", WHEATRUDDER_HEAD_VISITS_PS, 4);
+            in_head("averaged", WHEATRUDDER_HEAD_AVERAGED_PS, 1);
         }
         in_line("id", WHEATRUDDER_LINE_ID, 2);
         in_line("compensation", WHEATRUDDER_LINE_COMPENSATION, 4);
@@ -203,6 +213,15 @@ class Moving {
         demand_notice(kind, bytes);
     }
 
+    // A price where nobody delivered, or none where somebody did.
+    void no_price(const std::string &kind, std::size_t field, std::size_t tier) {
+        Bytes bytes = copy();
+        const bool has_price = quarter_.statement.prices()[tier] > Li{0};
+        bytes[field] = has_price ? 0 : static_cast<std::uint8_t>(1 + below(255));
+        bytes[field + 1] = has_price ? 0 : static_cast<std::uint8_t>(below(256));
+        demand_notice(kind + (has_price ? ", taken away" : ", made up"), bytes);
+    }
+
     template <class Fits>
     std::vector<std::size_t> positions(const Fits &fits) const {
         std::vector<std::size_t> found;
@@ -267,7 +286,25 @@ bool is_between(const Quarter &quarter, std::size_t position) {
     const Row &row = quarter.rows[position];
     Rules issued = quarter.rules;
     issued.terms = issued_terms;
-    return role_of(row, quarter.rules) == Role::payer && role_of(row, issued) == Role::receiver;
+    return !quarter.statement.is_averaged() && role_of(row, quarter.rules) == Role::payer &&
+           role_of(row, issued) == Role::receiver;
+}
+
+bool is_above_average(const Quarter &quarter, std::size_t position) {
+    const Row &row = quarter.rows[position];
+    Rules averaged = quarter.rules;
+    averaged.average = thermal_average(quarter.rows);
+    return quarter.statement.is_averaged() && role_of(row, averaged) == Role::payer &&
+           role_of(row, quarter.rules) != Role::payer;
+}
+
+void count(const Quarter &now, const Quarter &before, Tally &tally) {
+    ++tally.statements;
+    tally.stated += states_terms(now.statement.bytes());
+    tally.averaged += now.statement.is_averaged();
+    tally.averaged_and_stated += now.statement.is_averaged() && states_terms(now.statement.bytes());
+    tally.turned += now.statement.is_averaged() != before.statement.is_averaged();
+    tally.most_rounds = std::max<std::size_t>(tally.most_rounds, now.statement.rounds());
 }
 
 void check_pair(const Bytes &interval, const Bytes &correction, std::mt19937 &random, Tally &tally) {
@@ -277,16 +314,15 @@ void check_pair(const Bytes &interval, const Bytes &correction, std::mt19937 &ra
         return;
     }
     const auto before = settled(interval, {});
-    ++tally.statements;
-    tally.stated += states_terms(interval);
+    count(*now, before ? *before : *now, tally);
     if (!states_terms(interval)) {
         check_alike(*now, interval, correction, tally);
     }
-    tally.most_rounds = std::max<std::size_t>(tally.most_rounds, now->statement.rounds());
     for (const std::size_t position : to_explain(*now)) {
         const Line line = now->statement.line(position);
         check_row(*now, line, tally);
         tally.between += is_between(*now, position);
+        tally.above_average += is_above_average(*now, position);
         if (!correction.empty() && before) {
             check_reasons(*before, *now, line.id, tally);
         }
@@ -296,10 +332,13 @@ void check_pair(const Bytes &interval, const Bytes &correction, std::mt19937 &ra
 
 void print(const Tally &tally) {
     std::cout << tally.statements << " statements (" << tally.refused << " pairs refused), of these " << tally.stated
-              << " with stated terms, at most " << tally.most_rounds << " rounds; " << tally.rows
-              << " rows explained in " << tally.steps << " steps, " << tally.reasons << " reasons; " << tally.alike
+              << " with stated terms, at most " << tally.most_rounds << " rounds; " << tally.averaged
+              << " averaged, of these " << tally.averaged_and_stated << " with stated terms, and " << tally.turned
+              << " averaged only before or only after their corrections; " << tally.rows << " rows explained in "
+              << tally.steps << " steps, " << tally.reasons << " reasons; " << tally.alike
               << " rows alike with the terms as issued stated; " << tally.between
-              << " that pay and would be paid under these\n";
+              << " that pay and would be paid under these; " << tally.above_average
+              << " that pay by the thermal average and would not by their baselines\n";
     for (const auto &[kind, count] : tally.moved) {
         std::cout << "  moved and noticed: " << kind << ", " << count << "\n";
     }
@@ -319,5 +358,8 @@ int main() {
     print(tally);
     check::holds(tally.statements > tally.stated && tally.stated > 0, "one of the two forms was not drawn");
     check::holds(tally.between > 0, "no row lies between a stated baseline and that of the rules as issued");
+    check::holds(tally.averaged_and_stated > 0 && tally.averaged > tally.averaged_and_stated && tally.turned > 0,
+                 "no quarter that the thermal average rules was drawn, in one of the two forms, or none that turns");
+    check::holds(tally.above_average > 0, "no row lies between the thermal average and its baseline");
     return check::passed("drawn");
 }

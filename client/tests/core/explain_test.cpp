@@ -184,6 +184,13 @@ void add_worked_figures(Book &book, const std::string &examples) {
     add("stated-01", {2});
     add("between", {1, 2, 3});
     add("limits-meet", {1, 2});
+    add("no-wind", {1, 2, 3});
+    add("no-wind-above", {1, 2, 3});
+    add("no-wind-no-need", {1, 2});
+    add("some-wind", {1, 2, 4});
+    add("no-wind-low", {1, 2, 3, 4});
+    add("no-wind-reduced", {1, 2, 3, 4});
+    add("no-wind-stated", {1, 2, 3});
 }
 
 const Unit seller{1, Kind::thermal, 100, 9'000, Status::normal, Offer{8'000, 200, 400}};
@@ -258,6 +265,41 @@ void add_terms(Book &book) {
     lower.metered = 11'000;
     book.add_reasons("Terms that the interval file states, a neighbour goes below the baseline", stated,
                      correction(9, {lower}), {2, 4});
+}
+
+// A quarter that the thermal average rules, by hand: 73,500 kWh of 700 MW, 10,500 of each 100.
+//
+// Rows 7, 1 and 2 are called for 2,500 kWh each in tier 1, and rows 1 and 7 share the other 2,000 in tier 2 by their
+// widths, 2,000 and 1,000: 1,333 and 667. Row 1 holds back 500 and 1,000 kWh at 200 and 400 li: 500.00 yuan. Rows 2 and
+// 6 weigh 1,500 and 1,000 kWh and pay 300.00 and 200.00 yuan. Row 3 ran at the average. Row 7 holds back 500 and 250
+// kWh, and owes 2 × 0.200 yuan for each of 2,000 and 2 × 0.400 for each of 417: 1,133.60 yuan, which nobody needs.
+const std::vector<Unit> around_average{{1, Kind::thermal, 100, 9'000, Status::normal, Offer{8'000, 200, 400}},
+                                       {2, Kind::thermal, 100, 12'000, Status::normal, Offer{10'000, 210, 400}},
+                                       {3, Kind::thermal, 100, 10'500},
+                                       {4, Kind::wind, 100, 0},
+                                       {5, Kind::solar, 100, 0, Status::accident},
+                                       {6, Kind::thermal, 200, 22'000, Status::starting},
+                                       {7, Kind::thermal, 100, 9'750, Status::reduced, Offer{9'000, 190, 400}},
+                                       {8, Kind::thermal, 100, 10'250, Status::starting}};
+
+// A row of these with another reading.
+Unit with_meter(std::size_t position, std::uint32_t metered) {
+    Unit unit = around_average[position];
+    unit.metered = metered;
+    return unit;
+}
+
+void add_average(Book &book) {
+    const Bytes still = interval({9, 1'300, 9'500}, around_average);
+    book.add("The thermal average rules", still, {1, 2, 3, 4, 5, 6, 7, 8});
+    book.add_reasons("The thermal average rules no more: a wind farm produced", still,
+                     correction(9, {with_meter(3, 5'000)}), {1, 4});
+    book.add_reasons("The thermal average is another: a neighbour's meter", still,
+                     correction(9, {with_meter(1, 11'300)}), {1, 2, 6});
+    std::vector<Unit> above = around_average;
+    above[1] = with_meter(1, 12'501);
+    book.add_reasons("The thermal average rules now: nobody is above half load any more",
+                     interval({9, 1'300, 9'500}, above), correction(9, {around_average[1]}), {2, 6});
 }
 
 const Unit large_seller{1, Kind::thermal, 2'000, 0, Status::normal, Offer{0, 320, 750}};
@@ -352,8 +394,9 @@ void add_names(Book &book, const std::string &examples) {
 void check_alike(const std::string &examples) {
     std::vector<Bytes> files{read(examples + "/x.interval"), many_rows_in_one_round(),
                              interval({9, 1'300, 6'000}, around_45)};
-    for (const char *name : {"no-payers", "undelivered", "outbid", "odd-fen", "odd-cut", "reduced", "reduced-payer",
-                             "odd-return", "each-its-round", "two-at-once", "full", "no-rows"}) {
+    for (const char *name :
+         {"no-payers", "undelivered", "outbid", "odd-fen", "odd-cut", "reduced", "reduced-payer", "odd-return",
+          "each-its-round", "two-at-once", "full", "no-rows", "no-wind", "no-wind-low", "no-wind-reduced"}) {
         files.push_back(read(examples + "/tell/" + name + ".interval"));
     }
     for (const Bytes &file : files) {
@@ -395,9 +438,11 @@ void check_disagreements(const Bytes &x) {
         check::equal(failed(Bytes(bytes.begin(), bytes.begin() + static_cast<std::ptrdiff_t>(length))),
                      "length of the statement");
     }
-    // Any byte at any place: no figure of it may bring the explanation down. Another mark is noticed, and other terms.
+    // Any byte at any place: no figure of it may bring the explanation down. Another mark is noticed, other terms, and
+    // any other number that says whether the thermal average rules.
     const bool has_terms = statement.terms().has_value();
     const std::size_t terms_end = has_terms ? WHEATRUDDER_HEAD_VISITS_PT : WHEATRUDDER_HEAD_PERCENT_PT;
+    const std::size_t averaged = has_terms ? WHEATRUDDER_HEAD_AVERAGED_PT : WHEATRUDDER_HEAD_AVERAGED_PS;
     for (std::size_t place = 0; place < bytes.size(); ++place) {
         const bool is_of_terms = place >= WHEATRUDDER_HEAD_PERCENT_PT && place < terms_end;
         for (unsigned byte = 0; byte < 256; ++byte) {
@@ -409,6 +454,9 @@ void check_disagreements(const Bytes &x) {
                 // A mark that says PT, or no longer does, says another length too.
                 const bool is_other_form = place < 2 && has_terms != states_terms(altered);
                 check::equal(check, is_other_form ? "length of the statement" : "mark and terms of the statement");
+            }
+            if (altered != bytes && place == averaged) {
+                check::equal(check, "whether the thermal average rules");
             }
         }
     }
@@ -441,18 +489,22 @@ void check_names_of_checks(const std::string &examples) {
     x[7] = 1'000 % 256;
     x[8] = 1'000 / 256;
     const std::string covered = "payments and shortfall against all compensations";
-    check_notices(x, {{{{WHEATRUDDER_HEAD_TOTAL, 1}}, "sum of all compensations"},
-                      {{{WHEATRUDDER_HEAD_SHORTFALL, 1}}, covered},
-                      {{{WHEATRUDDER_HEAD_ROUNDS, 1}}, "number of rounds"},
-                      {{{WHEATRUDDER_HEAD_VISITS_PS, 1}}, "number of visits to payers"},
-                      {{{at(0, WHEATRUDDER_LINE_COMPENSATION), 1}}, "sum of all compensations"},
-                      {{{at(0, WHEATRUDDER_LINE_CUT), 1}}, "sum of all cuts"},
-                      {{{at(1, WHEATRUDDER_LINE_WEIGHT), 1}}, "weight of row 2"},
-                      {{{at(1, WHEATRUDDER_LINE_CAP), 1}}, "cap of row 2"},
-                      {{{at(1, WHEATRUDDER_LINE_PAID), 1}}, covered},
-                      {{{at(1, WHEATRUDDER_LINE_PAID), 1}, {at(2, WHEATRUDDER_LINE_PAID), -1}}, "payment of row 2"},
-                      {{{at(2, WHEATRUDDER_LINE_CLOSING), -1}}, "round in which row 3 reached its cap"},
-                      {{{at(2, WHEATRUDDER_LINE_RETURNED), 1}}, "sum of all that is returned"}});
+    check_notices(x,
+                  {{{{WHEATRUDDER_HEAD_TOTAL, 1}}, "sum of all compensations"},
+                   {{{WHEATRUDDER_HEAD_SHORTFALL, 1}}, covered},
+                   {{{WHEATRUDDER_HEAD_ROUNDS, 1}}, "number of rounds"},
+                   {{{WHEATRUDDER_HEAD_VISITS_PS, 1}}, "number of visits to payers"},
+                   {{{WHEATRUDDER_HEAD_AVERAGED_PS, 1}}, "whether the thermal average rules"},
+                   {{{WHEATRUDDER_HEAD_PRICE1, -200}}, "whether tier 1 has a price"},
+                   {{{WHEATRUDDER_HEAD_PRICE2, -400}, {WHEATRUDDER_HEAD_PRICE2 + 1, -1}}, "whether tier 2 has a price"},
+                   {{{at(0, WHEATRUDDER_LINE_COMPENSATION), 1}}, "sum of all compensations"},
+                   {{{at(0, WHEATRUDDER_LINE_CUT), 1}}, "sum of all cuts"},
+                   {{{at(1, WHEATRUDDER_LINE_WEIGHT), 1}}, "weight of row 2"},
+                   {{{at(1, WHEATRUDDER_LINE_CAP), 1}}, "cap of row 2"},
+                   {{{at(1, WHEATRUDDER_LINE_PAID), 1}}, covered},
+                   {{{at(1, WHEATRUDDER_LINE_PAID), 1}, {at(2, WHEATRUDDER_LINE_PAID), -1}}, "payment of row 2"},
+                   {{{at(2, WHEATRUDDER_LINE_CLOSING), -1}}, "round in which row 3 reached its cap"},
+                   {{{at(2, WHEATRUDDER_LINE_RETURNED), 1}}, "sum of all that is returned"}});
     const std::size_t nine = pt_form.head - ps_form.head; // by which all that follows is moved
     check_notices(
         made::stating(made::other_terms, interval({9, 1'300, 6'000}, around_45)),
@@ -461,6 +513,12 @@ void check_names_of_checks(const std::string &examples) {
          {{{WHEATRUDDER_HEAD_LIMITS_PT + 6, -1}}, "mark and terms of the statement"},
          {{{at(1, WHEATRUDDER_LINE_WEIGHT) + nine, 1}}, "weight of row 2"},
          {{{at(2, WHEATRUDDER_LINE_PAID) + nine, 1}, {at(3, WHEATRUDDER_LINE_PAID) + nine, -1}}, "payment of row 3"}});
+    // The average of row 1 is 8,333 kWh: nobody delivers in tier 1.
+    check_notices(read(examples + "/tell/no-wind-low.interval"),
+                  {{{{WHEATRUDDER_HEAD_AVERAGED_PS, -1}}, "whether the thermal average rules"},
+                   {{{WHEATRUDDER_HEAD_AVERAGED_PS, 1}}, "whether the thermal average rules"},
+                   {{{WHEATRUDDER_HEAD_PRICE1, 1}}, "whether tier 1 has a price"},
+                   {{{at(2, WHEATRUDDER_LINE_WEIGHT), 1}}, "weight of row 3"}});
     check_notices(read(examples + "/tell/no-payers.interval"),
                   {{{{at(0, WHEATRUDDER_LINE_COMPENSATION), 1}, {at(1, WHEATRUDDER_LINE_COMPENSATION), -1}},
                     "compensation of row 1"},
@@ -497,6 +555,7 @@ int main(int count, char **words) {
     add_roles(book);
     add_penalties(book);
     add_terms(book);
+    add_average(book);
     add_many_rounds(book);
     add_corrections(book, examples);
     add_names(book, examples);
@@ -510,6 +569,7 @@ int main(int count, char **words) {
     const Bytes x = read(examples + "/x.interval");
     check_disagreements(x);
     check_disagreements(made::stating(issued_terms, x));
+    check_disagreements(read(examples + "/tell/no-wind.interval"));
     check_names_of_checks(examples);
     return check::passed("explain");
 }

@@ -230,6 +230,33 @@ void stated_terms() {
     holds(!quarter_of(read_pair(interval_of())).statement->terms(), "a head PH states terms");
 }
 
+// A quarter that the thermal average rules, and one that it rules only without, or only with its correction.
+void the_thermal_average() {
+    const Slot at{{day}, {nine}};
+    const Bytes still = made::interval(at, 1'300, made::rows_without_wind());
+    const std::vector<made::Entry> rows = made::rows_without_wind(), of_x = made::rows_of_x();
+    const ReadIn alone = read_pair(still);
+    const Statement &statement = *quarter_of(alone).statement;
+    holds(statement.is_averaged(), "the average rules");
+    equal(statement.of({1})->net().count, 39'000);
+    equal(statement.of({2})->paid.count, 39'000);
+    equal(statement.of({2})->weight.count, 1'500);
+    const auto is_averaged = [](const ReadIn &reading) {
+        const QuarterRead &quarter = quarter_of(reading);
+        return std::pair{quarter.before->is_averaged(), quarter.statement->is_averaged()};
+    };
+    holds(is_averaged(read_pair(still, made::correction(at, {of_x[2]}))) == std::pair{true, false}, "wind after all");
+    holds(is_averaged(read_pair(still, made::correction(at, {of_x[1]}))) == std::pair{true, false}, "above half load");
+    holds(is_averaged(read_pair(interval_of(), made::correction(at, {rows[1], rows[2]}))) == std::pair{false, true},
+          "no wind after all");
+    const ReadIn stated =
+        read_pair(made::stating(made::other_terms, made::interval(at, 1'300, made::rows_without_wind(11'250))));
+    holds(quarter_of(stated).statement->is_averaged() && quarter_of(stated).statement->terms() == made::other_terms,
+          "the average rules under stated terms");
+    holds(!quarter_of(read_pair(made::stating(made::other_terms, still))).statement->is_averaged(),
+          "row 2 is above 45 percent");
+}
+
 // The control centre has sent the file again with other terms: nobody chooses, and both terms are told.
 void two_terms() {
     const fs::path in = folder();
@@ -1251,6 +1278,7 @@ void drawn_day() {
 void all_states() {
     states();
     stated_terms();
+    the_thermal_average();
     two_interval_files();
     two_terms();
     two_corrections();

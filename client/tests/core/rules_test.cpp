@@ -1,6 +1,7 @@
 // The rules of a quarter, from the head of its interval file. Every figure here was worked out by hand from document 01
 // with 45 percent in the place of 50 (document 02, request 6): 45, 40, 60 and 70 percent of 100 MW are 11,250, 10,000,
-// 15,000 and 17,500 kWh.
+// 15,000 and 17,500 kWh. So was every figure of a quarter that the thermal average rules (request 9).
+#include "average.h"
 #include "check.h"
 #include "duties.h"
 #include "explain.h"
@@ -40,26 +41,28 @@ void check_forms() {
     check::equal(lengths({'P', 'H'}), "15 + 21");
     check::equal(lengths({'P', 'G'}), "24 + 21");
     check::equal(lengths({'P', 'K', 0}), "9 + 21");
-    check::equal(lengths({'P', 'S'}), "39 + 42");
-    check::equal(lengths({'P', 'T'}), "48 + 42");
+    check::equal(lengths({'P', 'S'}), "40 + 42");
+    check::equal(lengths({'P', 'T'}), "49 + 42");
     for (const Bytes &other : {Bytes{}, Bytes{'P'}, Bytes{'P', 'W'}, Bytes{'H', 'P'}, Bytes{'P', 'h'}, Bytes{'K'}}) {
         check::equal(lengths(other), "none");
     }
     check::equal(ph_form.length(256), std::size_t{5'391});
     check::equal(pg_form.length(256), std::size_t{5'400});
-    check::equal(pt_form.length(256), std::size_t{10'800});
+    check::equal(pt_form.length(256), std::size_t{10'801});
 }
 
 // A whole file of one form has never, and not with a byte more or less either, the length of another form.
 void check_lengths() {
-    std::map<std::size_t, FileForm> near;
+    std::map<std::size_t, FileForm> whole;
     for (const FileForm &form : forms) {
         for (std::size_t rows = 0; rows <= 256; ++rows) {
-            for (const std::size_t length : {form.length(rows) - 1, form.length(rows), form.length(rows) + 1}) {
-                const auto [found, is_new] = near.emplace(length, form);
-                check::holds(is_new || found->second == form, "two forms of nearly one length");
-            }
+            whole.emplace(form.length(rows), form);
         }
+    }
+    check::equal(whole.size(), 257 * forms.size(), "lengths");
+    for (const auto &[length, form] : whole) {
+        const auto next = whole.find(length + 1);
+        check::holds(next == whole.end(), "two forms of nearly one length");
     }
 }
 
@@ -76,6 +79,8 @@ void check_rules_as_issued() {
     const Rules rules = rules_of(interval());
     check::holds(rules.form == ph_form, "the form");
     check::equal(rules.tariff.count, 1'300);
+    check::equal(rules.need.count, 0);
+    check::holds(!rules.average, "a head knows of no average");
     check::equal(described(rules.terms), "50 100 320 320 750");
     check::equal(rules.tier_2, 40);
     check::holds(rules.band_ends == std::array{60, 70} && rules.factors == std::array{1, 2, 3}, "the weights");
@@ -221,6 +226,93 @@ void check_other_numbers() {
     check::equal(penalty_of(reduced, rules, calls).rounded().count, 20'000);
     rules.penalty = 3;
     check::equal(penalty_of(reduced, rules, calls).rounded().count, 30'000);
+}
+
+Row still(Kind kind, Status status = Status::normal, std::int64_t metered = 0) {
+    return {{9}, kind, 100, {metered}, status};
+}
+
+// When the thermal average rules, and of what it is made: 9,000 and 25,000 kWh of 100 and 200 MW.
+void check_ruling_average() {
+    const auto average = [](const std::vector<Row> &rows, int baseline = 50, std::int64_t need = 1) {
+        Rules rules = rules_at(baseline);
+        rules.need = {need};
+        const auto found = ruling_average(rows, rules);
+        return found ? text(found->energy) + " " + text(found->capacity) : "none";
+    };
+    const Row low = thermal(9'000), at_baseline = thermal(25'000, Status::normal, 200);
+    check::equal(average({low, at_baseline}), "34,000 300");
+    check::equal(average({low, at_baseline, still(Kind::wind), still(Kind::solar, Status::accident)}), "34,000 300");
+    check::equal(average({low}), "9,000 100");
+    check::equal(average({low, at_baseline}, 50, 0), "none");
+    check::equal(average({}), "none");
+    check::equal(average({still(Kind::wind)}), "none");
+    // A kWh of wind or sun, also of who takes no part; and a kWh above the baseline, whatever the status.
+    check::equal(average({low, at_baseline, still(Kind::wind, Status::normal, 1)}), "none");
+    check::equal(average({low, at_baseline, still(Kind::solar, Status::accident, 1)}), "none");
+    for (const Status status : {Status::normal, Status::starting, Status::reduced, Status::accident}) {
+        check::equal(average({low, thermal(12'500, status)}), "21,500 200");
+        check::equal(average({low, thermal(12'501, status)}), "none");
+    }
+    // Under 45 percent the baseline of 101 MW is 11,362.5 kWh, cut.
+    check::equal(average({low, thermal(11'362, Status::normal, 101)}, 45), "20,362 201");
+    check::equal(average({low, thermal(11'363, Status::normal, 101)}, 45), "none");
+    check::equal(average({low, at_baseline}, 45), "none");
+}
+
+// 9,000, 18,000 and 25,000 kWh of 100, 150 and 200 MW: 52,000 of 450, which is 11,555.5… of 100 MW, 17,333.3… of 150
+// and 23,111.1… of 200, each cut.
+void check_averaged_energies() {
+    Rules rules = rules_at(50);
+    rules.average = Average{{52'000}, 450};
+    const Row low = thermal(9'000), middle = thermal(18'000, Status::starting, 150);
+    const Row high = thermal(25'000, Status::normal, 200);
+    check::equal(baseline_of(low, rules).count, 11'555, "the average of 100 MW");
+    check::equal(baseline_of(middle, rules).count, 17'333, "the average of 150 MW");
+    check::equal(baseline_of(high, rules).count, 23'111, "the average of 200 MW");
+    const auto is = [&](Role role, const Row &row) {
+        check::holds(role_of(row, rules) == role, "the role at " + text(row.metered) + " by the average");
+    };
+    is(Role::receiver, thermal(11'554));
+    is(Role::payer, thermal(11'555));
+    is(Role::payer, thermal(11'555, Status::reduced));
+    is(Role::bystander, thermal(11'555, Status::accident));
+    is(Role::bystander, thermal(11'554, Status::starting));
+    is(Role::payer, middle);
+    is(Role::payer, high);
+    is(Role::payer, still(Kind::wind));
+    is(Role::bystander, still(Kind::solar, Status::accident));
+    check::equal(weight_of(low, rules).count, 0);
+    check::equal(weight_of(thermal(11'555), rules).count, 0);
+    check::equal(weight_of(middle, rules).count, 667);
+    check::equal(weight_of(high, rules).count, 1'889);
+    check::equal(weight_of(still(Kind::wind), rules).count, 0);
+    check::equal(cap_of(high, rules).cut().count, 81'250);
+    check::equal(cap_of(low, rules).cut().count, 0);
+    // Down to tier 2, and below it; with an average of 9,000 kWh of 100 MW there is nothing of tier 1.
+    const auto held = [](const Row &row, const Rules &by) {
+        const auto [first, second] = held_back(row, by);
+        return text(first) + " " + text(second);
+    };
+    check::equal(held(low, rules), "1,555 1,000");
+    check::equal(held(thermal(11'000), rules), "555 0");
+    check::equal(held(thermal(11'555), rules), "0 0");
+    check::equal(held(thermal(12'000), rules), "0 0");
+    Rules lower = rules;
+    lower.average = Average{{18'000}, 200};
+    check::equal(held(thermal(8'000), lower), "0 1,000");
+    check::equal(held(thermal(9'000), lower), "0 0");
+    check::equal(held(thermal(9'500), lower), "0 0");
+    check::equal(held(thermal(10'500), lower), "0 0");
+    // Called for 2,500 and 2,000 kWh: 945 and 1,000 are missing, at twice 200 and 400 li.
+    const Calls calls{{Kwh{2'500}, Kwh{2'000}}, {Li{200}, Li{400}}};
+    check::equal(penalty_of(thermal(9'000, Status::reduced), rules, calls).rounded().count, 37'800 + 80'000);
+    check::equal(compensation_of(low, rules, calls).rounded().count, 31'100 + 40'000);
+    check::holds(has_delivered(low, rules, calls.called, 0) && has_delivered(low, rules, calls.called, 1), "delivered");
+    check::holds(!has_delivered(thermal(11'000), rules, calls.called, 1), "delivered nothing in tier 2");
+    check::holds(!has_delivered(thermal(11'555), rules, calls.called, 0), "delivered nothing at all");
+    check::holds(!has_delivered(low, rules, {Kwh{0}, Kwh{1}}, 0), "not called");
+    check::holds(!has_delivered(thermal(9'000, Status::reduced), rules, calls.called, 0), "not to be paid");
 }
 
 void check_loads() {
@@ -404,6 +496,8 @@ int main() {
     check_roles();
     check_energies();
     check_other_numbers();
+    check_ruling_average();
+    check_averaged_energies();
     check_loads();
     check_words();
     check_rules_count();

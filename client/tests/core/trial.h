@@ -123,7 +123,8 @@ struct Drawn {
     Bytes interval, correction;
 };
 
-// Files that are accepted, of any figures.
+// Files that are accepted, of any figures. One interval file in four has neither wind nor sun, nor a thermal unit above
+// its baseline.
 class Drawer {
   public:
     explicit Drawer(unsigned seed) : random_(seed) {}
@@ -171,11 +172,12 @@ class Drawer {
     Bytes interval_under(const client::Terms &terms, std::uint32_t day, std::uint8_t quarter, std::uint32_t rows) {
         Bytes bytes(15 + row_length * rows);
         bytes[0] = 'P', bytes[1] = 'H';
+        const bool is_still = below(4) == 0;
         set(bytes, 7, 1 + below(4'000), 2);
         set(bytes, 9, below(200'000), 4);
         set(bytes, 13, rows, 2);
         for (std::uint32_t row = 0; row < rows; ++row) {
-            put_row(bytes, 15 + row_length * row, 1 + 7 * row + below(7), terms);
+            put_row(bytes, 15 + row_length * row, 1 + 7 * row + below(7), terms, is_still);
         }
         return for_slot(bytes, day, quarter);
     }
@@ -186,16 +188,17 @@ class Drawer {
         return static_cast<std::uint64_t>(lowest.count) + below(choices);
     }
 
-    void put_row(Bytes &bytes, std::size_t at, std::uint32_t id, const client::Terms &terms) {
+    void put_row(Bytes &bytes, std::size_t at, std::uint32_t id, const client::Terms &terms, bool is_still) {
         const std::uint32_t kind = 1 + below(3), capacity = 1 + below(250), offers = kind == 1 && below(3) > 0;
+        const std::uint32_t baseline = capacity * static_cast<std::uint32_t>(terms.baseline) * 5 / 2;
+        const std::uint32_t most = !is_still ? 275 * capacity : kind == 1 ? baseline : 0;
         bytes[at] = 'P', bytes[at + 1] = 'R';
         set(bytes, at + 2, id, 2);
         set(bytes, at + 4, kind, 1);
         set(bytes, at + 5, capacity, 2);
-        set(bytes, at + 7, below(275 * capacity), 4);
+        set(bytes, at + 7, below(most + 1), 4);
         set(bytes, at + 11, below(4) > 0 ? 0 : kind == 1 ? below(4) : 3 * below(2), 1);
         set(bytes, at + 12, offers, 1);
-        const std::uint32_t baseline = capacity * static_cast<std::uint32_t>(terms.baseline) * 5 / 2;
         set(bytes, at + 13, offers ? below(baseline + 1) : 0, 4);
         set(bytes, at + 17, offers ? bid(terms.limits[0], terms.limits[1]) : 0, 2);
         set(bytes, at + 19, offers ? bid(terms.limits[2], terms.limits[3]) : 0, 2);

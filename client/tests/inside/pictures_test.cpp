@@ -60,6 +60,9 @@ const Picture pictures[] = {
     // The quarter that states its terms, and the unit between their baseline and half load.
     {.name = "terms", .of = std::pair{RowId{311}, Quarter{16}}},
     {.name = "terms-zh", .tongue = Tongue::chinese, .of = std::pair{RowId{311}, Quarter{16}}},
+    // The quarter that the thermal average rules: a unit that is paid.
+    {.name = "averaged", .of = std::pair{RowId{205}, Quarter{22}}},
+    {.name = "averaged-zh", .tongue = Tongue::chinese, .of = std::pair{RowId{205}, Quarter{22}}},
     {.name = "rows", .screen = Qt::Key_3},
     {.name = "files", .screen = Qt::Key_4},
     {.name = "files-zh", .tongue = Tongue::chinese, .screen = Qt::Key_4},

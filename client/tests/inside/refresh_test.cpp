@@ -27,8 +27,10 @@ const Happening kinds[] = {
      }},
     {"written over in place",
      [](Desk &desk) { made::write(desk.folder / Desk::name(1), made::interval(Desk::slot(1), 1'200)); }},
-    {"replaced by renaming",
-     [](Desk &desk) { made::replace(desk.folder / Desk::name(1), made::interval(Desk::slot(1), 1'200)); }},
+    {"replaced by renaming, by one without wind",
+     [](Desk &desk) {
+         made::replace(desk.folder / Desk::name(1), made::interval(Desk::slot(1), 1'300, made::rows_without_wind()));
+     }},
     {"replaced by one with other terms",
      [](Desk &desk) {
          made::replace(desk.folder / Desk::name(1), made::stating(made::other_terms, made::interval(Desk::slot(1))));

@@ -1,6 +1,10 @@
 // Keys, tongues, names for screen readers, sizes; and an explanation that does not come to the statement's fen.
+#include "chart.h"
+#include "chart_plan.h"
+#include "day_model.h"
 #include "desk.h"
 #include "quarter_pane.h"
+#include "rows_model.h"
 #include "screen_text.h"
 
 #include <QAbstractButton>
@@ -35,17 +39,52 @@ void state_terms(Desk &desk, unsigned of) {
     made::write(desk.folder / Desk::name(of), made::stating(made::other_terms, made::interval(Desk::slot(of))));
 }
 
-// The statement of a quarter with one fen moved from row 3 to row 2, in a reading that is otherwise the same.
-std::shared_ptr<const Reading> with_a_moved_fen(const Reading &reading, Slot slot) {
+// Interval X without wind: the thermal average rules.
+void stop_wind(Desk &desk, unsigned of) {
+    made::write(desk.folder / Desk::name(of), made::interval(Desk::slot(of), 1'300, made::rows_without_wind()));
+}
+
+// A reading with another statement of a quarter, and otherwise the same.
+std::shared_ptr<const Reading> with_statement(const Reading &reading, Slot slot, void (*alter)(Bytes &)) {
     auto altered = std::make_shared<Reading>(reading);
     QuarterRead &quarter = altered->days.at(slot.day)[slot.quarter.number];
     Bytes bytes(quarter.statement->bytes().begin(), quarter.statement->bytes().end());
-    const std::size_t head = states_terms(bytes) ? 48 : 39;
+    alter(bytes);
+    quarter.statement = Statement(bytes);
+    return altered;
+}
+
+// One fen from row 3 to row 2.
+void move_a_fen(Bytes &bytes) {
+    const std::size_t head = states_terms(bytes) ? 49 : 40;
     const auto paid_of = [&](std::size_t line) { return head + 42 * line + 28; };
     ++bytes[paid_of(1)];
     --bytes[paid_of(2)];
-    quarter.statement = Statement(bytes);
-    return altered;
+}
+
+void turn_average(Bytes &bytes) {
+    bytes[states_terms(bytes) ? 48 : 39] ^= 1;
+}
+
+// What is done to a quarter's statement, a step that is told without it, and what is told then.
+struct Altered {
+    unsigned of;
+    void (*alter)(Bytes &);
+    const char *step, *told;
+};
+
+void has_all(const QString &text, const QStringList &parts) {
+    for (const QString &part : parts) {
+        QVERIFY2(text.contains(part), qPrintable(part));
+    }
+}
+
+// Whether a chart has the mark of a quarter that the thermal average rules.
+bool has_lid(Chart &chart, const PlantDay &day, int number) {
+    const ChartPlan plan = plan_chart(day, chart.size(), chart.fontMetrics(), Tongue::english);
+    const QImage image = chart.grab().toImage();
+    const QRgb ink = chart.palette().color(QPalette::Text).rgb();
+    return image.pixel(plan.lid(number).center()) == ink;
 }
 
 } // namespace
@@ -63,6 +102,7 @@ class ScreensTest : public QObject {
     void a_correction_says_before_and_now();
     void a_moved_fen_leaves_no_steps();
     void terms_that_ruled();
+    void the_average_that_ruled();
     void no_bids_of_neighbours();
     void fits_small_windows_and_large_letters();
     void settings_hold_no_figure();
@@ -140,7 +180,9 @@ void ScreensTest::tongues_are_switched_at_once() {
     Desk desk;
     made::write(desk.folder / Desk::name(1, "correction"), made::wind_corrected(Desk::slot(1), 6'000));
     made::write(desk.folder / "note.txt", {'h', 'i'});
-    state_terms(desk, 0);
+    // Terms, and a thermal average that rules.
+    const Bytes still = made::interval(Desk::slot(0), 1'300, made::rows_without_wind(11'000));
+    made::write(desk.folder / Desk::name(0), made::stating(made::other_terms, still));
     desk.open();
     desk.window().choose_quarter({0});
     static const QRegularExpression chinese("[\\x{4e00}-\\x{9fff}]"), english("[a-z]{3,} [a-z]{2,}");
@@ -198,10 +240,14 @@ void ScreensTest::a_correction_says_before_and_now() {
 void ScreensTest::a_moved_fen_leaves_no_steps() {
     Desk desk;
     state_terms(desk, 1);
+    stop_wind(desk, 2);
     desk.open();
-    // What the statement says is 250.00 and, under the terms that quarter 1 states, 152.94: it counts.
-    for (const auto &[of, step, moved] :
-         {std::tuple{0u, "Round 1", "249.99"}, std::tuple{1u, "states other terms", "152.93"}}) {
+    // What the statement says is 250.00 and, under the terms that quarter 1 states, 152.94: it counts. That the thermal
+    // average rules is moved in quarters 0 and 2.
+    for (const auto &[of, alter, step, told] :
+         {Altered{0, move_a_fen, "Round 1", "249.99"}, Altered{1, move_a_fen, "states other terms", "152.93"},
+          Altered{0, turn_average, "Round 1", "whether the thermal average"},
+          Altered{2, turn_average, "average load", "whether the thermal average"}}) {
         Shown shown = desk.window().shown();
         shown.quarter = Desk::slot(of).quarter;
         QuarterPane pane;
@@ -209,12 +255,12 @@ void ScreensTest::a_moved_fen_leaves_no_steps() {
         pane.resize(500, 700);
         pane.show();
         QVERIFY(all_text(pane, true).contains(step));
-        shown.reading = with_a_moved_fen(*shown.reading, Desk::slot(of));
+        shown.reading = with_statement(*shown.reading, Desk::slot(of), alter);
         pane.fill(shown);
         QVERIFY(all_text(pane, true).contains("does not come to the same figures"));
         QVERIFY(!all_text(pane).contains(step));
         QVERIFY(pane.as_text().isEmpty());
-        QVERIFY(all_text(pane, true).contains(moved));
+        QVERIFY(all_text(pane, true).contains(told));
     }
 }
 
@@ -224,11 +270,6 @@ void ScreensTest::terms_that_ruled() {
     state_terms(desk, 1);
     desk.open();
     auto *pane = desk.window().findChild<QuarterPane *>();
-    const auto has_all = [](const QString &text, const QStringList &parts) {
-        for (const QString &part : parts) {
-            QVERIFY2(text.contains(part), qPrintable(part));
-        }
-    };
     const QStringList names{"Baseline, % of full load", "Bids allowed in tier 1, yuan for each kWh",
                             "Bids allowed in tier 2, yuan for each kWh"};
     desk.window().choose_quarter({0});
@@ -254,6 +295,55 @@ void ScreensTest::terms_that_ruled() {
     has_all(showing(desk), {"基准 45%", "时段文件载明", "0.150 至 0.300", "第二档报价下限至上限"});
 }
 
+// In the pane, its steps and its text, in the chart, its tip and the table, in both tongues; and nowhere of a quarter
+// in which there is wind.
+void ScreensTest::the_average_that_ruled() {
+    Desk desk;
+    stop_wind(desk, 1);
+    desk.open();
+    desk.window().choose_plant({2});
+    auto *pane = desk.window().findChild<QuarterPane *>();
+    auto *chart = desk.window().findChild<Chart *>();
+    const QString sentence = "No wind and no sun, and no thermal unit above its baseline: the thermal average ruled in "
+                             "the baseline's place (Article 22).";
+    desk.window().choose_quarter({0});
+    has_all(all_text(*pane, true), {"Thermal average in the baseline's place", "no"});
+    QVERIFY(!all_text(*pane).contains("thermal average ruled") && !all_text(*pane).contains("Article 22"));
+    QCOMPARE(chart->told().section('.', 0, 0), QString("00:00–00:15: pays 650"));
+    QVERIFY(!chart->told().contains("average"));
+    desk.window().choose_quarter({1});
+    has_all(all_text(*pane, true), {sentence, "Thermal average in the baseline's place", "yes", "pays 390.00 yuan",
+                                    "That is not below the thermal average of 10,500 kWh"});
+    has_all(pane->as_text(),
+            {"1. No wind or solar farm produced anything in this quarter, the grid needed 3,000 kWh of regulation, "
+             "and every thermal unit ran at its baseline of 50 percent or below it.",
+             "2. All thermal units together produced 21,000 kWh and have 200 MW: their average load is "
+             "42 percent.",
+             "3. For this unit of 100 MW the thermal average is 21,000 kWh × 100 ÷ 200 = 10,500 kWh",
+             "1 × (12,000 − 10,500) = 1,500 kWh"});
+    has_all(chart->told(), {"pays 390.00 yuan; the thermal average ruled"});
+    const PlantDay day = plant_day(desk.window().shown().reading, Desk::slot(0).day, {2});
+    QVERIFY2(!has_lid(*chart, day, 0) && has_lid(*chart, day, 1) && !has_lid(*chart, day, 2), "the mark of the chart");
+    const auto note_of = [model = desk.window().findChild<DayModel *>()](int number) {
+        return model->index(number, DayModel::note_column()).data().toString();
+    };
+    QCOMPARE(note_of(0) + "|" + note_of(1) + "|" + note_of(2), QString("|thermal average|"));
+    const auto head_of = [model = desk.window().findChild<RowsModel *>()](int column) {
+        return model->headerData(column, Qt::Horizontal, Qt::AccessibleTextRole).toString();
+    };
+    QCOMPARE(head_of(0) + "|" + head_of(1), QString("00:00–00:15|00:15–00:30; the thermal average ruled"));
+    // A plant that is not in the file, and a row that takes no part: the quarter is what it is.
+    desk.window().choose_plant({77});
+    has_all(all_text(*pane, true), {sentence, "yes"});
+    has_all(chart->told(), {"the plant is not in this quarter's file; the thermal average ruled"});
+    desk.window().choose_plant({2});
+    press(desk, Qt::Key_L, Qt::ControlModifier);
+    has_all(showing(desk),
+            {"按平均负荷率", "临时调整为火电机组平均负荷率", "有偿调峰基准临时调整为火电机组平均负荷率（第二十二条）",
+             "临时有偿调峰基准（10,500 kWh）"});
+    has_all(chart->told(), {"按火电机组平均负荷率"});
+}
+
 // What may be bid is published, what somebody bid is not: neither bids nor minimums of row 1 stand anywhere.
 void ScreensTest::no_bids_of_neighbours() {
     Desk desk;
@@ -262,11 +352,19 @@ void ScreensTest::no_bids_of_neighbours() {
     rows.push_back({4, 1, 100, 20'000, 0, 1, 9'321, 287, 643}); // the dearest: called for nothing
     made::write(desk.folder / Desk::name(0),
                 made::stating(made::other_terms, made::interval(Desk::slot(0), 1'300, rows, 2'000)));
+    // And without wind, where what row 1 held back is told from the thermal average down.
+    rows[1].metered = rows[3].metered = 11'000;
+    rows[2].metered = 0;
+    made::write(desk.folder / Desk::name(1),
+                made::stating(made::other_terms, made::interval(Desk::slot(1), 1'300, rows, 2'000)));
     desk.open();
-    desk.window().choose_quarter({0});
-    QVERIFY(all_text(desk.window()).contains("stated in the interval file"));
-    for (const char *secret : {"8,123", "9,321", "0.287", "0.643"}) {
-        QVERIFY2(!all_text(desk.window()).contains(secret), secret);
+    for (const Quarter of : {Quarter{0}, Quarter{1}}) {
+        desk.window().choose_quarter(of);
+        QVERIFY(all_text(desk.window()).contains("stated in the interval file"));
+        QCOMPARE(all_text(desk.window()).contains("the thermal average ruled"), of == Quarter{1});
+        for (const char *secret : {"8,123", "9,321", "0.287", "0.643"}) {
+            QVERIFY2(!all_text(desk.window()).contains(secret), secret);
+        }
     }
 }
 

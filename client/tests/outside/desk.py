@@ -17,6 +17,8 @@ QUARTER, SPAN, OWED = 12, '03:00–03:15', '5,632.82'
 LATE_SUM, LATE_OWED = '44,495.64', '4,506.22'
 # The quarter whose file states its terms, and what it costs under these and under those as issued.
 STATED, STATED_OWED, ISSUED_OWED = 16, '3,338.23', '3,644.41'
+# The quarter that the thermal average rules, in which it owes nothing, and what it owes there for a kWh of wind.
+CALM, BREATH_OWED = 22, '0.17'
 
 AGAIN = 5           # seconds after which something is done once more
 MONEY = re.compile(r'\d\.\d{2}(?!\d)')

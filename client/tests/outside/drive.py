@@ -14,10 +14,10 @@ from desk import HERE, Desk
 from trials_changes import bursts, changes, disturbed, refused_correction
 from trials_files import bad_input, bad_starts, export, writes_nothing
 from trials_hands import heard, keys, plants, pointer, readers, tab_order, tongues
-from trials_story import story, terms, twice_as_large
+from trials_story import average, story, terms, twice_as_large
 
-TRIALS = (story, terms, keys, plants, tongues, tab_order, pointer, readers, heard, changes, bursts, disturbed, refused_correction, export, writes_nothing, bad_input,
-          bad_starts, twice_as_large)
+TRIALS = (story, terms, average, keys, plants, tongues, tab_order, pointer, readers, heard, changes, bursts, disturbed, refused_correction, export, writes_nothing,
+          bad_input, bad_starts, twice_as_large)
 # A trial that needs another screen than the one this runs on.
 SCREENS = {twice_as_large: {'DISPLAY_SIZE': '2000x1320', 'QT_SCALE_FACTOR': '2'}}
 

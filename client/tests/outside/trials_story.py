@@ -1,9 +1,9 @@
 """The story for which the client was made: a person sees what a day costs, asks why, and a correction comes while they look. Then the same with
-letters twice as large; and a quarter under other terms."""
+letters twice as large; a quarter under other terms; and one that the thermal average rules."""
 import os
 
-from desk import (DATE, DAY_SUM, ISSUED_OWED, LATE_OWED, LATE_SUM, OWED, QUARTER, ROW, SPAN, STATED, STATED_OWED, chinese, english, no_longer_valid, span,
-                  timed)
+from desk import (BREATH_OWED, CALM, DATE, DAY_SUM, ISSUED_OWED, LATE_OWED, LATE_SUM, OWED, QUARTER, ROW, SPAN, STATED, STATED_OWED, chinese, english,
+                  no_longer_valid, span, timed, told_of_bar)
 from trials_changes import replace
 
 
@@ -82,6 +82,32 @@ def terms(desk):
     client.wait_until(lambda: told_terms(client) == issued, f'the terms {issued}')
     client.nowhere(in_words, english('note.terms', '45'), STATED_OWED)
     desk.tell(f'replaced by one that states none: {ISSUED_OWED}, {english("head.terms.issued")}, and neither {STATED_OWED} nor the other terms are anywhere')
+
+
+def average(desk):
+    """A quarter that the thermal average rules; then the file is replaced by one with a kWh of wind, and the baseline rules again."""
+    client = desk.open_day()
+    client.press('ctrl+1', 'Page_Down', 'Page_Down', *['Right'] * (CALM - QUARTER - 8))
+    when, ruled = f'{DATE} {span(CALM)}', english('quarter.averaged')
+    client.must_say(english('zero', ROW, when))
+    client.must_say(ruled)
+    client.must_describe(client.chart(), told_of_bar('chart.by-average', english('chart.zero', span(CALM))))
+    asked = english('head.averaged')
+    client.wait_until(lambda: dict(client.table(english('quarter.head'))[1])[asked] == english('head.averaged.yes'), 'that the average ruled')
+    steps = client.table(english('why.zero'))[1]
+    assert [step[1] for step in steps[:2]] == [english('average.why', '30,000', '50'), english('average.all', '290,135', '2,600', '44.636…')], steps
+    noted = [row[0] for row in client.table(english('day.table'))[1] if row[-1].startswith(english('note.averaged'))]
+    assert noted == ['0.00'], noted
+    desk.tell(f'{span(CALM)} has neither wind nor sun, and pane, steps, chart and table say that the thermal average ruled')
+
+    path = desk.path(f'{DATE}-q{CALM}.interval')
+    with open(path, 'rb') as file:
+        old = file.read()
+    replace(path, old[:15 + 7] + bytes([1]) + old[15 + 8:], desk.work)
+    client.must_say(english('pays', ROW, when, BREATH_OWED))
+    client.wait_until(lambda: dict(client.table(english('quarter.head'))[1])[asked] == english('head.averaged.no'), 'that the baseline ruled')
+    client.nowhere(ruled, english('chart.averaged'), english('note.averaged'), english('average.why', '30,000', '50'))
+    desk.tell(f'replaced by one with a kWh of wind: {BREATH_OWED}, and nothing says any more that the average ruled')
 
 
 def twice_as_large(desk):

@@ -8,6 +8,7 @@ import csv, io, os, shlex, shutil, subprocess, sys, tempfile
 
 READY, NOT_READY, COULD_NOT_RUN = 0, 1, 2
 STATED = 16     # the quarter of the example whose file states its terms
+CALM = 22       # the one without wind and sun, which the thermal average rules
 LAST = 'It may be a correction of any quarter, so no figure is final.'
 held = 0
 
@@ -54,7 +55,8 @@ def whole_day(example, folder):
     for quarter in (9, 10):
         for kind in ('interval', 'correction'):
             shutil.copy(path(example, quarter, kind), folder)
-    shutil.copy(path(example, STATED, 'interval'), folder)
+    for quarter in (STATED, CALM):
+        shutil.copy(path(example, quarter, 'interval'), folder)
     for name in os.listdir(folder):     # not as if they were just arriving
         os.utime(os.path.join(folder, name), (1, 1))
 
@@ -84,8 +86,11 @@ def whole(folder):
     for row in rows:
         due = '45 150 300 350 650' if row['quarter'] == str(STATED) else '50 100 320 320 750'
         holds(' '.join(row[name] for name in names) == due, f'the terms that ruled: {row}')
-    between = next(row for row in rows if (row['quarter'], row['row']) == (str(STATED), '311'))
+        holds(row['averaged'] == ('1' if row['quarter'] == str(CALM) else '0'), f'whether the thermal average ruled: {row}')
+    by_row = {(int(row['quarter']), row['row']): row for row in rows}
+    between = by_row[STATED, '311']
     holds((between['paid_yuan'], between['compensation_fen']) == ('157.58', '0'), 'who pays under the stated terms')
+    holds([by_row[CALM, id]['net_yuan'] for id in ('205', '402', '101')] == ['1681.46', '-884.84', '0.00'], 'who is paid and who pays by the average')
     must(READY, run(folder, '2026-10-31'), 'Ready to book')
     must(READY, run(folder, tongue='zh_CN.UTF-8'), '2026-10-31：可以入账')
     must(NOT_READY, run(folder, '2026-10-30'), '2026-10-30: Not ready to book: 96 missing (first: 00:00–00:15).')
