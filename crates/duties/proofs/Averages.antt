@@ -25,7 +25,7 @@ use Rattle.units.specs.declared.Kwh.{Kwh}
 use Rattle.files.specs.declared.Row.{Row}
 use Rattle.files.specs.declared.Terms.{Terms}
 use Rattle.files.proofs.Ranges.{RowRanges}
-use Rattle.duties.specs.Duty.{thermal, dutyOf}
+use Rattle.duties.specs.Duty.{dutyOf}
 use Rattle.duties.specs.Average.{isThermal, stirs, windless, thermalEnergy, thermalCapacity, usual, joined, averageOf, averageAt, Low}
 use Rattle.duties.specs.declared.Duty.{Duty}
 use Rattle.duties.specs.declared.average.Average.{Average}

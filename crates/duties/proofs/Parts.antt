@@ -17,7 +17,6 @@ use Rattle.units.specs.Load.{load}
 use Rattle.units.specs.declared.Kwh.{Kwh}
 use Rattle.units.specs.declared.Fen.{Fen}
 use Rattle.files.specs.declared.Row.{Row}
-use Rattle.files.specs.Terms.{baseline}
 use Rattle.duties.specs.Duty.{width1, width2, energy1, energy2, credit1, credit2, payer, thermalWeight, weight, cap, dutyOf}
 use Rattle.duties.specs.declared.Duty.{Duty}
 use Rattle.duties.specs.declared.weighing.Corrected.{Corrected}
