@@ -1,5 +1,7 @@
 // What several crates need to say about lists and numbers: definitions in specs/, laws in proofs/. A column is a slice of numbers, one
 // for each row.
+#![tactic(auto)]
+
 ghost use Rattle.std.specs.Prelude.{◌≡◌, cond, ◌+◌, ◌-◌, ◌/◌, ◌^◌, ◌<◌, ◌≤◌, length};
 ghost use Rattle.columns.specs.Sum.{bit, whole};
 
