@@ -26,7 +26,7 @@ pub struct Reading {
 }
 
 // The answer of the writer: so many bytes, or one refusal with its number and its place.
-#[derive(Drop)]
+#[derive(Clone, Copy)]
 pub enum Written {
     Bytes(usize),
     Refused(usize, usize),

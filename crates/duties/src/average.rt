@@ -9,7 +9,7 @@ use units::Kwh;
 
 // Whether the average rules, and the sums that it is made of: output and capacity of the thermal rows. While these are made, it rules
 // as soon as one of the rows is thermal.
-#[derive(Drop)]
+#[derive(Clone, Copy)]
 pub struct Average {
     pub rules: bool,
     pub energy: Kwh,

@@ -34,7 +34,7 @@ const REDUCED: u8 = 2;
 const FOOT: u8 = 40;
 
 // What a row offers, delivered, is credited with, weighs and may be asked to pay.
-#[derive(Drop)]
+#[derive(Clone, Copy)]
 pub struct Duty {
     pub width1: Kwh,
     pub width2: Kwh,

@@ -10,7 +10,7 @@ use files::Row;
 use units::{Fen, Hao, Kwh, load};
 
 // Corrected energy, by which payers share: no measure that anything is priced in, and converted to none.
-#[derive(Drop)]
+#[derive(Clone, Copy)]
 pub struct Corrected(pub u32);
 
 impl Corrected {

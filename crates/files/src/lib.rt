@@ -32,7 +32,7 @@ pub const ROW: usize = 21;
 pub const CORRECTION_HEAD: usize = 9;
 
 // An interval's head, without its mark.
-#[derive(Drop)]
+#[derive(Clone, Copy)]
 pub struct Head {
     pub day: u32,
     pub quarter: u8,
@@ -42,7 +42,7 @@ pub struct Head {
 }
 
 // A row, without its mark.
-#[derive(Drop)]
+#[derive(Clone, Copy)]
 pub struct Row {
     pub id: u16,
     pub kind: u8,
@@ -56,7 +56,7 @@ pub struct Row {
 }
 
 // The terms of a trade: the baseline in percent of full load, the limits of both tiers' bids.
-#[derive(Drop)]
+#[derive(Clone, Copy)]
 pub struct Terms {
     pub percent: u8,
     pub lowest1: Li,
@@ -75,14 +75,14 @@ pub const TERMS_01: Terms = Terms {
 };
 
 // How an interval file is laid out and by which terms: a head PG states its terms, a head PH states none and means document 01's.
-#[derive(Drop)]
+#[derive(Clone, Copy)]
 pub struct Form {
     pub stated: bool,
     pub terms: Terms,
 }
 
 // A correction's head, without its mark.
-#[derive(Drop)]
+#[derive(Clone, Copy)]
 pub struct CorrectionHead {
     pub day: u32,
     pub quarter: u8,
@@ -90,7 +90,7 @@ pub struct CorrectionHead {
 }
 
 // The answer to an interval file and its correction: so many rows, or one refusal with its number and its place.
-#[derive(Drop)]
+#[derive(Clone, Copy)]
 pub enum Verdict {
     Accepted(usize),
     Refused(usize, usize),

@@ -13,7 +13,7 @@ pub use paying::payments;
 use units::Fen;
 
 // What closes in one round: the caps and the weights of those that close, added up; and how many are left open.
-#[derive(Drop)]
+#[derive(Clone, Copy)]
 pub struct Closed {
     pub caps: Fen,
     pub weights: u64,
@@ -21,7 +21,7 @@ pub struct Closed {
 }
 
 // What is left after the last round, in how many rounds a payer reached its cap, and how often a payer was looked at in all.
-#[derive(Drop)]
+#[derive(Clone, Copy)]
 pub struct Rest {
     pub money: Fen,
     pub weight: u64,
@@ -30,7 +30,7 @@ pub struct Rest {
 }
 
 // What is left once penalties have filled a shortfall: of the shortfall, to be cut, and of the penalties, to be returned.
-#[derive(Drop)]
+#[derive(Clone, Copy)]
 pub struct Left {
     pub cut: Fen,
     pub returned: Fen,

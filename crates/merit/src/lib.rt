@@ -107,7 +107,7 @@ fn call_below(bid: Li, widths: &[u32], bids: &[u32], called: &mut [u32]) -> Kwh
 }
 
 // The bands of one bid: the sum of their widths, and how many they are.
-#[derive(Drop)]
+#[derive(Clone, Copy)]
 struct Group {
     sum: Kwh,
     bands: u32,

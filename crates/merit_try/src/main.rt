@@ -13,7 +13,7 @@ fn show(a: u64, b: u64) {
 }
 
 // A row in one tier: what it offers, what it bid, the energy that it is paid for.
-#[derive(Drop)]
+#[derive(Clone, Copy)]
 struct Band {
     width: u32,
     bid: u32,

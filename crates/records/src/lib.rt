@@ -1,4 +1,6 @@
 // Numbers and records in bytes (01, The files): little-endian numbers of any width, a record as a table of widths.
+#![tactic(auto)]
+
 mod cells;
 
 ghost use Rattle.std.specs.Prelude.{◌≡◌, ◌+◌, ◌≤◌, ◌<◌, ◌^◌, length, true};
@@ -11,7 +13,7 @@ pub use cells::{cell, get_column, put_cell, put_column};
 
 // A field of a table of widths, where records of that table stand one after the other: the first begins at `start`, each `stride` bytes
 // after the one before, and the field `offset` bytes into its record.
-#[derive(Drop)]
+#[derive(Clone, Copy)]
 pub struct Field {
     pub start: usize,
     pub stride: usize,

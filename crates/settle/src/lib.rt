@@ -18,7 +18,7 @@ use stages::write_lines;
 use statement::{HEAD, LINE, StatementHead, extra_of, put_head};
 
 // The engine's answer: settled, with the count of bytes written, or a refusal that carries its number and its place.
-#[derive(Drop)]
+#[derive(Clone, Copy)]
 pub enum Answer {
     Settled(usize),
     Refused(usize, usize),

@@ -13,14 +13,14 @@ use statement::{CALLED1, CALLED2, CLOSING, COMPENSATION, CUT, OWED, PAID, PAY, P
 use units::{Fen, Kwh, Li};
 
 // What a tier comes to: the need that it leaves, and its clearing price.
-#[derive(Drop)]
+#[derive(Clone, Copy)]
 pub struct Cleared {
     pub left: Kwh,
     pub price: Li,
 }
 
 // What both tiers come to: the need beyond all bands, and a price for each.
-#[derive(Drop)]
+#[derive(Clone, Copy)]
 pub struct Market {
     pub uncovered: Kwh,
     pub price1: Li,
@@ -28,7 +28,7 @@ pub struct Market {
 }
 
 // The fields in which a tier stands in the lines: widths, which its calls replace, bids, and the energies delivered.
-#[derive(Drop)]
+#[derive(Clone, Copy)]
 pub struct TierFields {
     pub width: Field,
     pub bid: Field,
@@ -183,7 +183,7 @@ fn owed_at(sheet: &[u8], i: usize, price1: Li, price2: Li) -> Fen
 }
 
 // What all rows are paid, and what all owe.
-#[derive(Drop)]
+#[derive(Clone, Copy)]
 pub struct Accounts {
     pub total: Fen,
     pub penalties: Fen,

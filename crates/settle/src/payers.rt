@@ -42,7 +42,7 @@ pub fn collect(total: Fen, first: usize, n: usize, sheet: &mut [u8]) -> Rest
 }
 
 // An amount, the field of the sums that it is shared over, and the field of the shares.
-#[derive(Drop)]
+#[derive(Clone, Copy)]
 pub struct Sharing {
     pub amount: Fen,
     pub from: Field,

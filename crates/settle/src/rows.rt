@@ -20,7 +20,7 @@ use statement::{HEAD, LINE, LINE_LETTER, LINE_WIDTHS};
 use units::{Hao, Kwh};
 
 // What all rows of a file are read by: where they begin, the terms and the tariff.
-#[derive(Drop)]
+#[derive(Clone, Copy)]
 pub struct Job {
     pub start: usize,
     pub terms: Terms,

@@ -1,4 +1,6 @@
 // The one sharing rule (01, Sharing a whole amount): it serves calls, payments and cuts. No word of energy or money.
+#![tactic(auto)]
+
 ghost use Rattle.std.specs.Prelude.{◌+◌, ◌*◌, ◌≤◌, ◌<◌, ◌^◌, ◌≡◌, length};
 ghost use Rattle.columns.specs.Lists.{Lists};
 ghost use Rattle.columns.specs.Sum.{whole};
@@ -10,14 +12,14 @@ ghost use Rattle.share.specs.Steps.{Divided, Carries, Digits, Divisible, Plain, 
 use columns::{one_if, position};
 
 // A product divided by the sum of the weights: the quota, and the remainder.
-#[derive(Drop)]
+#[derive(Clone, Copy)]
 struct Division {
     quota: u64,
     rest: u64,
 }
 
 // Every remainder above `low` is served, and of those equal to it the first `ties` by their turns.
-#[derive(Drop)]
+#[derive(Clone, Copy)]
 struct Line {
     low: u64,
     ties: u64,

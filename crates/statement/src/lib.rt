@@ -12,7 +12,7 @@ use records::{Field, get_record, marked, put_fields, put_record};
 use units::{Fen, Kwh, Li};
 
 // A statement's head, without its mark and without terms. `averaged` is 1 if the thermal average ruled, else 0.
-#[derive(Drop)]
+#[derive(Clone, Copy)]
 pub struct StatementHead {
     pub day: u32,
     pub quarter: u8,

@@ -1,21 +1,23 @@
 // The four measures of the rules (01, Units of account), and every way from one to another: 1 yuan = 100 fen =
 // 1,000 li = 10,000 hao. Bids and tariffs are per kWh. A figure changes its measure by one of these functions only.
+#![tactic(auto)]
+
 ghost use Rattle.std.specs.Prelude.{◌≡◌, cond, ◌+◌, ◌-◌, ◌*◌, ◌/◌, ◌^◌, ◌<◌, ◌≤◌, min, max};
 ghost use Rattle.units.specs.Measure.{to_fen, priced, thermal_cap};
 ghost use Rattle.units.specs.Load.{load, most};
 
 use columns::counted;
 
-#[derive(Drop)]
+#[derive(Clone, Copy)]
 pub struct Kwh(pub u32);
 
-#[derive(Drop)]
+#[derive(Clone, Copy)]
 pub struct Li(pub u64);
 
-#[derive(Drop)]
+#[derive(Clone, Copy)]
 pub struct Hao(pub u32);
 
-#[derive(Drop)]
+#[derive(Clone, Copy)]
 pub struct Fen(pub u64);
 
 impl Kwh {

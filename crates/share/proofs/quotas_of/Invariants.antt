@@ -1,0 +1,12 @@
+-- `share::quotas_of` meets its contract: quotas and remainders are filled up to place j of the list.
+use Prim.Native.Nat.{◌-◌}
+use lib.ListN.{length}
+use Rattle.share.proofs.Steps.{Filled, filled_none, place_in, weight-in, quota-in, leaves-more, filled_next, filled-end, divisible, plain_known}
+use native.Mathlib.Omega.{arith}
+use Rattle.share.proofs.quotas_of.Given as goal
+
+abbrev pub invariant-loop-j : goal.invariant-loop-j
+invariant-loop-j l = Filled l.amount l.weights l.list (length l.initial.rests) l.initial.quotas l.quotas l.rests l.left l.j
+
+abbrev pub decreases-loop-j : goal.decreases-loop-j
+decreases-loop-j l = length l.initial.rests - l.j
