@@ -1,4 +1,6 @@
 // Interval files and corrections (01, The files; 02, request 6): their form, what their bytes say, which refusal they get, which row counts.
+#![tactic(auto)]
+
 use units::{Hao, Kwh, Li};
 
 mod counts;

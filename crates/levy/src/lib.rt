@@ -1,6 +1,8 @@
 // Who pays and how much (01, Rounds; Article 32), on columns with a position for each row: rounds and the work they are (02, request 8),
 // payments, what penalties fill (its request 4), cuts and what is returned. Money is fen, in columns too. Weights are bare numbers of
 // proportion: kWh today, thousandths of a kWh under request 10.
+#![tactic(auto)]
+
 mod closing;
 mod filling;
 mod listing;

@@ -1,0 +1,19 @@
+-- `files::counts::source_at` meets its contract.
+use Prim.Native.Nat.{◌<◌}
+use Rattle.columns.proofs.Choice.{checks}
+use Rattle.files.proofs.Sourced.{has-told}
+use borrow.Author.Rules.{rules}
+use native.Mathlib.Omega.{arith}
+use Rattle.files.proofs.counts.source_at.Goals as goal
+
+pub returns-then-not-is_row : goal.returns-then-not-is_row
+returns-then-not-is_row c = search checks
+
+pub overflow_add-result : goal.overflow_add-result
+overflow_add-result c = let a = c.args in let l : a.j < a.m = search has-told in search rules
+
+pub overflow_cast-result : goal.overflow_cast-result
+overflow_cast-result c = let a = c.args in let l : a.j < a.m = search has-told in search rules
+
+pub returns : goal.returns
+returns c = search checks

@@ -1,0 +1,6 @@
+-- `files::forms::ruling` meets its contract.
+use native.Mathlib.Omega.{arith}
+use Rattle.files.proofs.forms.ruling.Goals as goal
+
+pub returns : goal.returns
+returns c = rw c.if-form.false

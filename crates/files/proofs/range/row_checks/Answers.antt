@@ -1,0 +1,17 @@
+-- `files::range::row_checks` meets its contract.
+use Rattle.columns.proofs.Choice.{checks}
+use Rattle.files.specs.Order.{row_checks}
+use native.Mathlib.Omega.{arith}
+use Rattle.files.proofs.range.row_checks.Goals as goal
+
+pub returns-then-not-ok : goal.returns-then-not-ok
+unfolding row_checks
+returns-then-not-ok c = search checks depth 12
+
+pub returns-then-r-last : goal.returns-then-r-last
+unfolding row_checks
+returns-then-r-last c = search checks depth 12
+
+pub returns : goal.returns
+unfolding row_checks
+returns c = search checks depth 12

@@ -1,0 +1,14 @@
+-- `files::refusal::beside_verdict` meets its contract.
+use Rattle.files.proofs.Named.{own-long, bad-time, good-time}
+use borrow.Author.Rules.{rules}
+use native.Mathlib.Omega.{arith}
+use Rattle.files.proofs.refusal.beside_verdict.Goals as goal
+
+pub same_time-requires : goal.same_time-requires
+same_time-requires c = record { head_size_in_bounds = search own-long; correction_head_size_in_bounds = search rules }
+
+pub returns-then-not-same_time : goal.returns-then-not-same_time
+returns-then-not-same_time c = search bad-time
+
+pub returns : goal.returns
+returns c = search good-time

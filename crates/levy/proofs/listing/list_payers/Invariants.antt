@@ -1,0 +1,15 @@
+-- `levy::list_payers` meets its contract: of the positions passed those of weight stand in the list.
+use Prim.Native.Nat.{◌-◌}
+use lib.ListN.{take}
+use Rattle.columns.proofs.Listed.{Listing, listing_none, listing-room, listing-fits, listing-end}
+use Rattle.levy.specs.Rounds.{is_payer}
+use Rattle.levy.proofs.Listed.{payers-next}
+use borrow.Author.Rules.{rules}
+use native.Mathlib.Omega.{arith}
+use Rattle.levy.proofs.listing.list_payers.Given as goal
+
+abbrev pub invariant-loop-i : goal.invariant-loop-i
+invariant-loop-i l = Listing l.n (is_payer (take l.n l.weights)) l.list l.m l.i
+
+abbrev pub decreases-loop-i : goal.decreases-loop-i
+decreases-loop-i l = l.n - l.i

@@ -1,0 +1,16 @@
+-- `merit::call_below` meets its contract: the positions passed are written, and the sum is theirs.
+use Prim.Native.Nat.{◌-◌}
+use lib.ListN.{length}
+use Rattle.merit.specs.OneTier.{under}
+use Rattle.merit.proofs.Steps.{Grouped, grouped-none, grouped-next, cheap-told, cheap-sum}
+use native.Mathlib.Omega.{arith}
+use Rattle.merit.proofs.call_below.Goals as goal
+
+pub loop-i-init : goal.loop-i-init
+loop-i-init c = search grouped-none
+
+pub loop-i-preserved : goal.loop-i-preserved
+loop-i-preserved c = search grouped-next
+
+pub returns : goal.returns
+returns c = (search cheap-told, search cheap-sum)

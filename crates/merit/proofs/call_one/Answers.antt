@@ -1,0 +1,18 @@
+-- `merit::call_one` meets its contract: the bands passed are called for all that is left.
+use Prim.Native.Nat.{◌-◌, ◌≤◌}
+use lib.ListN.{length}
+use Rattle.columns.proofs.Fill.{Reached, reached-none}
+use Rattle.merit.specs.Walk.{alone}
+use Rattle.merit.proofs.Steps.{alone-next, alone-all}
+use borrow.Author.Rules.{rules}
+use native.Mathlib.Omega.{arith}
+use Rattle.merit.proofs.call_one.Goals as goal
+
+pub loop-i-init : goal.loop-i-init
+loop-i-init c = (search rules, search reached-none)
+
+pub loop-i-preserved : goal.loop-i-preserved
+loop-i-preserved c = (search rules, search alone-next)
+
+pub returns : goal.returns
+returns c = search alone-all
