@@ -28,11 +28,11 @@ value-back number value l = omega arith
 module _ (s k : List ℕ) (room : ℕ) where
   pub settled-number : settled s k room / 4294967296 ≡ number_of (answer_of s k room)
   unfolding settled
-  settled-number = number-back (number_of (answer_of s k room)) (value_of (answer_of s k room)) (answer-packs s k room).value-fits
+  settled-number = number-back (number_of (answer_of s k room)) (value_of (answer_of s k room)) (answer-packs s k room).value_fits
 
   pub settled-value : settled s k room % 4294967296 ≡ value_of (answer_of s k room)
   unfolding settled
-  settled-value = value-back (number_of (answer_of s k room)) (value_of (answer_of s k room)) (answer-packs s k room).value-fits
+  settled-value = value-back (number_of (answer_of s k room)) (value_of (answer_of s k room)) (answer-packs s k room).value_fits
 
 module _ (s k : List ℕ) (id room : ℕ) where
   pub copied-short : room < length (counting_bytes s k id) → copied s k id room ≡ packed 11 0

@@ -181,8 +181,8 @@ module _ {A : Type 0} (refuse : ℕ → ℕ → A) (done : A) (number value : A 
     where
       go : (b : Bool) → (first_refusal rs).applies ≡ b
           → Packs (number (answer_by refuse done (first_refusal rs))) (value (answer_by refuse done (first_refusal rs)))
-      go true e = rw (e, numbers, places) (record { number_fits = (first-number 1 last_number rs bound e).1; value-fits = omega (arith, near) })
-      go false e = rw (e, given) (record { number_fits = zero-le; value-fits = fits e })
+      go true e = rw (e, numbers, places) (record { number_fits = (first-number 1 last_number rs bound e).1; value_fits = omega (arith, near) })
+      go false e = rw (e, given) (record { number_fits = zero-le; value_fits = fits e })
 
 pub answer-packs : (s k : List ℕ) (room : ℕ) → Packs (number_of (answer_of s k room)) (value_of (answer_of s k room))
 unfolding answer_of
@@ -206,7 +206,7 @@ rewritten-packs s room = go (interval_fault s).applies refl
 
     go : (b : Bool) → (interval_fault s).applies ≡ b → Packs (write.number_of (answer b)) (write.value_of (answer b))
     go true e =
-        record { number_fits = (first-number 1 last_number (interval_order s) (interval-numbers s) e).1; value-fits = omega (arith, interval-near s) }
+        record { number_fits = (first-number 1 last_number (interval_order s) (interval-numbers s) e).1; value_fits = omega (arith, interval-near s) }
     go false e = written-packs (reading_of s).contents room
 
 -- ---- the row that counts

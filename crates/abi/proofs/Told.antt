@@ -59,7 +59,7 @@ module _ (s : List ℕ) (room : ℕ) (w : Written) (is : w ≡ rewritten_of s ro
 
 module _ (s k : List ℕ) (id : ℕ) (bytes : List ℕ) (is : bytes ≡ counting_bytes s k id) where
   pub part-packs : Packs 0 (length bytes)
-  part-packs = rw is (record { number_fits = zero-le; value-fits = omega (arith, part-short s k id) })
+  part-packs = rw is (record { number_fits = zero-le; value_fits = omega (arith, part-short s k id) })
 
   pub short-told : (room r : ℕ) → room < length bytes → r ≡ packed 11 0 → r ≡ copied s k id room
   unfolding copied

@@ -14,7 +14,7 @@ packed number value = number * 4294967296 + value
 -- what fits such a word
 pub record Packs (number value : ℕ) : Type 0 where
   pub number_fits : number ≤ last_number
-  pub value-fits : value < 4294967296
+  pub value_fits : value < 4294967296
 
 -- the engine's answer: 0 and the count of bytes, or the refusal's number and place
 unfoldable pub settled : List ℕ → List ℕ → ℕ → ℕ

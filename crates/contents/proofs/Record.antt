@@ -46,5 +46,5 @@ pub row_fits : (t : Terms) (r : Row) → terms_ok t ≡ true → row_ok t r ≡ 
 row_fits t r ok e i =
     let q = row-ranges t r e in
     let sound = sound-of t ok in
-    let most = mul-le-mul {n₂ = 2000} {m₂ = 50} q.capacity-high sound.below in
+    let most = mul-le-mul {n₂ = 2000} {m₂ = 50} q.capacity_high sound.below in
     (i, (omega arith, (omega arith, (omega arith, (omega arith, (omega arith, (omega arith, (omega arith, (omega arith, tt)))))))))

@@ -1,24 +1,24 @@
 -- Demand 3, sentence by sentence, of the figures of any columns of one length; so of every accepted pair of files; and of the
 -- figures read back from the bytes of its statement. The sentences are the fields of `Demand3` (specs/Promise.antt).
---   paid-is-kept              What is paid, plus penalties, less what is returned, equals what receivers keep, to the fen.
---     cut-within, returned-within     (Nobody is cut by more than it is due or returned more than it owes: both are plain differences.)
+--   paid_is_kept              What is paid, plus penalties, less what is returned, equals what receivers keep, to the fen.
+--     cut_within, returned_within     (Nobody is cut by more than it is due or returned more than it owes: both are plain differences.)
 --   within_cap                No payer exceeds its cap.
---   open-share-left           Of the payers with corrected energy, those not capped share what the caps leave ..
---   rate-over, rate-short     .. at one rate for each corrected kWh, rounded by less than a fen, up or down.
---   open-below-cap            At that rate, before rounding, each of them owes less than its cap ..
---   capped-at-cap             .. and each capped one at least its cap.
---   all-capped-covered        If all are capped, their caps together don't exceed the compensation.
---   capped-set                The capped payers have this property ..
---   one-capped-set            .. and only one set of payers has it.
---   cut-only-if-all-capped    Receivers are cut only if all are capped ..
---   cut-only-if-uncovered     .. and the penalties do not cover ..
---   cut-exactly               .. by exactly what caps and penalties leave open.
---     shortfall-all-capped, shortfall-open, cut-is-shortfall-left     The shortfall told is that before penalties; they are taken from it.
---   returned-whole-if-open, returned-whole-if-none-short     With an open payer, or without a shortfall, every penalty is returned whole;
---     returned-is-penalties-left      else what the shortfall leaves of them.
---   rounds-at-most-payers     Rounds in which somebody closes number at most those payers ..
---   rounds-at-most-capped     .. and at most those of them that are capped.
---     rounds-are-closings, somebody-closes    The rounds told are those.
+--   open_share_left           Of the payers with corrected energy, those not capped share what the caps leave ..
+--   rate_over, rate_short     .. at one rate for each corrected kWh, rounded by less than a fen, up or down.
+--   open_below_cap            At that rate, before rounding, each of them owes less than its cap ..
+--   capped_at_cap             .. and each capped one at least its cap.
+--   all_capped_covered        If all are capped, their caps together don't exceed the compensation.
+--   capped_set                The capped payers have this property ..
+--   one_capped_set            .. and only one set of payers has it.
+--   cut_only_if_all_capped    Receivers are cut only if all are capped ..
+--   cut_only_if_uncovered     .. and the penalties do not cover ..
+--   cut_exactly               .. by exactly what caps and penalties leave open.
+--     shortfall_all_capped, shortfall_open, cut_is_shortfall_left     The shortfall told is that before penalties; they are taken from it.
+--   returned_whole_if_open, returned_whole_if_none_short     With an open payer, or without a shortfall, every penalty is returned whole;
+--     returned_is_penalties_left      else what the shortfall leaves of them.
+--   rounds_at_most_payers     Rounds in which somebody closes number at most those payers ..
+--   rounds_at_most_capped     .. and at most those of them that are capped.
+--     rounds_are_closings, somebody_closes    The rounds told are those.
 --   demand3, accepted-demand3, statement-demand3     all of it: of figures, of an accepted pair, of a statement's bytes
 -- Nothing is asked of the columns' numbers: the sentences hold of any.
 use Prim.Native.Nat.{ℕ, ◌+◌, ◌-◌, ◌*◌, ◌≤◌, ◌<◌}
@@ -131,157 +131,157 @@ module _ (need first n : ℕ) (d : Duties) (level : Level n d) (turn : Turn n fi
   turn_owed : Turn (length owed) first
   turn_owed some = omega (arith, turn (omega (arith, long.penalties)), long.penalties)
 
-  pub total-is : f.total ≡ whole pay
+  pub total_is : f.total ≡ whole pay
   unfolding figures
-  total-is = refl
+  total_is = refl
 
-  pub paid-is-kept : (whole f.paid + whole owed) - whole f.returned ≡ sum_to (length pay) (kept f)
+  pub paid_is_kept : (whole f.paid + whole owed) - whole f.returned ≡ sum_to (length pay) (kept f)
   unfolding figures levied
-  paid-is-kept = balance (whole pay) ws cs owed first pay refl turn-pay turn-weights turn_owed
+  paid_is_kept = balance (whole pay) ws cs owed first pay refl turn-pay turn-weights turn_owed
 
-  pub cut-within : (i : ℕ) → at f.cuts i ≤ at pay i
+  pub cut_within : (i : ℕ) → at f.cuts i ≤ at pay i
   unfolding figures levied
-  cut-within = cut-le (whole pay) ws cs owed first pay refl
+  cut_within = cut-le (whole pay) ws cs owed first pay refl
 
-  pub returned-within : (i : ℕ) → at f.returned i ≤ at owed i
+  pub returned_within : (i : ℕ) → at f.returned i ≤ at owed i
   unfolding figures levied
-  returned-within = returned-le (whole pay) ws cs owed first
+  returned_within = returned-le (whole pay) ws cs owed first
 
   pub within_cap : (i : ℕ) → at f.paid i ≤ at cs i
   unfolding figures levied
   within_cap = payment-le-cap (whole pay) ws cs first
 
-  pub capped-pays-cap : (i : ℕ) → CappedPayer f i → at f.paid i ≡ at cs i
+  pub capped_pays_cap : (i : ℕ) → CappedPayer f i → at f.paid i ≡ at cs i
   unfolding figures levied
-  capped-pays-cap i p = pays-at (whole pay) ws cs first i ∙ paid-closed ws cs (final (whole pay) ws cs) first i p.1
+  capped_pays_cap i p = pays-at (whole pay) ws cs first i ∙ paid-closed ws cs (final (whole pay) ws cs) first i p.1
 
-  pub no-energy-no-pay : (i : ℕ) → at ws i ≡ 0 → at f.paid i ≡ 0
+  pub no_energy_no_pay : (i : ℕ) → at ws i ≡ 0 → at f.paid i ≡ 0
   unfolding figures levied
-  no-energy-no-pay i z =
+  no_energy_no_pay i z =
       pays-at (whole pay) ws cs first i ∙ paid-none (whole pay) ws cs (final (whole pay) ws cs) (final-sound (whole pay) ws cs) first i z
 
-  pub open-share-left : (i : ℕ) → OpenPayer f i → sum_where (length ws) (outside ws (capped f)) (at f.paid) ≡ left_over f
+  pub open_share_left : (i : ℕ) → OpenPayer f i → sum_where (length ws) (outside ws (capped f)) (at f.paid) ≡ left_over f
   unfolding figures levied
-  open-share-left i p = open-left (whole pay) ws cs first turn-weights i p.0 p.1
+  open_share_left i p = open-left (whole pay) ws cs first turn-weights i p.0 p.1
 
-  pub rate-over : (i : ℕ) → OpenPayer f i → at f.paid i * open_energy f < left_over f * at ws i + open_energy f
+  pub rate_over : (i : ℕ) → OpenPayer f i → at f.paid i * open_energy f < left_over f * at ws i + open_energy f
   unfolding figures levied
-  rate-over i p =
+  rate_over i p =
       rw (closers-left (whole pay) ws cs, closers-beside (whole pay) ws cs, pays-at (whole pay) ws cs first i)
       (open-rate-over (whole pay) ws cs first i p.1 p.0)
 
-  pub rate-short : (i : ℕ) → OpenPayer f i → left_over f * at ws i < at f.paid i * open_energy f + open_energy f
+  pub rate_short : (i : ℕ) → OpenPayer f i → left_over f * at ws i < at f.paid i * open_energy f + open_energy f
   unfolding figures levied
-  rate-short i p =
+  rate_short i p =
       rw (closers-left (whole pay) ws cs, closers-beside (whole pay) ws cs, pays-at (whole pay) ws cs first i)
       (open-rate-short (whole pay) ws cs first i p.1 p.0)
 
-  pub open-below-cap : (i : ℕ) → OpenPayer f i → left_over f * at ws i < at cs i * open_energy f
+  pub open_below_cap : (i : ℕ) → OpenPayer f i → left_over f * at ws i < at cs i * open_energy f
   unfolding figures levied
-  open-below-cap i p =
+  open_below_cap i p =
       rw (closers-left (whole pay) ws cs, closers-beside (whole pay) ws cs) (open-owe (whole pay) ws cs i p.1 p.0)
 
-  pub capped-at-cap : (i : ℕ) → CappedPayer f i → at cs i * open_energy f ≤ left_over f * at ws i
+  pub capped_at_cap : (i : ℕ) → CappedPayer f i → at cs i * open_energy f ≤ left_over f * at ws i
   unfolding figures levied
-  capped-at-cap i p = rw (closers-left (whole pay) ws cs, closers-beside (whole pay) ws cs) (capped-owe (whole pay) ws cs i p.1)
+  capped_at_cap i p = rw (closers-left (whole pay) ws cs, closers-beside (whole pay) ws cs) (capped-owe (whole pay) ws cs i p.1)
 
-  pub all-capped-covered : AllCapped f → capped_caps f ≤ f.total
+  pub all_capped_covered : AllCapped f → capped_caps f ≤ f.total
   unfolding figures levied
-  all-capped-covered all = closed-caps (whole pay) ws cs
+  all_capped_covered all = closed-caps (whole pay) ws cs
 
-  pub capped-set : Capped f.total ws cs (capped f)
+  pub capped_set : Capped f.total ws cs (capped f)
   unfolding figures levied
-  capped-set = final-capped (whole pay) ws cs
+  capped_set = final-capped (whole pay) ws cs
 
-  pub one-capped-set : (p : ℕ → Bool) → Capped f.total ws cs p → (i : ℕ) → 0 < at ws i → p i ≡ capped f i
+  pub one_capped_set : (p : ℕ → Bool) → Capped f.total ws cs p → (i : ℕ) → 0 < at ws i → p i ≡ capped f i
   unfolding figures levied
-  one-capped-set = capped-unique (whole pay) ws cs
+  one_capped_set = capped-unique (whole pay) ws cs
 
-  pub shortfall-all-capped : AllCapped f → f.shortfall ≡ f.total - capped_caps f
+  pub shortfall_all_capped : AllCapped f → f.shortfall ≡ f.total - capped_caps f
   unfolding figures levied
-  shortfall-all-capped = all-capped (whole pay) ws cs
+  shortfall_all_capped = all-capped (whole pay) ws cs
 
-  pub shortfall-open : (i : ℕ) → OpenPayer f i → f.shortfall ≡ 0
+  pub shortfall_open : (i : ℕ) → OpenPayer f i → f.shortfall ≡ 0
   unfolding figures levied
-  shortfall-open i p = shortfall-none (whole pay) ws cs i p.0 p.1
+  shortfall_open i p = shortfall-none (whole pay) ws cs i p.0 p.1
 
-  pub cut-only-if-all-capped : (j : ℕ) → 0 < at f.cuts j → AllCapped f
+  pub cut_only_if_all_capped : (j : ℕ) → 0 < at f.cuts j → AllCapped f
   unfolding figures levied
-  cut-only-if-all-capped = cut-capped (whole pay) ws cs owed first pay
+  cut_only_if_all_capped = cut-capped (whole pay) ws cs owed first pay
 
-  pub cut-only-if-uncovered : (j : ℕ) → 0 < at f.cuts j → whole owed < f.total - capped_caps f
-  cut-only-if-uncovered j up = rw (← shortfall-all-capped (cut-only-if-all-capped j up)) short
+  pub cut_only_if_uncovered : (j : ℕ) → 0 < at f.cuts j → whole owed < f.total - capped_caps f
+  cut_only_if_uncovered j up = rw (← shortfall_all_capped (cut_only_if_all_capped j up)) short
     where
       short : whole owed < f.shortfall
       short = unfold figures levied in cut-uncovered (whole pay) ws cs owed first pay j up
 
-  pub cut-is-shortfall-left : whole f.cuts ≡ f.shortfall - whole owed
+  pub cut_is_shortfall_left : whole f.cuts ≡ f.shortfall - whole owed
   unfolding figures levied
-  cut-is-shortfall-left = cuts-total (whole pay) ws cs owed first pay refl turn-pay
+  cut_is_shortfall_left = cuts-total (whole pay) ws cs owed first pay refl turn-pay
 
-  pub cut-exactly : AllCapped f → whole f.cuts ≡ f.total - capped_caps f - whole owed
-  cut-exactly all = cut-is-shortfall-left ∙ ap (λ (x : ℕ). x - whole owed) (shortfall-all-capped all)
+  pub cut_exactly : AllCapped f → whole f.cuts ≡ f.total - capped_caps f - whole owed
+  cut_exactly all = cut_is_shortfall_left ∙ ap (λ (x : ℕ). x - whole owed) (shortfall_all_capped all)
 
-  pub returned-is-penalties-left : whole f.returned ≡ whole owed - f.shortfall
+  pub returned_is_penalties_left : whole f.returned ≡ whole owed - f.shortfall
   unfolding figures levied
-  returned-is-penalties-left = returned-total (whole pay) ws cs owed first turn_owed
+  returned_is_penalties_left = returned-total (whole pay) ws cs owed first turn_owed
 
-  pub returned-whole-if-open : (i : ℕ) → OpenPayer f i → f.returned ≡ owed
+  pub returned_whole_if_open : (i : ℕ) → OpenPayer f i → f.returned ≡ owed
   unfolding figures levied
-  returned-whole-if-open i p = returned-open (whole pay) ws cs owed first i p.0 p.1
+  returned_whole_if_open i p = returned-open (whole pay) ws cs owed first i p.0 p.1
 
-  pub returned-whole-if-none-short : f.shortfall ≡ 0 → f.returned ≡ owed
+  pub returned_whole_if_none_short : f.shortfall ≡ 0 → f.returned ≡ owed
   unfolding figures levied
-  returned-whole-if-none-short = returned-whole (whole pay) ws cs owed first
+  returned_whole_if_none_short = returned-whole (whole pay) ws cs owed first
 
-  pub rounds-are-closings : f.rounds ≡ max_to (length ws) (at f.closing)
+  pub rounds_are_closings : f.rounds ≡ max_to (length ws) (at f.closing)
   unfolding figures levied
-  rounds-are-closings = rounds-max (whole pay) ws cs
+  rounds_are_closings = rounds-max (whole pay) ws cs
 
-  pub somebody-closes : (r : ℕ) → 0 < r → r ≤ f.rounds → (i : ℕ) × CappedPayer f i × (at f.closing i ≡ r)
+  pub somebody_closes : (r : ℕ) → 0 < r → r ≤ f.rounds → (i : ℕ) × CappedPayer f i × (at f.closing i ≡ r)
   unfolding figures levied
-  somebody-closes r up le =
+  somebody_closes r up le =
       let it = round-somebody (whole pay) ws cs r up le in (it.0, (it.1, omega (arith, it.2)), it.2)
 
-  pub rounds-at-most-payers : f.rounds ≤ payers ws
+  pub rounds_at_most_payers : f.rounds ≤ payers ws
   unfolding figures levied
-  rounds-at-most-payers = rounds-count (whole pay) ws cs
+  rounds_at_most_payers = rounds-count (whole pay) ws cs
 
-  pub rounds-at-most-capped : f.rounds ≤ payers_inside ws (capped f)
+  pub rounds_at_most_capped : f.rounds ≤ payers_inside ws (capped f)
   unfolding figures levied
-  rounds-at-most-capped = rounds-capped (whole pay) ws cs
+  rounds_at_most_capped = rounds-capped (whole pay) ws cs
 
   pub demand3 : Demand3 (figures need first d)
   demand3 =
       record {
-        total-is = total-is;
-        paid-is-kept = paid-is-kept;
-        cut-within = cut-within;
-        returned-within = returned-within;
+        total_is = total_is;
+        paid_is_kept = paid_is_kept;
+        cut_within = cut_within;
+        returned_within = returned_within;
         within_cap = within_cap;
-        capped-pays-cap = capped-pays-cap;
-        no-energy-no-pay = no-energy-no-pay;
-        open-share-left = open-share-left;
-        rate-over = rate-over;
-        rate-short = rate-short;
-        open-below-cap = open-below-cap;
-        capped-at-cap = capped-at-cap;
-        all-capped-covered = all-capped-covered;
-        capped-set = capped-set;
-        one-capped-set = one-capped-set;
-        shortfall-all-capped = shortfall-all-capped;
-        shortfall-open = shortfall-open;
-        cut-only-if-all-capped = cut-only-if-all-capped;
-        cut-only-if-uncovered = cut-only-if-uncovered;
-        cut-exactly = cut-exactly;
-        cut-is-shortfall-left = cut-is-shortfall-left;
-        returned-is-penalties-left = returned-is-penalties-left;
-        returned-whole-if-open = returned-whole-if-open;
-        returned-whole-if-none-short = returned-whole-if-none-short;
-        rounds-are-closings = rounds-are-closings;
-        somebody-closes = somebody-closes;
-        rounds-at-most-payers = rounds-at-most-payers;
-        rounds-at-most-capped = rounds-at-most-capped;
+        capped_pays_cap = capped_pays_cap;
+        no_energy_no_pay = no_energy_no_pay;
+        open_share_left = open_share_left;
+        rate_over = rate_over;
+        rate_short = rate_short;
+        open_below_cap = open_below_cap;
+        capped_at_cap = capped_at_cap;
+        all_capped_covered = all_capped_covered;
+        capped_set = capped_set;
+        one_capped_set = one_capped_set;
+        shortfall_all_capped = shortfall_all_capped;
+        shortfall_open = shortfall_open;
+        cut_only_if_all_capped = cut_only_if_all_capped;
+        cut_only_if_uncovered = cut_only_if_uncovered;
+        cut_exactly = cut_exactly;
+        cut_is_shortfall_left = cut_is_shortfall_left;
+        returned_is_penalties_left = returned_is_penalties_left;
+        returned_whole_if_open = returned_whole_if_open;
+        returned_whole_if_none_short = returned_whole_if_none_short;
+        rounds_are_closings = rounds_are_closings;
+        somebody_closes = somebody_closes;
+        rounds_at_most_payers = rounds_at_most_payers;
+        rounds_at_most_capped = rounds_at_most_capped;
       }
 
 -- ---- an accepted pair of files, and the bytes of its statement

@@ -43,7 +43,7 @@ use Rattle.demands.specs.Promise.{figures_at, owed_by, Penalties, credited_with,
 use Rattle.settle.proofs.Accepted.{first-inside, rows-ranged}
 use Rattle.demands.proofs.Demand1.{settled-accepted}
 use Rattle.demands.proofs.Demand2.{statement-figures}
-use Rattle.demands.proofs.Demand3.{cut-is-shortfall-left}
+use Rattle.demands.proofs.Demand3.{cut_is_shortfall_left}
 
 -- ---- one row
 
@@ -150,8 +150,8 @@ module _ (need first n : ℕ) (d : Duties) (level : Level n d) (turn : Turn n fi
       let together : whole g.cuts ≤ whole f.cuts =
       omega (
         arith,
-        cut-is-shortfall-left need first n d level turn,
-        cut-is-shortfall-left need' first' n' d' level' turn',
+        cut_is_shortfall_left need first n d level turn,
+        cut_is_shortfall_left need' first' n' d' level' turn',
         more.shortfall,
         more.penalties,
       ) in
@@ -160,8 +160,8 @@ module _ (need first n : ℕ) (d : Duties) (level : Level n d) (turn : Turn n fi
       omega (arith, more.shortfall, more.penalties) in
       record {
         together = together;
-        before-fen = λ i. rw (same i) (mul-le-mul_right (at f.compensations i) together);
-        in-fen = λ i. rw (cut_at need first d i, cut_at need' first' d' i, ← more.compensations)
+        before_fen = λ i. rw (same i) (mul-le-mul_right (at f.compensations i) together);
+        in_fen = λ i. rw (cut_at need first d i, cut_at need' first' d' i, ← more.compensations)
             (share-more (to_cut (whole g.penalties) g.shortfall) (to_cut (whole f.penalties) f.shortfall) f.compensations first' first i less);
       }
 

@@ -77,7 +77,7 @@ module _ (t : Terms) (n : ℕ) (row : ℕ → Row) (ranged : Below n (λ i. RowR
   pub set-by : SetBy n DeliversAt (λ i. bid (row i)) (price bs cs es)
   set-by =
       record {
-        is-bid = λ some.
+        is_bid = λ some.
             ⊎_elim
             (λ (w : (i : ℕ) × Delivered bs cs es i × (at bs i ≡ price bs cs es)).
             let x = by-fields w.0 w.1 in
@@ -116,11 +116,11 @@ module _ (s k : List ℕ) (n : ℕ) (h : verdict_of s k ≡ Accepted n) where
         tier1 =
             of (λ i. width1 (limit i) (row i)) (λ i. energy1 (base i) (row i)) (λ i. meter_energy1 (base i) (row i)) (λ r. r.bid1.0) (made one)
             (λ i. width1-offers (limit i) (row i)) (λ i. energy1-whose (base i) (row i)) (λ i. energy1-is (base i) (row i))
-            (λ r o. omega (arith, o.bid1-low, sound.first)) (called-width one);
+            (λ r o. omega (arith, o.bid1_low, sound.first)) (called-width one);
         tier2 =
             of (λ i. width2 (row i)) (λ i. energy2 (base i) (row i)) (λ i. meter_energy2 (base i) (row i)) (λ r. r.bid2.0) (made two)
             (λ i. width2-offers (row i)) (λ i. energy2-whose (base i) (row i)) (λ i. energy2-is (base i) (row i))
-            (λ r o. omega (arith, o.bid2-low, sound.first, sound.rising1, sound.apart)) (called-width two);
+            (λ r o. omega (arith, o.bid2_low, sound.first, sound.rising1, sound.apart)) (called-width two);
       }
 
 -- ---- of the statement's bytes

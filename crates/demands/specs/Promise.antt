@@ -97,7 +97,7 @@ pub record Delivers (r : Row) (call energy : ℕ) : Type 0 where
 -- a price is set by n rows, of which some deliver, and their bids
 pub record SetBy (n : ℕ) (deliver : ℕ → Type 0) (bid : ℕ → ℕ) (price : ℕ) : Type 0 where
   -- it is the bid of a row that delivers, unless it is 0
-  pub is-bid : 0 < price → (i : ℕ) × (i < n) × deliver i × (bid i ≡ price)
+  pub is_bid : 0 < price → (i : ℕ) × (i < n) × deliver i × (bid i ≡ price)
   -- no row that delivers bid above it
   pub highest : (i : ℕ) → i < n → deliver i → bid i ≤ price
   -- it is 0 only if nobody delivers
@@ -169,8 +169,8 @@ pub record MorePenalty (f g : Figures) : Type 0 where
 -- fen at most, since the sharing rule may move a leftover fen from one row to another when the amount falls
 pub record LessCut (f g : Figures) : Type 0 where
   pub together : whole g.cuts ≤ whole f.cuts
-  pub before-fen : (i : ℕ) → whole g.cuts * at g.compensations i ≤ whole f.cuts * at f.compensations i
-  pub in-fen : (i : ℕ) → at g.cuts i ≤ at f.cuts i + 1
+  pub before_fen : (i : ℕ) → whole g.cuts * at g.compensations i ≤ whole f.cuts * at f.compensations i
+  pub in_fen : (i : ℕ) → at g.cuts i ≤ at f.cuts i + 1
 
 -- ---- whose turn it is among equal remainders (02, request 2)
 
@@ -256,45 +256,45 @@ kept f i = at f.compensations i - at f.cuts i
 
 pub record Demand3 (f : Figures) : Type 0 where
   -- the total is that of the compensations
-  pub total-is : f.total ≡ whole f.compensations
+  pub total_is : f.total ≡ whole f.compensations
   -- what payers pay, with the penalties and less what is returned of them, equals what receivers keep; nobody is cut by more than it is
   -- due, and nobody is returned more than it owes
-  pub paid-is-kept : (whole f.paid + whole f.penalties) - whole f.returned ≡ sum_to (length f.compensations) (kept f)
-  pub cut-within : (i : ℕ) → at f.cuts i ≤ at f.compensations i
-  pub returned-within : (i : ℕ) → at f.returned i ≤ at f.penalties i
+  pub paid_is_kept : (whole f.paid + whole f.penalties) - whole f.returned ≡ sum_to (length f.compensations) (kept f)
+  pub cut_within : (i : ℕ) → at f.cuts i ≤ at f.compensations i
+  pub returned_within : (i : ℕ) → at f.returned i ≤ at f.penalties i
   -- no payer exceeds its cap; a capped one pays just that, one without corrected energy nothing
   pub within_cap : (i : ℕ) → at f.paid i ≤ at f.caps i
-  pub capped-pays-cap : (i : ℕ) → CappedPayer f i → at f.paid i ≡ at f.caps i
-  pub no-energy-no-pay : (i : ℕ) → at f.weights i ≡ 0 → at f.paid i ≡ 0
+  pub capped_pays_cap : (i : ℕ) → CappedPayer f i → at f.paid i ≡ at f.caps i
+  pub no_energy_no_pay : (i : ℕ) → at f.weights i ≡ 0 → at f.paid i ≡ 0
   -- those not capped share what the caps leave, at one rate for each corrected kWh, off by less than a fen either way
-  pub open-share-left :
+  pub open_share_left :
       (i : ℕ) → OpenPayer f i → sum_where (length f.weights) (outside f.weights (capped f)) (at f.paid) ≡ left_over f
-  pub rate-over : (i : ℕ) → OpenPayer f i → at f.paid i * open_energy f < left_over f * at f.weights i + open_energy f
-  pub rate-short : (i : ℕ) → OpenPayer f i → left_over f * at f.weights i < at f.paid i * open_energy f + open_energy f
+  pub rate_over : (i : ℕ) → OpenPayer f i → at f.paid i * open_energy f < left_over f * at f.weights i + open_energy f
+  pub rate_short : (i : ℕ) → OpenPayer f i → left_over f * at f.weights i < at f.paid i * open_energy f + open_energy f
   -- at that rate, before rounding, each of them owes less than its cap, and each capped one at least its cap
-  pub open-below-cap : (i : ℕ) → OpenPayer f i → left_over f * at f.weights i < at f.caps i * open_energy f
-  pub capped-at-cap : (i : ℕ) → CappedPayer f i → at f.caps i * open_energy f ≤ left_over f * at f.weights i
+  pub open_below_cap : (i : ℕ) → OpenPayer f i → left_over f * at f.weights i < at f.caps i * open_energy f
+  pub capped_at_cap : (i : ℕ) → CappedPayer f i → at f.caps i * open_energy f ≤ left_over f * at f.weights i
   -- if all are capped, their caps together do not exceed the compensation
-  pub all-capped-covered : AllCapped f → capped_caps f ≤ f.total
+  pub all_capped_covered : AllCapped f → capped_caps f ≤ f.total
   -- the set of capped payers has this property, and only it has
-  pub capped-set : Capped f.total f.weights f.caps (capped f)
-  pub one-capped-set :
+  pub capped_set : Capped f.total f.weights f.caps (capped f)
+  pub one_capped_set :
       (p : ℕ → Bool) → Capped f.total f.weights f.caps p → (i : ℕ) → 0 < at f.weights i → p i ≡ capped f i
   -- the shortfall told is that before penalties: what the caps fail to cover if all are capped, else nothing
-  pub shortfall-all-capped : AllCapped f → f.shortfall ≡ f.total - capped_caps f
-  pub shortfall-open : (i : ℕ) → OpenPayer f i → f.shortfall ≡ 0
+  pub shortfall_all_capped : AllCapped f → f.shortfall ≡ f.total - capped_caps f
+  pub shortfall_open : (i : ℕ) → OpenPayer f i → f.shortfall ≡ 0
   -- receivers are cut only if all are capped and the penalties do not cover what those caps leave, by exactly what both leave open
-  pub cut-only-if-all-capped : (j : ℕ) → 0 < at f.cuts j → AllCapped f
-  pub cut-only-if-uncovered : (j : ℕ) → 0 < at f.cuts j → whole f.penalties < f.total - capped_caps f
-  pub cut-exactly : AllCapped f → whole f.cuts ≡ f.total - capped_caps f - whole f.penalties
-  pub cut-is-shortfall-left : whole f.cuts ≡ f.shortfall - whole f.penalties
+  pub cut_only_if_all_capped : (j : ℕ) → 0 < at f.cuts j → AllCapped f
+  pub cut_only_if_uncovered : (j : ℕ) → 0 < at f.cuts j → whole f.penalties < f.total - capped_caps f
+  pub cut_exactly : AllCapped f → whole f.cuts ≡ f.total - capped_caps f - whole f.penalties
+  pub cut_is_shortfall_left : whole f.cuts ≡ f.shortfall - whole f.penalties
   -- what the shortfall leaves of the penalties is returned; with an open payer, or without a shortfall, every penalty whole
-  pub returned-is-penalties-left : whole f.returned ≡ whole f.penalties - f.shortfall
-  pub returned-whole-if-open : (i : ℕ) → OpenPayer f i → f.returned ≡ f.penalties
-  pub returned-whole-if-none-short : f.shortfall ≡ 0 → f.returned ≡ f.penalties
+  pub returned_is_penalties_left : whole f.returned ≡ whole f.penalties - f.shortfall
+  pub returned_whole_if_open : (i : ℕ) → OpenPayer f i → f.returned ≡ f.penalties
+  pub returned_whole_if_none_short : f.shortfall ≡ 0 → f.returned ≡ f.penalties
   -- the rounds told are those in which a payer closes, and they number at most the payers with corrected energy, and at most
   -- those of them that are capped
-  pub rounds-are-closings : f.rounds ≡ max_to (length f.weights) (at f.closing)
-  pub somebody-closes : (r : ℕ) → 0 < r → r ≤ f.rounds → (i : ℕ) × CappedPayer f i × (at f.closing i ≡ r)
-  pub rounds-at-most-payers : f.rounds ≤ payers f.weights
-  pub rounds-at-most-capped : f.rounds ≤ payers_inside f.weights (capped f)
+  pub rounds_are_closings : f.rounds ≡ max_to (length f.weights) (at f.closing)
+  pub somebody_closes : (r : ℕ) → 0 < r → r ≤ f.rounds → (i : ℕ) × CappedPayer f i × (at f.closing i ≡ r)
+  pub rounds_at_most_payers : f.rounds ≤ payers f.weights
+  pub rounds_at_most_capped : f.rounds ≤ payers_inside f.weights (capped f)

@@ -179,14 +179,14 @@ module _ (t : Terms) (row : ℕ → Row) where
 
     module _ (n : ℕ) (few : n ≤ 256) (l : i < n) (rows : Below n (λ k. RowRanges t (row k))) where
       metered-most : Below n (λ k. (row k).metered.0 ≤ 550000)
-      metered-most k m = omega (arith, (rows k m).metered, (rows k m).capacity-high)
+      metered-most k m = omega (arith, (rows k m).metered, (rows k m).capacity_high)
 
       -- the next row's figures can be added
       pub scanned-fits : (r : Row) → r ≡ row i → (a.energy.0 + r.metered.0 < 2 ^ 32) × (a.capacity + r.capacity < 2 ^ 32)
       scanned-fits r is =
           let energy = where-bound i 550000 (λ k. is_thermal (row k)) (λ k. (row k).metered.0) (λ k m. metered-most k (omega arith)) in
-          let capacity = where-bound i 2000 (λ k. is_thermal (row k)) (λ k. (row k).capacity) (λ k m. (rows k (omega arith)).capacity-high) in
-          rw (scanned.sums, is) (omega (arith, energy, metered-most i l), omega (arith, capacity, (rows i l).capacity-high))
+          let capacity = where-bound i 2000 (λ k. is_thermal (row k)) (λ k. (row k).capacity) (λ k m. (rows k (omega arith)).capacity_high) in
+          rw (scanned.sums, is) (omega (arith, energy, metered-most i l), omega (arith, capacity, (rows i l).capacity_high))
 
     -- a row that stirs: the condition fails
     pub scanned-stop : (need n : ℕ) (r : Row) (x : Bool) → i < n → r ≡ row i → x ≡ stirs t r → x ≡ true → usual ≡ average_of t need n row

@@ -89,7 +89,7 @@ module _ (base : ℕ) (r : Row) where
   energy2-is k z = paid-is r (meter_energy2 base r) k z
 
 pub in-range : (t : Terms) (r : Row) → RowRanges t r → Ranged r
-in-range t r h = record { metered = omega (arith, h.capacity-high, h.metered) }
+in-range t r h = record { metered = omega (arith, h.capacity_high, h.metered) }
 
 pub not-payer : (base tariff : ℕ) (r : Row) → payer base r ≡ false → (weight base r ≡ 0) × (cap base tariff r ≡ 0)
 unfolding weight cap
@@ -104,7 +104,7 @@ at_base base r h = (go (receives r) (omega arith), go (receives r) (omega arith)
     go false e = refl
 
 pub baseline-most : (t : Terms) → Sound t → (r : Row) → RowRanges t r → baseline t r.capacity ≤ 250000
-baseline-most t sound r h = omega (arith, mul-le-mul h.capacity-high sound.below)
+baseline-most t sound r h = omega (arith, mul-le-mul h.capacity_high sound.below)
 
 module _ (t : Terms) (r : Row) (h : RowRanges t r) where
   pub width1-most : (limit : ℕ) → limit ≤ 250000 → width1 limit r ≤ 250000
@@ -113,7 +113,7 @@ module _ (t : Terms) (r : Row) (h : RowRanges t r) where
 
   pub width2-most : width2 r ≤ 250000
   unfolding width2
-  width2-most = or-none (eqb r.offered 1) _ 250000 (omega (arith, h.capacity-high))
+  width2-most = or-none (eqb r.offered 1) _ 250000 (omega (arith, h.capacity_high))
 
   pub energies-most : (base : ℕ) → base ≤ 250000 → energy1 base r + energy2 base r ≤ 250000
   unfolding energy1 energy2
@@ -131,19 +131,19 @@ module _ (t : Terms) (r : Row) (h : RowRanges t r) where
   unfolding weight
   weight-most base =
       or-none (payer base r) _ 1000000
-      (either (eqb r.kind 1) _ _ 1000000 (omega (arith, h.capacity-high, h.metered))
-      (omega (arith, h.capacity-high, h.metered)))
+      (either (eqb r.kind 1) _ _ 1000000 (omega (arith, h.capacity_high, h.metered))
+      (omega (arith, h.capacity_high, h.metered)))
 
   pub cap-most : (base tariff : ℕ) → tariff ≤ 10000 → cap base tariff r ≤ 27500000
   unfolding cap
   cap-most base tariff low =
-      let metered : r.metered.0 ≤ 550000 = omega (arith, h.capacity-high, h.metered) in
+      let metered : r.metered.0 ≤ 550000 = omega (arith, h.capacity_high, h.metered) in
       let product : r.metered.0 * tariff ≤ 550000 * 10000 = mul-le-mul metered low in
       or-none (payer base r) _ 27500000 (either (eqb r.kind 1) _ _ 27500000 (omega arith) (omega arith))
 
   -- who has a band in tier 2 bids within its limits
   pub bids2-above : 0 < width2 r → t.lowest2.0 ≤ r.bid2.0
-  bids2-above p = (h.offers (width2-offers r p)).bid2-low
+  bids2-above p = (h.offers (width2-offers r p)).bid2_low
 
 -- how large the columns' numbers get
 pub record Sized (d : Duties) : Type 0 where

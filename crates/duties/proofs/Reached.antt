@@ -89,7 +89,7 @@ module _ (t : Terms) (need n : ℕ) (row : ℕ → Row) where
           omega (
             arith,
             windless-some t need n row is,
-            where-cross-lt n (λ i. is_thermal (row i)) 0 1 (λ i. 0) (λ i. (row i).capacity) (λ i l e. omega (arith, (rows i l).capacity-low)),
+            where-cross-lt n (λ i. is_thermal (row i)) 0 1 (λ i. 0) (λ i. (row i).capacity) (λ i l e. omega (arith, (rows i l).capacity_low)),
           )
 
       within-load : thermal_energy n row * 100 ≤ thermal_capacity n row * 250 * t.percent

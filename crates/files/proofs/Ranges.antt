@@ -30,8 +30,8 @@ within-high lo hi x e = leb-true x hi (right-true (leb lo x) (leb x hi) e)
 pub record HeadRanges (h : Head) : Type 0 where
   pub day : h.day ≤ 36524
   pub quarter : h.quarter ≤ 95
-  pub tariff-low : 1 ≤ h.tariff.0
-  pub tariff-high : h.tariff.0 ≤ 10000
+  pub tariff_low : 1 ≤ h.tariff.0
+  pub tariff_high : h.tariff.0 ≤ 10000
   pub need : h.need.0 ≤ 64000000
   pub rows : h.rows ≤ 256
 
@@ -42,8 +42,8 @@ head-ranges h e =
     record {
       day = leb-true h.day 36524 (at 0 (lit< tt));
       quarter = leb-true h.quarter 95 (at 1 (lit< tt));
-      tariff-low = within_low 1 10000 h.tariff.0 (at 2 (lit< tt));
-      tariff-high = within-high 1 10000 h.tariff.0 (at 2 (lit< tt));
+      tariff_low = within_low 1 10000 h.tariff.0 (at 2 (lit< tt));
+      tariff_high = within-high 1 10000 h.tariff.0 (at 2 (lit< tt));
       need = leb-true h.need.0 64000000 (at 3 (lit< tt));
       rows = leb-true h.rows 256 (at 4 (lit< tt));
     }
@@ -63,17 +63,17 @@ pub record Offers (t : Terms) (r : Row) : Type 0 where
   pub offered : r.offered ≡ 1
   pub kind : r.kind ≡ 1
   pub minimum : r.minimum.0 ≤ baseline t r.capacity
-  pub bid1-low : t.lowest1.0 ≤ r.bid1.0
-  pub bid1-high : r.bid1.0 ≤ t.highest1.0
-  pub bid2-low : t.lowest2.0 ≤ r.bid2.0
-  pub bid2-high : r.bid2.0 ≤ t.highest2.0
+  pub bid1_low : t.lowest1.0 ≤ r.bid1.0
+  pub bid1_high : r.bid1.0 ≤ t.highest1.0
+  pub bid2_low : t.lowest2.0 ≤ r.bid2.0
+  pub bid2_high : r.bid2.0 ≤ t.highest2.0
 
 pub record RowRanges (t : Terms) (r : Row) : Type 0 where
   pub id : 1 ≤ r.id
-  pub kind-low : 1 ≤ r.kind
-  pub kind-high : r.kind ≤ 3
-  pub capacity-low : 1 ≤ r.capacity
-  pub capacity-high : r.capacity ≤ 2000
+  pub kind_low : 1 ≤ r.kind
+  pub kind_high : r.kind ≤ 3
+  pub capacity_low : 1 ≤ r.capacity
+  pub capacity_high : r.capacity ≤ 2000
   pub metered : r.metered.0 ≤ r.capacity * 275
   pub status : r.status ≤ 3
   pub offered : r.offered ≤ 1
@@ -102,10 +102,10 @@ offers-of t r e =
       offered = eqb-true r.offered 1 (at 0 (lit< tt));
       kind = eqb-true r.kind 1 (at 1 (lit< tt));
       minimum = leb-true r.minimum.0 (baseline t r.capacity) (at 2 (lit< tt));
-      bid1-low = within_low t.lowest1.0 t.highest1.0 r.bid1.0 (at 3 (lit< tt));
-      bid1-high = within-high t.lowest1.0 t.highest1.0 r.bid1.0 (at 3 (lit< tt));
-      bid2-low = within_low t.lowest2.0 t.highest2.0 r.bid2.0 (at 4 (lit< tt));
-      bid2-high = within-high t.lowest2.0 t.highest2.0 r.bid2.0 (at 4 (lit< tt));
+      bid1_low = within_low t.lowest1.0 t.highest1.0 r.bid1.0 (at 3 (lit< tt));
+      bid1_high = within-high t.lowest1.0 t.highest1.0 r.bid1.0 (at 3 (lit< tt));
+      bid2_low = within_low t.lowest2.0 t.highest2.0 r.bid2.0 (at 4 (lit< tt));
+      bid2_high = within-high t.lowest2.0 t.highest2.0 r.bid2.0 (at 4 (lit< tt));
     }
 
 -- the part of a row's ranges that speaks of its offer
@@ -123,10 +123,10 @@ row-ranges t r e =
     let o = offer (not_offering r) refl in
     record {
       id = leb-true 1 r.id (at 0 (lit< tt));
-      kind-low = within_low 1 3 r.kind (at 1 (lit< tt));
-      kind-high = within-high 1 3 r.kind (at 1 (lit< tt));
-      capacity-low = within_low 1 2000 r.capacity (at 2 (lit< tt));
-      capacity-high = within-high 1 2000 r.capacity (at 2 (lit< tt));
+      kind_low = within_low 1 3 r.kind (at 1 (lit< tt));
+      kind_high = within-high 1 3 r.kind (at 1 (lit< tt));
+      capacity_low = within_low 1 2000 r.capacity (at 2 (lit< tt));
+      capacity_high = within-high 1 2000 r.capacity (at 2 (lit< tt));
       metered = leb-true r.metered.0 (r.capacity * 275) (at 3 (lit< tt));
       status = leb-true r.status 3 (left-true (leb r.status 3) _ (at 4 (lit< tt)));
       offered = o.offered;
@@ -156,8 +156,8 @@ row-ranges t r e =
         record {
           offered = omega (arith, f.offered);
           minimum = f.minimum;
-          bid1 = f.bid1-high;
-          bid2 = f.bid2-high;
+          bid1 = f.bid1_high;
+          bid2 = f.bid2_high;
           idle = λ p. absurd (omega (arith, f.offered));
           offers = λ p. f;
         }

@@ -59,10 +59,10 @@ module _ (n : ℕ) (weights caps marks : List ℕ) (money weight rounds : ℕ) (
   st = standing n marks money weight rounds
 
   wide : length (take n weights) ≡ n
-  wide = length-take-le n weights (omega (arith, asked.held.few, asked.held.weights-long))
+  wide = length-take-le n weights (omega (arith, asked.held.few, asked.held.weights_long))
 
   marks-wide : length (take n marks) ≡ n
-  marks-wide = length-take-le n marks (omega (arith, asked.held.few, asked.held.marks-long))
+  marks-wide = length-take-le n marks (omega (arith, asked.held.few, asked.held.marks_long))
 
   total : ℕ
   total = money + sum_where (length (take n weights)) (has_closed (take n marks)) (at (take n caps))
@@ -73,8 +73,8 @@ module _ (n : ℕ) (weights caps marks : List ℕ) (money weight rounds : ℕ) (
       record {
         long = omega (arith, wide, marks-wide);
         weight_is = asked.weight_is;
-        money-is = refl;
-        marks-le = asked.marks-le;
+        money_is = refl;
+        marks_le = asked.marks_le;
         payers = asked.payers;
       }
 
@@ -92,10 +92,10 @@ module _ (n : ℕ) (weights caps marks : List ℕ) (money weight rounds : ℕ) (
 
   module _ (after kept : List ℕ) (r : Closed) (shut : Shut n weights caps marks (standing n marks money weight rounds) after kept r) where
     pub caps-in : r.caps.0 ≤ money
-    caps-in = omega (arith, shut.caps-are, closed-caps-le total ws cs st sound)
+    caps-in = omega (arith, shut.caps_are, closed-caps-le total ws cs st sound)
 
     pub weights-in : r.weights ≤ weight
-    weights-in = omega (arith, shut.weights-are, closed-weights-le total ws cs st sound)
+    weights-in = omega (arith, shut.weights_are, closed-weights-le total ws cs st sound)
 
     pub stopped : r.weights ≡ 0
         → Ended n weights caps marks (standing n marks money weight rounds) after (money ∷ weight ∷ rounds ∷ [])
@@ -103,30 +103,30 @@ module _ (n : ℕ) (weights caps marks : List ℕ) (money weight rounds : ℕ) (
         record {
           is = λ f l. run-stop ws cs st (closed-nobody ws cs st shut_none) f
               ∙ ap (λ (ks : List ℕ). record { marks = ks; money = money; weight = weight; rounds = rounds })
-              (sym (shut.marks-are ∙ same-marks ws cs st sound.long shut_none));
+              (sym (shut.marks_are ∙ same-marks ws cs st sound.long shut_none));
           past = shut.past;
           long = shut.long;
           early = omega (arith, asked.early);
         }
       where
         shut_none : closed ws cs st ws ≡ 0
-        shut_none = sym shut.weights-are ∙ none
+        shut_none = sym shut.weights_are ∙ none
 
     module _ (some : r.weights ≡ 0 → ⊥) where
       closing : 0 < count_to (length ws) (closes ws cs st)
-      closing = closed-somebody ws cs st (λ e. some (shut.weights-are ∙ e))
+      closing = closed-somebody ws cs st (λ e. some (shut.weights_are ∙ e))
 
       step_is : standing n after (money - r.caps.0) (weight - r.weights) (rounds + 1)
           ≡ next (take n weights) (take n caps) (standing n marks money weight rounds)
       unfolding next
-      step_is = rw (shut.marks-are, shut.caps-are, shut.weights-are, add-one rounds)
+      step_is = rw (shut.marks_are, shut.caps_are, shut.weights_are, add-one rounds)
 
       after-sound : Sound total (take n weights) (take n caps)
           (standing n after (money - r.caps.0) (weight - r.weights) (rounds + 1))
       after-sound = subst (Sound total ws cs) (sym step_is) (next-sound total ws cs st sound)
 
       fewer : opens (take n weights) (take n after) < opens (take n weights) (take n marks)
-      fewer = rw shut.marks-are (omega (arith, closing, opens-fall ws cs st))
+      fewer = rw shut.marks_are (omega (arith, closing, opens-fall ws cs st))
 
       pub left_less : (t : ℕ) → m ≡ t → r.left < t
       left_less t e =
@@ -141,15 +141,15 @@ module _ (n : ℕ) (weights caps marks : List ℕ) (money weight rounds : ℕ) (
             held =
                 record {
                   few = asked.held.few;
-                  weights-long = asked.held.weights-long;
-                  caps-long = asked.held.caps-long;
-                  marks-long = shut.long;
+                  weights_long = asked.held.weights_long;
+                  caps_long = asked.held.caps_long;
+                  marks_long = shut.long;
                   light = asked.held.light;
                   low = asked.held.low;
                   rich = omega (arith, is, asked.held.rich);
                 };
             weight_is = after-sound.weight_is;
-            marks-le = after-sound.marks-le;
+            marks_le = after-sound.marks_le;
             payers = after-sound.payers;
             early = omega (arith, asked.early, left_less m refl);
             listed = shut.listed;
@@ -161,7 +161,7 @@ module _ (n : ℕ) (weights caps marks : List ℕ) (money weight rounds : ℕ) (
       went_on left is end rest ended =
           record {
             is = run-again ws cs st (standing n end (at rest 0) (at rest 1) (at rest 2)) closing
-                (λ f l. ap (run f ws cs) (sym step_is) ∙ (rw is at (ended.is f (rw shut.marks-are l))));
+                (λ f l. ap (run f ws cs) (sym step_is) ∙ (rw is at (ended.is f (rw shut.marks_are l))));
             past = ended.past ∙ shut.past;
             long = ended.long;
             early = ended.early;
@@ -169,16 +169,16 @@ module _ (n : ℕ) (weights caps marks : List ℕ) (money weight rounds : ℕ) (
 
 pub weights-few : (total n : ℕ) (weights caps marks : List ℕ) → Levyable n weights caps marks total → length (take n weights) ≤ 256
 weights-few total n weights caps marks asked =
-    omega (arith, asked.held.few, length-take-le n weights (omega (arith, asked.held.few, asked.held.weights-long)))
+    omega (arith, asked.held.few, length-take-le n weights (omega (arith, asked.held.few, asked.held.weights_long)))
 
 -- all marks are 0 before the first round
 module _ (total n : ℕ) (weights caps marks : List ℕ) (asked : Levyable n weights caps marks total)
     (weight : ℕ) (weight_is : weight ≡ whole (take n weights)) where
   first-long : length (take n weights) ≡ n
-  first-long = length-take-le n weights (omega (arith, asked.held.few, asked.held.weights-long))
+  first-long = length-take-le n weights (omega (arith, asked.held.few, asked.held.weights_long))
 
   zeros : marks ≡ replicate 256 0
-  zeros = zeros-are marks asked.held.marks-long asked.blank
+  zeros = zeros-are marks asked.held.marks_long asked.blank
 
   begin-is : standing n marks total weight 0 ≡ opening total (take n weights)
   unfolding opening
@@ -196,7 +196,7 @@ module _ (total n : ℕ) (weights caps marks : List ℕ) (asked : Levyable n wei
       record {
         held = asked.held;
         weight_is = begin-sound.weight_is;
-        marks-le = begin-sound.marks-le;
+        marks_le = begin-sound.marks_le;
         payers = begin-sound.payers;
         early = omega (arith, lists.many, count-le n (is_payer (take n weights)), asked.held.few);
         listed = subst (λ (test : ℕ → Bool). Lists n test list m) (λ j i. sym (all-open i) j) lists;
@@ -214,9 +214,9 @@ module _ (total n : ℕ) (weights caps marks : List ℕ) (asked : Levyable n wei
     visits-asked =
         record {
           few = asked.held.few;
-          weights-long = asked.held.weights-long;
-          marks-long = ended.long;
-          marks-le = λ i. subst (λ (st : Standing). at st.marks i ≤ st.rounds) (sym end_is) (marks-rounds total (take n weights) (take n caps) i);
+          weights_long = asked.held.weights_long;
+          marks_long = ended.long;
+          marks_le = λ i. subst (λ (st : Standing). at st.marks i ≤ st.rounds) (sym end_is) (marks-rounds total (take n weights) (take n caps) i);
           early = ended.early;
         }
 
@@ -226,7 +226,7 @@ module _ (total n : ℕ) (weights caps marks : List ℕ) (asked : Levyable n wei
     rounds-end counted told =
         record {
           is = end_is;
-          visits-are =
+          visits_are =
               told ∙ ap (λ (st : Standing). visits_told (take n weights) st.marks st.rounds) end_is
               ∙ sym (visits-told total (take n weights) (take n caps));
           past = ended.past ∙ rw zeros (drop-replicate 256 n asked.held.few);

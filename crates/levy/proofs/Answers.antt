@@ -30,7 +30,7 @@ rounds-unique κs a x y e f p q =
         money = record { 0 = (same i).money };
         weight = (same i).weight;
         rounds = (same i).rounds;
-        visits = (p.visits-are ∙ sym q.visits-are) i;
+        visits = (p.visits_are ∙ sym q.visits_are) i;
       }),
       sym (take-append-drop a.1.0 e.1.1.1.1.0.now)
           ∙ rw (ap (λ (st : Standing). st.marks) same, p.past ∙ sym q.past) (take-append-drop a.1.0 f.1.1.1.1.0.now),

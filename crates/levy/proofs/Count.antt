@@ -102,7 +102,7 @@ module _ (total : ℕ) (ws cs : List ℕ) where
   rounds-capped = omega (arith, final-counted.early, opens-inside ws end.marks)
 
   pub marks-rounds : (i : ℕ) → at end.marks i ≤ end.rounds
-  marks-rounds i = (final-sound total ws cs).marks-le i
+  marks-rounds i = (final-sound total ws cs).marks_le i
 
   pub round-somebody : (r : ℕ) → 0 < r → r ≤ end.rounds → (i : ℕ) × (0 < at ws i) × (at end.marks i ≡ r)
   round-somebody r up le =

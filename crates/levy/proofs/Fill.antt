@@ -109,7 +109,7 @@ module _ (caps₀ marks parts caps : List ℕ) (i : ℕ) (made : Made caps₀ ma
 
   pub paid-on : (v : ℕ) → v ≡ cond (eqb (at marks i) 0) (at parts i) (at caps i) → Fill (paid_from caps₀ marks parts) caps₀ (set caps i v) (i + 1)
   paid-on v e =
-      fill_on (paid_from caps₀ marks parts) caps₀ caps i fill 256 made.caps-long (omega (arith, made.few)) v
+      fill_on (paid_from caps₀ marks parts) caps₀ caps i fill 256 made.caps_long (omega (arith, made.few)) v
       (unfold paid_from in rw (← reached-now 0 (paid_from caps₀ marks parts) caps₀ caps i fill.reached) e) (rw e made_at)
 
 pub paid-end : (caps₀ marks parts caps : List ℕ) (i : ℕ) → Fill (paid_from caps₀ marks parts) caps₀ caps i → i ≤ length parts → length parts ≤ i

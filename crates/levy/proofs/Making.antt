@@ -25,7 +25,7 @@ use Rattle.levy.proofs.Fill.{whole-small}
 module _ (money : ℕ) (still caps marks : List ℕ) (first : ℕ) (parts₀ : List ℕ) (asked : Spread money still caps marks first parts₀) where
   pub spread-split : Splittable still parts₀ first
   spread-split =
-      record { short = asked.few; room = asked.parts-long; fits = whole-small still asked.few asked.small; inside = asked.turn }
+      record { short = asked.few; room = asked.parts_long; fits = whole-small still asked.few asked.small; inside = asked.turn }
 
   module _ (parts : List ℕ) (parts_are : parts ≡ shares money still first) where
     long : length parts ≡ length still
@@ -35,7 +35,7 @@ module _ (money : ℕ) (still caps marks : List ℕ) (first : ℕ) (parts₀ : L
     spread-made =
         record {
           few = omega (arith, long, asked.few);
-          caps-long = asked.caps-long;
+          caps_long = asked.caps_long;
           fits = λ i l. rw parts_are (asked.fits i (omega (arith, long)));
         }
 
@@ -46,7 +46,7 @@ module _ (money : ℕ) (still caps marks : List ℕ) (first : ℕ) (parts₀ : L
 module _ (n : ℕ) (weights caps marks : List ℕ) (rest : Rest) (first : ℕ) (asked : Payable n weights caps marks rest first)
     (still : List ℕ) (open-are : Still n weights marks still) where
   wide : length (take n weights) ≡ n
-  wide = length-take-le n weights (omega (arith, asked.few, asked.weights-long))
+  wide = length-take-le n weights (omega (arith, asked.few, asked.weights_long))
 
   front : length (take n still) ≡ n
   front = length-take-le n still (omega (arith, asked.few, open-are.long))
@@ -62,8 +62,8 @@ module _ (n : ℕ) (weights caps marks : List ℕ) (rest : Rest) (first : ℕ) (
       record {
         few = omega (arith, front, asked.few);
         small = open-are.small;
-        parts-long = omega (arith, front, length-take-le n parts (omega (arith, asked.few)));
-        caps-long = asked.caps-long;
+        parts_long = omega (arith, front, length-take-le n parts (omega (arith, asked.few)));
+        caps_long = asked.caps_long;
         turn = rw front asked.turn;
         fits = λ i l. rw (paid-same i (omega (arith, front))) (asked.fits i);
       }
@@ -92,14 +92,14 @@ module _ (amount : ℕ) (sums : List ℕ) (first : ℕ) (out : List ℕ) (asked 
   part-split weights₀ parts room low turn le =
       record {
         short = rw same asked.few;
-        room = room.two-long ∙ ap length (sym same);
+        room = room.two_long ∙ ap length (sym same);
         fits = whole-small weights (rw same asked.few) low;
         inside = rw same (λ some. omega (arith, le, asked.turn some));
       }
 
   module _ (turn : ℕ) (parts : List ℕ) (parts_are : parts ≡ shares amount weights turn) where
     pub part-long : length out ≡ length parts
-    part-long = asked.out-long ∙ ap length (sym same) ∙ sym (ap length parts_are ∙ shares-length amount weights turn)
+    part-long = asked.out_long ∙ ap length (sym same) ∙ sym (ap length parts_are ∙ shares-length amount weights turn)
 
     pub part_small : Small weights → Small parts
     part_small low i =
@@ -112,7 +112,7 @@ module _ (amount : ℕ) (sums : List ℕ) (first : ℕ) (out : List ℕ) (asked 
 
 -- the first n of two whole arrays
 pub front-room : (n : ℕ) (xs ys : List ℕ) → n ≤ 256 → length xs ≡ 256 → length ys ≡ 256 → Room n (take n xs) (take n ys)
-front-room n xs ys few long more = record { one-long = sym (front_long xs n 256 long few); two-long = sym (front_long ys n 256 more few) }
+front-room n xs ys few long more = record { one_long = sym (front_long xs n 256 long few); two_long = sym (front_long ys n 256 more few) }
 
 -- once the rounds have ended nobody pays above its cap, so each payment fits
 pub payable : (total n : ℕ) (weights caps marks₀ marks : List ℕ) (rest : Rest) → Levyable n weights caps marks₀ total
@@ -120,9 +120,9 @@ pub payable : (total n : ℕ) (weights caps marks₀ marks : List ℕ) (rest : R
 payable total n weights caps marks₀ marks rest asked ended first turn =
     record {
       few = asked.held.few;
-      weights-long = asked.held.weights-long;
-      caps-long = asked.held.caps-long;
-      marks-long = ended.long;
+      weights_long = asked.held.weights_long;
+      caps_long = asked.held.caps_long;
+      marks_long = ended.long;
       turn = turn;
       fits = λ i. rw ended.is (omega (arith, paid-le-cap total (take n weights) (take n caps) first i, asked.held.low i));
     }

@@ -148,14 +148,14 @@ module _ (total : ℕ) (ws cs : List ℕ) (st : Standing) (s : Sound total ws cs
       ∙ sum-add (length ws) (at (shares st.money (open_weights ws st.marks) first)) (λ i. cond (has_closed st.marks i) (at cs i) 0))
 
   pub sound-total : (first : ℕ) → (0 < length ws → first < length ws) → whole (payments ws cs st first) + shortfall st ≡ total
-  sound-total first inside = omega (arith, paid-whole first, shared-money first inside, s.money-is)
+  sound-total first inside = omega (arith, paid-whole first, shared-money first inside, s.money_is)
 
   pub sound-shortfall : shortfall st ≤ total
   unfolding shortfall
   sound-shortfall = each (eqb st.weight 0)
     where
       each : (t : Bool) → cond t st.money 0 ≤ total
-      each true = omega (arith, s.money-is)
+      each true = omega (arith, s.money_is)
       each false = omega arith
 
 module _ (total : ℕ) (ws cs : List ℕ) where

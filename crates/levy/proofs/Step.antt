@@ -51,8 +51,8 @@ not_closed marks i = eqb (at marks i) 0
 pub record Sound (total : ℕ) (ws cs : List ℕ) (st : Standing) : Type 0 where
   pub long : length st.marks ≡ length ws
   pub weight_is : st.weight ≡ sum_where (length ws) (not_closed st.marks) (at ws)
-  pub money-is : st.money + sum_where (length ws) (has_closed st.marks) (at cs) ≡ total
-  pub marks-le : (i : ℕ) → at st.marks i ≤ st.rounds
+  pub money_is : st.money + sum_where (length ws) (has_closed st.marks) (at cs) ≡ total
+  pub marks_le : (i : ℕ) → at st.marks i ≤ st.rounds
   pub payers : (i : ℕ) → 0 < at st.marks i → 0 < at ws i
 
 pub closed-up : (marks : List ℕ) (i : ℕ) → has_closed marks i ≡ true → 0 < at marks i
@@ -245,7 +245,7 @@ module _ (total : ℕ) (ws cs : List ℕ) where
       (λ (e : has_closed st.marks i ≡ true). rw (lt-ltb 0 (at ws i) (s.payers i (closed-up st.marks i e))))
       (λ (e : has_closed st.marks i ≡ false). rw e (and-false (ltb 0 (at ws i)))) (test-or (has_closed st.marks i)))
       (λ i l. refl))
-      ∙ s.money-is
+      ∙ s.money_is
 
   pub next-sound : (st : Standing) → Sound total ws cs st → Sound total ws cs (next ws cs st)
   next-sound st s =
@@ -260,17 +260,17 @@ module _ (total : ℕ) (ws cs : List ℕ) where
               where-parts (length ws) (not_closed st.marks) (not_closed (next ws cs st).marks) (closes ws cs st) (at ws)
                   (λ i l. rw (mark-next ws cs st i l) (open-part i (closes ws cs st i) refl)),
             ));
-        money-is =
+        money_is =
             rw (next-money ws cs st)
             (omega (
               arith,
-              s.money-is,
+              s.money_is,
               closed-caps-le st s,
               closed_is ws cs st cs,
               where-parts (length ws) (has_closed (next ws cs st).marks) (has_closed st.marks) (closes ws cs st) (at cs)
                   (λ i l. rw (mark-next ws cs st i l) (shut-part i (closes ws cs st i) refl)),
             ));
-        marks-le = λ i. ⊎_elim (λ (l : i < length ws). rw (mark-next ws cs st i l, next-rounds ws cs st) (low i (closes ws cs st i)))
+        marks_le = λ i. ⊎_elim (λ (l : i < length ws). rw (mark-next ws cs st i l, next-rounds ws cs st) (low i (closes ws cs st i)))
             (λ (l : length ws ≤ i). omega (arith, mark-past ws cs st i l)) (lt-or-le i (length ws));
         payers = λ i. ⊎_elim (λ (l : i < length ws). rw (mark-next ws cs st i l) (weighty i (closes ws cs st i) refl))
             (λ (l : length ws ≤ i) (q : 0 < at (next ws cs st).marks i). absurd (omega (arith, mark-past ws cs st i l))) (lt-or-le i (length ws));
@@ -288,7 +288,7 @@ module _ (total : ℕ) (ws cs : List ℕ) where
 
       low : (i : ℕ) (t : Bool) → cond t (suc st.rounds) (at st.marks i) ≤ suc st.rounds
       low i true = omega arith
-      low i false = omega (arith, s.marks-le i)
+      low i false = omega (arith, s.marks_le i)
 
       weighty : (i : ℕ) (t : Bool) → closes ws cs st i ≡ t → 0 < cond t (suc st.rounds) (at st.marks i) → 0 < at ws i
       weighty i true e q = closes-weight ws cs st i e
@@ -304,8 +304,8 @@ module _ (total : ℕ) (ws cs : List ℕ) where
       record {
         long = length-replicate {A = ℕ} (length ws) 0;
         weight_is = sym (where-all (length ws) (not_closed (opening total ws).marks) (at ws) (λ i l. rw (opening-mark i)));
-        money-is = omega (arith, where-none (length ws) (has_closed (opening total ws).marks) (at cs) (λ i l. rw (opening-mark i)));
-        marks-le = λ i. omega (arith, opening-mark i);
+        money_is = omega (arith, where-none (length ws) (has_closed (opening total ws).marks) (at cs) (λ i l. rw (opening-mark i)));
+        marks_le = λ i. omega (arith, opening-mark i);
         payers = λ i l. absurd (omega (arith, opening-mark i));
       }
 

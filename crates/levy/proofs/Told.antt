@@ -44,7 +44,7 @@ module _ (n : ℕ) (weights marks : List ℕ) (rounds : ℕ) (asked : Countable 
 
   looks-few : (i : ℕ) → looks_at n marks rounds i ≤ 257
   unfolding looks
-  looks-few i = each (eqb (at (take n marks) i) 0) (at (take n marks) i) (asked.marks-le i)
+  looks-few i = each (eqb (at (take n marks) i) 0) (at (take n marks) i) (asked.marks_le i)
     where
       each : (t : Bool) (m : ℕ) → m ≤ rounds → cond t (rounds + 1) m ≤ 257
       each true m l = omega (arith, asked.early)
@@ -74,5 +74,5 @@ module _ (n : ℕ) (weights marks : List ℕ) (rounds : ℕ) (asked : Countable 
     pub told-end : n ≤ i → visits ≡ visits_told (take n weights) (take n marks) rounds
     unfolding visits_told
     told-end q =
-        let e : i ≡ length (take n weights) = omega (arith, told.within, length-take-le n weights (omega (arith, asked.few, asked.weights-long))) in
+        let e : i ≡ length (take n weights) = omega (arith, told.within, length-take-le n weights (omega (arith, asked.few, asked.weights_long))) in
         told.is ∙ ap (λ (m : ℕ). sum_where m (is_payer (take n weights)) (looks_at n marks rounds)) e

@@ -61,8 +61,8 @@ module _ (n : ℕ) (weights caps marks₀ : List ℕ) (money weight rounds : ℕ
   -- p and g are the caps and the weights that have closed, k is how many stay, j how many were open
   pub record Turn (marks list : List ℕ) (p g k j i : ℕ) : Type 0 where
     pub within : i ≤ n
-    pub caps-are : p ≡ sum_where i hit (at cs)
-    pub weights-are : g ≡ sum_where i hit (at ws)
+    pub caps_are : p ≡ sum_where i hit (at cs)
+    pub weights_are : g ≡ sum_where i hit (at ws)
     pub reached : Reached 0 mark marks₀ marks i
     pub past : drop n marks ≡ drop n marks₀
     pub kept : Lists i stays list k
@@ -76,7 +76,7 @@ module _ (n : ℕ) (weights caps marks₀ : List ℕ) (money weight rounds : ℕ
 
   module _ (m : ℕ) (asked : Round n weights caps marks₀ money weight rounds list₀ m) where
     wide : length ws ≡ n
-    wide = length-take-le n weights (omega (arith, asked.held.weights-long, asked.held.few))
+    wide = length-take-le n weights (omega (arith, asked.held.weights_long, asked.held.few))
 
     -- who is open stays so or closes
     parts : (i : ℕ) → i < n → bit (was i) ≡ bit (stays i) + bit (hit i)
@@ -91,8 +91,8 @@ module _ (n : ℕ) (weights caps marks₀ : List ℕ) (money weight rounds : ℕ
     turn-none =
         record {
           within = omega arith;
-          caps-are = unfold sum_where sum_to in refl;
-          weights-are = unfold sum_where sum_to in refl;
+          caps_are = unfold sum_where sum_to in refl;
+          weights_are = unfold sum_where sum_to in refl;
           reached = reached-none 0 mark marks₀;
           past = refl;
           kept = lists-none stays list₀ asked.listed.long;
@@ -106,10 +106,10 @@ module _ (n : ℕ) (weights caps marks₀ : List ℕ) (money weight rounds : ℕ
       turn-quiet off =
           record {
             within = omega arith;
-            caps-are = omega (arith, turn.caps-are, where_next i hit (at cs), none (at cs i));
-            weights-are = omega (arith, turn.weights-are, where_next i hit (at ws), none (at ws i));
+            caps_are = omega (arith, turn.caps_are, where_next i hit (at cs), none (at cs i));
+            weights_are = omega (arith, turn.weights_are, where_next i hit (at ws), none (at ws i));
             reached =
-                reached-same 0 mark marks₀ marks i turn.reached (omega (arith, asked.held.few, asked.held.marks-long))
+                reached-same 0 mark marks₀ marks i turn.reached (omega (arith, asked.held.few, asked.held.marks_long))
                 (rw (quiet, get_or-take n marks₀ i 0 l));
             past = turn.past;
             kept = lists-quiet stays list k i turn.kept (no (stays i) (omega (arith, parts i l, ap bit off)));
@@ -144,12 +144,12 @@ module _ (n : ℕ) (weights caps marks₀ : List ℕ) (money weight rounds : ℕ
           → Shut n weights caps marks₀ st marks list (record { caps = record { 0 = p }; weights = g; left = k })
       pass-end q =
           record {
-            marks-are = marks-are;
+            marks_are = marks_are;
             past = turn.past;
             long = long;
-            caps-are = turn.caps-are ∙ ap (λ (o : ℕ). sum_where o hit (at cs)) (sym wide) ∙ sym (closed_is ws cs st cs);
-            weights-are = turn.weights-are ∙ ap (λ (o : ℕ). sum_where o hit (at ws)) (sym wide) ∙ sym (closed_is ws cs st ws);
-            listed = rw marks-are turn.kept;
+            caps_are = turn.caps_are ∙ ap (λ (o : ℕ). sum_where o hit (at cs)) (sym wide) ∙ sym (closed_is ws cs st cs);
+            weights_are = turn.weights_are ∙ ap (λ (o : ℕ). sum_where o hit (at ws)) (sym wide) ∙ sym (closed_is ws cs st ws);
+            listed = rw marks_are turn.kept;
           }
         where
           ended : pass.i ≡ n
@@ -163,10 +163,10 @@ module _ (n : ℕ) (weights caps marks₀ : List ℕ) (money weight rounds : ℕ
           turn = subst (Turn marks list p g k j) ended pass.turn
 
           long : length marks ≡ 256
-          long = turn.reached.room ∙ asked.held.marks-long
+          long = turn.reached.room ∙ asked.held.marks_long
 
-          marks-are : take n marks ≡ (next ws cs st).marks
-          marks-are =
+          marks_are : take n marks ≡ (next ws cs st).marks
+          marks_are =
               unfold next in table_is 0 (take n marks) (length ws) mark
               (omega (arith, wide, length-take-le n marks (omega (arith, long, asked.held.few))))
               (λ k l. get_or-take n marks k 0 (omega (arith, wide)) ∙ turn.reached.done k (omega (arith, wide)))
@@ -175,7 +175,7 @@ module _ (n : ℕ) (weights caps marks₀ : List ℕ) (money weight rounds : ℕ
       caps-fit r small =
           omega (
             arith,
-            pass.turn.caps-are,
+            pass.turn.caps_are,
             pass.turn.within,
             asked.held.few,
             where-bound pass.i 44000000 hit (at cs) (λ q _. asked.held.low q),
@@ -185,7 +185,7 @@ module _ (n : ℕ) (weights caps marks₀ : List ℕ) (money weight rounds : ℕ
       weights-fit r small =
           omega (
             arith,
-            pass.turn.weights-are,
+            pass.turn.weights_are,
             pass.turn.within,
             asked.held.few,
             where-bound pass.i 550000000 hit (at ws) (λ q _. asked.held.light q),
@@ -263,11 +263,11 @@ module _ (n : ℕ) (weights caps marks₀ : List ℕ) (money weight rounds : ℕ
             advance (set marks x v) (set list k (at list j)) (p + r) (g + s) (k + b) (j + 1) (n - (x + 1)) (x + 1) (omega (arith, inside))
             (record {
               within = omega (arith, inside);
-              caps-are = sum_step caps t e r r-is p turn.caps-are;
-              weights-are = sum_step weights t e s s-is g turn.weights-are;
+              caps_are = sum_step caps t e r r-is p turn.caps_are;
+              weights_are = sum_step weights t e s s-is g turn.weights_are;
               reached =
                   reached-next 0 mark marks₀ marks x v turn.reached
-                  (omega (arith, inside, turn.reached.room, asked.held.marks-long, asked.held.few))
+                  (omega (arith, inside, turn.reached.room, asked.held.marks_long, asked.held.few))
                   (rw (← e, unmarked, ← (add-one rounds)) v-is);
               past = drop-set-lt n marks x v inside ∙ turn.past;
               kept = rw (← x-is) (lists-next stays list k x turn.kept (omega (arith, inside, asked.held.few)) b

@@ -25,9 +25,9 @@ Small xs = (i : ℕ) → at xs i < 2 ^ 32
 -- the arrays that the rounds hold, with weights and caps small enough that each product of a round stays below 2 ^ 63
 pub record Held (n : ℕ) (weights caps marks : List ℕ) (money : ℕ) : Type 0 where
   pub few : n ≤ 256
-  pub weights-long : length weights ≡ 256
-  pub caps-long : length caps ≡ 256
-  pub marks-long : length marks ≡ 256
+  pub weights_long : length weights ≡ 256
+  pub caps_long : length caps ≡ 256
+  pub marks_long : length marks ≡ 256
   pub light : (i : ℕ) → at (take n weights) i ≤ 550000000
   pub low : (i : ℕ) → at (take n caps) i ≤ 44000000
   pub rich : money ≤ 6400000000
@@ -50,11 +50,11 @@ pub record Round (n : ℕ) (weights caps marks : List ℕ) (money weight rounds 
 
 -- answered by one round: who closes has its mark, who is left open is listed, and nothing else changes
 pub record Shut (n : ℕ) (weights caps marks : List ℕ) (st : Standing) (after list : List ℕ) (r : Closed) : Type 0 where
-  pub marks-are : take n after ≡ (next (take n weights) (take n caps) st).marks
+  pub marks_are : take n after ≡ (next (take n weights) (take n caps) st).marks
   pub past : drop n after ≡ drop n marks
   pub long : length after ≡ 256
-  pub caps-are : r.caps.0 ≡ closed (take n weights) (take n caps) st (take n caps)
-  pub weights-are : r.weights ≡ closed (take n weights) (take n caps) st (take n weights)
+  pub caps_are : r.caps.0 ≡ closed (take n weights) (take n caps) st (take n caps)
+  pub weights_are : r.weights ≡ closed (take n weights) (take n caps) st (take n weights)
   pub listed : Listed n weights after list r.left
 
 -- asked where redistribution begins, and again at each round: the weight is that of those who have not closed, marks are
@@ -62,7 +62,7 @@ pub record Shut (n : ℕ) (weights caps marks : List ℕ) (st : Standing) (after
 pub record Ready (n : ℕ) (weights caps marks : List ℕ) (money weight rounds : ℕ) (list : List ℕ) (m : ℕ) : Type 0 where
   pub held : Held n weights caps marks money
   pub weight_is : weight ≡ sum_where (length (take n weights)) (λ i. eqb (at (take n marks) i) 0) (at (take n weights))
-  pub marks-le : (i : ℕ) → at (take n marks) i ≤ rounds
+  pub marks_le : (i : ℕ) → at (take n marks) i ≤ rounds
   pub payers : (i : ℕ) → 0 < at (take n marks) i → 0 < at (take n weights) i
   pub early : rounds + m ≤ 256
   pub listed : Listed n weights marks list m
@@ -79,15 +79,15 @@ pub record Ended (n : ℕ) (weights caps marks : List ℕ) (st : Standing) (afte
 -- asked where visits are counted: every mark is one of so many rounds
 pub record Countable (n : ℕ) (weights marks : List ℕ) (rounds : ℕ) : Type 0 where
   pub few : n ≤ 256
-  pub weights-long : length weights ≡ 256
-  pub marks-long : length marks ≡ 256
-  pub marks-le : (i : ℕ) → at (take n marks) i ≤ rounds
+  pub weights_long : length weights ≡ 256
+  pub marks_long : length marks ≡ 256
+  pub marks_le : (i : ℕ) → at (take n marks) i ≤ rounds
   pub early : rounds ≤ 256
 
 -- answered by the rounds: how things stand after the last one, how often payers were looked at, and 0 past the n positions
 pub record Finished (total n : ℕ) (weights caps after : List ℕ) (r : Rest) : Type 0 where
   pub is : standing_of n after r ≡ final total (take n weights) (take n caps)
-  pub visits-are : r.visits ≡ visits total (take n weights) (take n caps)
+  pub visits_are : r.visits ≡ visits total (take n weights) (take n caps)
   pub past : drop n after ≡ replicate (256 - n) 0
   pub long : length after ≡ 256
 
@@ -109,9 +109,9 @@ pub record Still (n : ℕ) (weights marks still : List ℕ) : Type 0 where
 -- asked by the payments: each fits its field
 pub record Payable (n : ℕ) (weights caps marks : List ℕ) (r : Rest) (first : ℕ) : Type 0 where
   pub few : n ≤ 256
-  pub weights-long : length weights ≡ 256
-  pub caps-long : length caps ≡ 256
-  pub marks-long : length marks ≡ 256
+  pub weights_long : length weights ≡ 256
+  pub caps_long : length caps ≡ 256
+  pub marks_long : length marks ≡ 256
   pub turn : 0 < n → first < n
   pub fits : (i : ℕ) → paid (take n weights) (take n caps) (standing_of n marks r) first i < 2 ^ 32
 
@@ -122,26 +122,26 @@ paid_from caps marks parts i = cond (eqb (at marks i) 0) (at parts i) (at caps i
 -- asked where shares and caps become payments
 pub record Made (caps marks parts : List ℕ) : Type 0 where
   pub few : length parts ≤ 256
-  pub caps-long : length caps ≡ 256
+  pub caps_long : length caps ≡ 256
   pub fits : (i : ℕ) → i < length parts → paid_from caps marks parts i < 2 ^ 32
 
 -- asked where the money left is shared over the open weights: the payments that come of it fit
 pub record Spread (money : ℕ) (still caps marks : List ℕ) (first : ℕ) (parts : List ℕ) : Type 0 where
   pub few : length still ≤ 256
   pub small : Small still
-  pub parts-long : length parts ≡ length still
-  pub caps-long : length caps ≡ 256
+  pub parts_long : length parts ≡ length still
+  pub caps_long : length caps ≡ 256
   pub turn : 0 < length still → first < length still
   pub fits : (i : ℕ) → i < length still → paid_from caps marks (shares money still first) i < 2 ^ 32
 
 -- room for two columns of n
 pub record Room (n : ℕ) (one two : List ℕ) : Type 0 where
-  pub one-long : length one ≡ n
-  pub two-long : length two ≡ n
+  pub one_long : length one ≡ n
+  pub two_long : length two ≡ n
 
 -- asked where an amount is shared over a column of sums that comes to no less
 pub record Apportionable (amount : ℕ) (sums : List ℕ) (first : ℕ) (out : List ℕ) : Type 0 where
   pub few : length sums ≤ 256
-  pub out-long : length out ≡ length sums
+  pub out_long : length out ≡ length sums
   pub turn : 0 < length sums → first < length sums
   pub covered : amount ≤ whole sums

@@ -55,9 +55,9 @@ ready total n weights caps few long wide light low rich some =
             held =
                 record {
                   few = leb→le n 256 few;
-                  weights-long = long;
-                  caps-long = wide;
-                  marks-long = length-replicate {A = ℕ} 256 0;
+                  weights_long = long;
+                  caps_long = wide;
+                  marks_long = length-replicate {A = ℕ} 256 0;
                   light = low-at 550000000 (take n weights) light;
                   low = low;
                   rich = leb→le total 6400000000 rich;
@@ -85,7 +85,7 @@ pub told : (total n : ℕ) (weights caps marks : List ℕ) (r : Rest) → Finish
     → r.rounds ∷ r.visits ∷ x ∷ [] ≡ outcome total (take n weights) (take n caps)
 unfolding outcome
 told total n weights caps marks r ended x short =
-    rw (short n marks, ended.visits-are)
+    rw (short n marks, ended.visits_are)
     (ap (λ (st : Standing). st.rounds ∷ visits total (take n weights) (take n caps) ∷ shortfall st ∷ []) ended.is)
 
 pub made : (total n : ℕ) (weights caps marks : List ℕ) (r : Rest) → Finished total n weights caps marks r → (paid : List ℕ)

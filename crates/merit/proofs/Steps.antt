@@ -159,13 +159,13 @@ module _ (f : ℕ → ℕ) (n : ℕ) (start : List ℕ) where
 -- f stands in the first i positions, their sum is known, and how many are above 0
 pub record Banded (f : ℕ → ℕ) (n : ℕ) (start now : List ℕ) (sum bands i : ℕ) : Type 0 where
   pub grouped : Grouped f n start now sum i
-  pub bands-are : bands ≡ count_to i (λ j. ltb 0 (f j))
+  pub bands_are : bands ≡ count_to i (λ j. ltb 0 (f j))
   pub few : bands ≤ i
 
 module _ (f : ℕ → ℕ) (n : ℕ) (start : List ℕ) where
   pub banded-none : Banded f n start start 0 0 0
   unfolding count_to sum_to
-  banded-none = record { grouped = grouped-none f n start; bands-are = refl; few = omega arith }
+  banded-none = record { grouped = grouped-none f n start; bands_are = refl; few = omega arith }
 
   module _ (now : List ℕ) (sum bands i : ℕ) (r : Banded f n start now sum bands i) (room : length start ≡ n) where
     pub banded-next : (v x s c : ℕ) → i < n → v ≡ f i → v ≤ 250000 → x ≡ v → s ≡ sum + v → c ≡ cond (ltb 0 v) 1 0
@@ -174,13 +174,13 @@ module _ (f : ℕ → ℕ) (n : ℕ) (start : List ℕ) where
         let here : c ≡ bit (ltb 0 (f i)) = b ∙ cond-bit (ltb 0 v) ∙ ap (λ (y : ℕ). bit (ltb 0 y)) e in
         record {
           grouped = grouped-next f n start now sum i r.grouped room v x s l e h w t;
-          bands-are = omega (arith, r.bands-are, here, count_next i (λ j. ltb 0 (f j)));
+          bands_are = omega (arith, r.bands_are, here, count_next i (λ j. ltb 0 (f j)));
           few = omega (arith, r.few, here, bit_le (ltb 0 (f i)));
         }
 
     pub banded-counts : n ≤ i → Counts now sum bands
     unfolding bands_in
-    banded-counts l = record { sum_is = grouped-whole f n start now sum i r.grouped room l; bands-are = are }
+    banded-counts l = record { sum_is = grouped-whole f n start now sum i r.grouped room l; bands_are = are }
       where
         is : now ≡ table n f
         is = grouped-all f n start now sum i r.grouped room l
@@ -189,7 +189,7 @@ module _ (f : ℕ → ℕ) (n : ℕ) (start : List ℕ) where
         are =
             let s : i ≡ n = omega (arith, r.grouped.summed.within) in
             let long : length now ≡ n = ap length is ∙ table-length n f in
-            r.bands-are
+            r.bands_are
             ∙ rw (s, long)
             (count_same n (λ j. ltb 0 (f j)) (λ j. ltb 0 (at now j))
             (λ j m. ap (ltb 0) (sym (ap (λ (l : List ℕ). at l j) is ∙ table_at 0 n f j m))))
@@ -250,7 +250,7 @@ module _ (left sum bands : ℕ) (g out : List ℕ) (first : ℕ) (c : Counts g s
   pub called-alone : (old : List ℕ) → Splittable g old first → left < sum → bands ≡ 1 → out ≡ table (length g) (alone left g)
       → out ≡ parts_in left g first
   unfolding bands_in alone
-  called-alone old s l b e = called-in-part left refl l (e ∙ sym (shares-alone left g first (sym c.bands-are ∙ b) s.inside))
+  called-alone old s l b e = called-in-part left refl l (e ∙ sym (shares-alone left g first (sym c.bands_are ∙ b) s.inside))
 
 pub parts-of : (left : ℕ) (g h out : List ℕ) (first : ℕ) → out ≡ parts_in left g first → g ≡ h → out ≡ parts_in left h first
 parts-of left g h out first e f = rw (← f) e

@@ -226,12 +226,12 @@ module _ (start : ℕ) (ws bs : List ℕ) (first k₀ : ℕ) (cs₀ : List ℕ) 
     parts_are : ps ≡ parts_of need ws bs first k
     parts_are = e ∙ ap (λ (x : ℕ). parts_in x (group_in ws bs k) first) w.left_is
 
-    parts-long : length ps ≡ length ws
-    parts-long = ap length parts_are ∙ parts-length need ws bs first k
+    parts_long : length ps ≡ length ws
+    parts_long = ap length parts_are ∙ parts-length need ws bs first k
 
     parts-total : sum_to (length ps) (at ps) ≡ min now (whole (group_in ws bs k))
     parts-total =
-        rw parts-long
+        rw parts_long
         (ap (λ (l : List ℕ). sum_to (length ws) (at l)) parts_are ∙ parts-sum need ws bs first good.inside k
         ∙ ap (λ (x : ℕ). min x (whole (group_in ws bs k))) (sym w.left_is))
 
@@ -244,8 +244,8 @@ module _ (start : ℕ) (ws bs : List ℕ) (first k₀ : ℕ) (cs₀ : List ℕ) 
     unfolding sum_to
     turned-first =
         record {
-          few = omega (arith, parts-long, good.columns.few);
-          level = w.room ∙ sym parts-long;
+          few = omega (arith, parts_long, good.columns.few);
+          level = w.room ∙ sym parts_long;
           small = λ j. omega (arith, called-next j, done-le need ws bs first (k + 1) j, good.columns.narrow j);
           covered = omega (arith, parts-total);
           within = omega arith;

@@ -33,5 +33,5 @@ pub record Called (need : ℕ) (b : Bands) (first r : ℕ) (c1 c2 : List ℕ) : 
 
 -- a call and an energy for each bid
 pub record OneLength (bids calls energies : List ℕ) : Type 0 where
-  pub calls-long : length calls ≡ length bids
-  pub energies-long : length energies ≡ length bids
+  pub calls_long : length calls ≡ length bids
+  pub energies_long : length energies ≡ length bids

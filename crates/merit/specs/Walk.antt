@@ -45,7 +45,7 @@ bands_in g = count_to (length g) (λ i. ltb 0 (at g i))
 -- what a group comes to: the sum of its widths, and how many bands it has
 pub record Counts (g : List ℕ) (sum bands : ℕ) : Type 0 where
   pub sum_is : sum ≡ whole g
-  pub bands-are : bands ≡ bands_in g
+  pub bands_are : bands ≡ bands_in g
 
 -- what row i of a group of one band is called for
 unfoldable pub alone : ℕ → List ℕ → ℕ → ℕ

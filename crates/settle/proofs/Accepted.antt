@@ -55,7 +55,7 @@ module _ (s k : List ℕ) (n : ℕ) (h : verdict_of s k ≡ Accepted n) where
       let tariff = (head_at s).tariff.0 in
       let sound = accepted-sound s k n h in
       let sized =
-      duties-sized (limit_in s k) (base_in s k) tariff (row_count s) (counting_row s k) t sound head.tariff-high rows-ranged limits bases in
+      duties-sized (limit_in s k) (base_in s k) tariff (row_count s) (counting_row s k) t sound head.tariff_high rows-ranged limits bases in
       record {
         few = omega (arith, accepted-few s k n h, accepted-count s k n h);
         level = duties-level (limit_in s k) (base_in s k) tariff (row_count s) (counting_row s k);
@@ -69,5 +69,5 @@ module _ (s k : List ℕ) (n : ℕ) (h : verdict_of s k ≡ Accepted n) where
         credited1 = sized.credits1;
         credited2 = sized.credits2;
         apart =
-            bids-apart (limit_in s k) (base_in s k) tariff (row_count s) (counting_row s k) t sound head.tariff-high rows-ranged limits bases;
+            bids-apart (limit_in s k) (base_in s k) tariff (row_count s) (counting_row s k) t sound head.tariff_high rows-ranged limits bases;
       }

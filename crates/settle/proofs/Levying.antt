@@ -51,14 +51,14 @@ module _ (total n first : ℕ) (weights caps marks₀ marks : List ℕ) (rest : 
   paying-long : length paying ≡ n
   paying-long =
       payments-length (take n weights) (take n caps) (standing_of n marks rest) first
-      ∙ length-take-le n weights (omega (arith, asked.held.few, asked.held.weights-long))
+      ∙ length-take-le n weights (omega (arith, asked.held.few, asked.held.weights_long))
 
   pub levied-on : (paid : List ℕ) → paid ≡ paying ++ drop n caps → LeviedOn n first total (take n weights) (take n caps) marks paid rest
   levied-on paid made =
       record {
         stands = ended.is;
-        marks-long = ended.long;
-        paid-long =
+        marks_long = ended.long;
+        paid_long =
             omega (
               arith,
               ap length made,
@@ -66,12 +66,12 @@ module _ (total n first : ℕ) (weights caps marks₀ marks : List ℕ) (rest : 
               paying-long,
               length-drop n caps,
               asked.held.few,
-              asked.held.caps-long,
+              asked.held.caps_long,
             );
         payments =
             ap (take n) made ∙ take_at paying (drop n caps) n paying-long
             ∙ ap (λ (st : Standing). payments (take n weights) (take n caps) st first) ended.is;
-        visits = ended.visits-are;
+        visits = ended.visits_are;
       }
 
 -- ---- over the sheet
@@ -107,9 +107,9 @@ module _ (n first total : ℕ) (s : List ℕ) (asked : Leviable n first total s)
         record {
           held = record {
             few = asked.few;
-            weights-long = array_long line.weight ws weights-read;
-            caps-long = array_long line.cap cs caps-read;
-            marks-long = refl;
+            weights_long = array_long line.weight ws weights-read;
+            caps_long = array_long line.cap cs caps-read;
+            marks_long = refl;
             light = λ i. rw (array-front line.weight ws weights-read) (asked.light i);
             low = λ i. rw (array-front line.cap cs caps-read) (asked.low i);
             rich = asked.rich;
@@ -128,10 +128,10 @@ module _ (n first total : ℕ) (s : List ℕ) (asked : Leviable n first total s)
           ∙ (λ j. payments (array-front line.weight ws weights-read j) (array-front line.cap cs caps-read j) (ends j) first)
 
       pub paid-count : n ≡ length (take n paid)
-      paid-count = sym (length-take-le n paid (omega (arith, now.paid-long, asked.few)))
+      paid-count = sym (length-take-le n paid (omega (arith, now.paid_long, asked.few)))
 
       pub marks-count : n ≡ length (take n marks)
-      marks-count = sym (length-take-le n marks (omega (arith, now.marks-long, asked.few)))
+      marks-count = sym (length-take-le n marks (omega (arith, now.marks_long, asked.few)))
 
       pub paid-asked : Lined line.paid (length (take n paid)) s
       paid-asked = rw (← paid-count) asked.paid.lined
@@ -166,7 +166,7 @@ module _ (first : ℕ) (what : Sharing) (ps cs s : List ℕ) (asked : Shareable 
     shares-asked =
         record {
           few = omega (arith, ps1-long, asked.few);
-          out-long = level ∙ sym ps1-long;
+          out_long = level ∙ sym ps1-long;
           turn = λ p. omega (arith, ps1-long, asked.turn (omega (arith, ps1-long)));
           covered = rw read asked.covered;
         }

@@ -35,10 +35,10 @@ figures g n p1 p2 s = table n (priced_at g p1 p2 s)
 -- before row i: the rows passed have both figures, and the totals are theirs
 pub record Sofar (n p1 p2 : ℕ) (s₀ s : List ℕ) (total penalties i : ℕ) : Type 0 where
   pub written : WrittenTo line.pay line.owed (figures paying n p1 p2 s₀) (figures owing n p1 p2 s₀) s₀ s i
-  pub total-is : total ≡ sum_to i (priced_at paying p1 p2 s₀)
-  pub total-small : total ≤ i * 100000000
-  pub penalties-are : penalties ≡ sum_to i (priced_at owing p1 p2 s₀)
-  pub penalties-small : penalties ≤ i * 100000000
+  pub total_is : total ≡ sum_to i (priced_at paying p1 p2 s₀)
+  pub total_small : total ≤ i * 100000000
+  pub penalties_are : penalties ≡ sum_to i (priced_at owing p1 p2 s₀)
+  pub penalties_small : penalties ≤ i * 100000000
 
 module _ (n p1 p2 : ℕ) (s₀ : List ℕ) (asked : Accountable n p1 p2 s₀) where
   -- the columns of both figures
@@ -51,11 +51,11 @@ module _ (n p1 p2 : ℕ) (s₀ : List ℕ) (asked : Accountable n p1 p2 s₀) wh
   count : (g : Pricing) → length (figures g n p1 p2 s₀) ≡ n
   count g = table-length n (priced_at g p1 p2 s₀)
 
-  pay-lined : Lined line.pay (length pays) s₀
-  pay-lined = rw (count paying) asked.pay-lined
+  pay_lined : Lined line.pay (length pays) s₀
+  pay_lined = rw (count paying) asked.pay_lined
 
-  owed-lined : Lined line.owed (length owes) s₀
-  owed-lined = rw (count owing) asked.owed-lined
+  owed_lined : Lined line.owed (length owes) s₀
+  owed_lined = rw (count owing) asked.owed_lined
 
   pub sofar-none : Sofar n p1 p2 s₀ s₀ 0 0 0
   unfolding sum_to
@@ -63,10 +63,10 @@ module _ (n p1 p2 : ℕ) (s₀ : List ℕ) (asked : Accountable n p1 p2 s₀) wh
       record {
         written =
             written_none line.pay line.owed pays owes s₀ (count owing ∙ sym (count paying));
-        total-is = refl;
-        total-small = omega arith;
-        penalties-are = refl;
-        penalties-small = omega arith;
+        total_is = refl;
+        total_small = omega arith;
+        penalties_are = refl;
+        penalties_small = omega arith;
       }
 
   module _ (s : List ℕ) (total penalties i : ℕ) (sofar : Sofar n p1 p2 s₀ s total penalties i) where
@@ -78,36 +78,36 @@ module _ (n p1 p2 : ℕ) (s₀ : List ℕ) (asked : Accountable n p1 p2 s₀) wh
       inside = omega (arith, count paying)
 
       pub line-there : line_start (i + 1) ≤ length s
-      line-there = omega (arith, sofar-long, asked.pay-lined.room)
+      line-there = omega (arith, sofar-long, asked.pay_lined.room)
 
       pub pay-there : cell_at line.pay i + 8 ≤ length s
       pay-there =
-          written-one-room line.pay line.owed pays owes s₀ s i sofar.written pay-lined inside
+          written-one-room line.pay line.owed pays owes s₀ s i sofar.written pay_lined inside
 
       pub owed-there : (x : ℕ) (t : List ℕ) → t ≡ with_cell line.pay i x s → cell_at line.owed i + 8 ≤ length t
       owed-there x t put-pay =
-          written-two-room line.pay line.owed pays owes s₀ s i sofar.written pay-lined inside x t
-          put-pay owed-lined
+          written-two-room line.pay line.owed pays owes s₀ s i sofar.written pay_lined inside x t
+          put-pay owed_lined
 
       -- what was put into the lines before is not seen in this one
       later : (j : ℕ) → cell (line_field j) s i ≡ cell (line_field j) s₀ i
       later j =
           let t = with_cells line.pay i pays s₀ in
-          let t-long : length t ≡ length s₀ = cells-length line.pay n i pays s₀ asked.pay-lined (omega arith) in
+          let t-long : length t ≡ length s₀ = cells-length line.pay n i pays s₀ asked.pay_lined (omega arith) in
           ap (λ (x : List ℕ). cell (line_field j) x i) sofar.written.is
           ∙ cell-later line.owed (line_field j) n owes t i i refl refl
-          (record { inside = asked.owed-lined.inside; room = omega (arith, t-long, asked.owed-lined.room) }) (omega arith) l
-          ∙ cell-later line.pay (line_field j) n pays s₀ i i refl refl asked.pay-lined (omega arith) l
+          (record { inside = asked.owed_lined.inside; room = omega (arith, t-long, asked.owed_lined.room) }) (omega arith) l
+          ∙ cell-later line.pay (line_field j) n pays s₀ i i refl refl asked.pay_lined (omega arith) l
 
       same-figure : (g : Pricing) → priced_at g p1 p2 s i ≡ priced_at g p1 p2 s₀ i
       same-figure g = λ j. g.rule (later 1 j) (later 2 j) (later g.into j) (later g.beside j) p1 p2
 
       module _ (pay owed : Fen) (pay-is : pay.0 ≡ priced_at paying p1 p2 s i) (owed-is : owed.0 ≡ priced_at owing p1 p2 s i) where
         pub total-fits : total + pay.0 < 2 ^ 64
-        total-fits = omega (arith, pay-is, same-figure paying, asked.pay-small i l, sofar.total-small, asked.few)
+        total-fits = omega (arith, pay-is, same-figure paying, asked.pay_small i l, sofar.total_small, asked.few)
 
         pub penalties-fit : penalties + owed.0 < 2 ^ 64
-        penalties-fit = omega (arith, owed-is, same-figure owing, asked.owed_small i l, sofar.penalties-small, asked.few)
+        penalties-fit = omega (arith, owed-is, same-figure owing, asked.owed_small i l, sofar.penalties_small, asked.few)
 
         pub sofar-more : (t : List ℕ) → t ≡ with_cell line.pay i pay.0 s → (u : List ℕ) → u ≡ with_cell line.owed i owed.0 t
             → (more : ℕ) → more ≡ total + pay.0 → (most : ℕ) → most ≡ penalties + owed.0 → Sofar n p1 p2 s₀ u more most (i + 1)
@@ -116,14 +116,14 @@ module _ (n p1 p2 : ℕ) (s₀ : List ℕ) (asked : Accountable n p1 p2 s₀) wh
             let owed-now = owed-is ∙ same-figure owing in
             record {
               written =
-                  written_next line.pay line.owed pays owes s₀ s i sofar.written pay-lined inside
-                  pay.0 t put-pay owed-lined (record { start = refl; stride = refl })
+                  written_next line.pay line.owed pays owes s₀ s i sofar.written pay_lined inside
+                  pay.0 t put-pay owed_lined (record { start = refl; stride = refl })
                   (paid-now ∙ sym (table_at 0 n (priced_at paying p1 p2 s₀) i l)) owed.0
                   (owed-now ∙ sym (table_at 0 n (priced_at owing p1 p2 s₀) i l)) u put-owed;
-              total-is = omega (arith, paid-now, sofar.total-is, sum-next i (priced_at paying p1 p2 s₀));
-              total-small = omega (arith, paid-now, asked.pay-small i l, sofar.total-small);
-              penalties-are = omega (arith, owed-now, sofar.penalties-are, sum-next i (priced_at owing p1 p2 s₀));
-              penalties-small = omega (arith, owed-now, asked.owed_small i l, sofar.penalties-small);
+              total_is = omega (arith, paid-now, sofar.total_is, sum-next i (priced_at paying p1 p2 s₀));
+              total_small = omega (arith, paid-now, asked.pay_small i l, sofar.total_small);
+              penalties_are = omega (arith, owed-now, sofar.penalties_are, sum-next i (priced_at owing p1 p2 s₀));
+              penalties_small = omega (arith, owed-now, asked.owed_small i l, sofar.penalties_small);
             }
 
     pub sofar-all : n ≤ i → (r : Accounts) → r.total.0 ≡ total → r.penalties.0 ≡ penalties → Accounted n p1 p2 s₀ s r
@@ -133,8 +133,8 @@ module _ (n p1 p2 : ℕ) (s₀ : List ℕ) (asked : Accountable n p1 p2 s₀) wh
           bytes =
               written_all line.pay line.owed pays owes s₀ s i sofar.written (omega (arith, count paying));
           total =
-              total-told ∙ sofar.total-is ∙ ap (λ (m : ℕ). sum_to m (priced_at paying p1 p2 s₀)) e ∙ sym (whole-table n (priced_at paying p1 p2 s₀));
+              total-told ∙ sofar.total_is ∙ ap (λ (m : ℕ). sum_to m (priced_at paying p1 p2 s₀)) e ∙ sym (whole-table n (priced_at paying p1 p2 s₀));
           penalties =
-              penalties-told ∙ sofar.penalties-are ∙ ap (λ (m : ℕ). sum_to m (priced_at owing p1 p2 s₀)) e
+              penalties-told ∙ sofar.penalties_are ∙ ap (λ (m : ℕ). sum_to m (priced_at owing p1 p2 s₀)) e
               ∙ sym (whole-table n (priced_at owing p1 p2 s₀));
         }

@@ -1,5 +1,5 @@
 -- How large the figures of a statement get, of any columns within sizes; proofs/Accepted.antt has it of an accepted pair of files.
---   pay-length, pay-small, total-rich     the column of compensations, its numbers, its sum
+--   pay-length, pay_small, total-rich     the column of compensations, its numbers, its sum
 --   owed-length, owed_small               the column of penalties, its numbers
 --   figures-long         a number in every column for each row
 --   figures-sized        every figure by its bound (record Sized)
@@ -85,9 +85,9 @@ module _ (n : ℕ) (d : Duties) where
       ∙ level.widths1
 
   module _ (within : Within n d) (c1 c2 : List ℕ) (p1 p2 : ℕ) (low1 : p1 ≤ 1000) (low2 : p2 ≤ 1000) where
-    pub pay-small : (i : ℕ) → at (compensations_of d c1 c2 p1 p2) i ≤ 25000000
+    pub pay_small : (i : ℕ) → at (compensations_of d c1 c2 p1 p2) i ≤ 25000000
     unfolding compensations_of
-    pay-small =
+    pay_small =
         table-most (length d.widths1) 25000000
         (λ i. compensation (at c1 i) (at c2 i) (at d.energies1 i) (at d.energies2 i) p1 p2)
         (λ i l. compensation-most (at c1 i) (at c2 i) (at d.energies1 i) (at d.energies2 i) p1 p2 (within.delivered i) low1 low2)
@@ -97,7 +97,7 @@ module _ (n : ℕ) (d : Duties) where
         omega (
           arith,
           within.few,
-          whole-bound (compensations_of d c1 c2 p1 p2) 25000000 pay-small,
+          whole-bound (compensations_of d c1 c2 p1 p2) 25000000 pay_small,
           pay-length within.level c1 c2 p1 p2,
         )
 
@@ -163,7 +163,7 @@ module _ (need first n : ℕ) (d : Duties) where
         visits = visits-few (whole pay) ws cs (omega (arith, within.few, within.level.weights));
         called1 = narrow1;
         called2 = narrow2;
-        compensations = pay-small n d within c1 c2 _ _ p1 p2;
+        compensations = pay_small n d within c1 c2 _ _ p1 p2;
         cuts = cut-le (whole pay) ws cs owed first pay refl;
         weights = within.light;
         caps = within.covered;

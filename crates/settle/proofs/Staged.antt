@@ -276,11 +276,11 @@ module _ (n : ℕ) (d : Duties) (within : Within n d) (need first : ℕ) (turn :
   account-asked =
       record {
         few = within.few;
-        pay-lined = beside-lined n out room lines2 (λ i. refl) line.pay refl refl (omega arith);
-        owed-lined = beside-lined n out room lines2 (λ i. refl) line.owed refl refl (omega arith);
+        pay_lined = beside-lined n out room lines2 (λ i. refl) line.pay refl refl (omega arith);
+        owed_lined = beside-lined n out room lines2 (λ i. refl) line.owed refl refl (omega arith);
         low1 = sized.price1;
         low2 = sized.price2;
-        pay-small = λ i l. omega (arith, pay-is i l, sized.compensations i);
+        pay_small = λ i l. omega (arith, pay-is i l, sized.compensations i);
         owed_small = λ i l. omega (arith, owed-is i l, sized.penalties i);
       }
 

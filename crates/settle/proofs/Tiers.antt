@@ -32,29 +32,29 @@ column-long : (f : Field) (n : ℕ) (s : List ℕ) → length (column_of f n s) 
 unfolding column_of
 column-long f n s = table-length n (cell f s)
 
-calls-long : (need first : ℕ) (ws bs : List ℕ) → length (tier_calls need ws bs first) ≡ length ws
+calls_long : (need first : ℕ) (ws bs : List ℕ) → length (tier_calls need ws bs first) ≡ length ws
 unfolding tier_calls
-calls-long need first ws bs = table-length (length ws) (called_in need ws bs first)
+calls_long need first ws bs = table-length (length ws) (called_in need ws bs first)
 
 pub priced-by : (bs cs es read : List ℕ) (r : ℕ) → es ≡ read → r ≡ price bs cs es → r ≡ price bs cs read
 priced-by bs cs es read r e is = is ∙ ap (price bs cs) e
 
 module _ (ws bs cs s : List ℕ) (first : ℕ) (p : TierFields) (offered : Offered (length cs) first p s) (lent : Lent ws bs cs) where
   pub widths-asked : Ruled (length ws) p.width s
-  widths-asked = rw lent.widths-long offered.widths
+  widths-asked = rw lent.widths_long offered.widths
 
   pub bids-asked : Ruled (length bs) p.bid s
-  bids-asked = rw lent.bids-long offered.bids
+  bids-asked = rw lent.bids_long offered.bids
 
   pub lent_level : length bs ≡ length ws
-  lent_level = lent.bids-long ∙ sym lent.widths-long
+  lent_level = lent.bids_long ∙ sym lent.widths_long
 
   module _ (ws1 bs1 : List ℕ) (widths-read : ws1 ≡ column_of p.width (length ws) s) (bids-read : bs1 ≡ column_of p.bid (length bs) s) where
     widths-are : ws1 ≡ column_of p.width (length cs) s
-    widths-are = rw lent.widths-long at widths-read
+    widths-are = rw lent.widths_long at widths-read
 
     bids-are : bs1 ≡ column_of p.bid (length cs) s
-    bids-are = rw lent.bids-long at bids-read
+    bids-are = rw lent.bids_long at bids-read
 
     ws1-long : length ws1 ≡ length cs
     ws1-long = ap length widths-are ∙ column-long p.width (length cs) s
@@ -84,8 +84,8 @@ module _ (ws bs cs s : List ℕ) (first : ℕ) (p : TierFields) (offered : Offer
       pub columns-level : OneLength bs1 cs1 ws1
       columns-level =
           record {
-            calls-long = ap length called.called ∙ calls-long need first ws1 bs1 ∙ ws1-long ∙ sym bs1-long;
-            energies-long = ws1-long ∙ sym bs1-long;
+            calls_long = ap length called.called ∙ calls_long need first ws1 bs1 ∙ ws1-long ∙ sym bs1-long;
+            energies_long = ws1-long ∙ sym bs1-long;
           }
 
       pub energies-asked : Ruled (length ws1) p.energy s
@@ -106,7 +106,7 @@ module _ (n first : ℕ) (p : TierFields) (s : List ℕ) (offered : Offered n fi
     (cleared : ClearedIn need first n p s cs r) where
   pub calls-lined : Lined p.width (length cs) s
   calls-lined =
-      let long : length cs ≡ n = ap length cleared.called ∙ calls-long need first (column_of p.width n s) (column_of p.bid n s) ∙ column-long p.width n s in
+      let long : length cs ≡ n = ap length cleared.called ∙ calls_long need first (column_of p.width n s) (column_of p.bid n s) ∙ column-long p.width n s in
       rw long offered.widths.lined
 
   pub tier-called : (t : List ℕ) → t ≡ with_column p.width cs s → Called need first n p s t r
@@ -143,7 +143,7 @@ module _ (n first : ℕ) (p : TierFields) (s : List ℕ) (offered : Offered n fi
   asked-front = rw (front-count n offered.few) offered
 
   pub lent-front : Lent (take n fresh) (take n fresh) (take n fresh)
-  lent-front = record { widths-long = refl; bids-long = refl; blank = λ i. front-blank n i offered.few }
+  lent-front = record { widths_long = refl; bids_long = refl; blank = λ i. front-blank n i offered.few }
 
   pub called-front : (need : ℕ) (t : List ℕ) (r : Cleared) → Called need first (length (take n fresh)) p s t r → Called need first n p s t r
   called-front need t r c = rw (front-count n offered.few) at c

@@ -93,8 +93,8 @@ pub record Offered (n first : ℕ) (p : TierFields) (s : List ℕ) : Type 0 wher
 
 -- three columns of one length to work in, the last of them blank
 pub record Lent (widths bids called : List ℕ) : Type 0 where
-  pub widths-long : length widths ≡ length called
-  pub bids-long : length bids ≡ length called
+  pub widths_long : length widths ≡ length called
+  pub bids_long : length bids ≡ length called
   pub blank : (i : ℕ) → at called i ≡ 0
 
 -- the calls of a tier, and its price
@@ -162,11 +162,11 @@ priced_at g p1 p2 s i =
 -- calls and energies stand in their fields; prices are low, and so is every figure
 pub record Accountable (n p1 p2 : ℕ) (s : List ℕ) : Type 0 where
   pub few : n ≤ 256
-  pub pay-lined : Lined line.pay n s
-  pub owed-lined : Lined line.owed n s
+  pub pay_lined : Lined line.pay n s
+  pub owed_lined : Lined line.owed n s
   pub low1 : p1 ≤ 1000
   pub low2 : p2 ≤ 1000
-  pub pay-small : (i : ℕ) → i < n → priced_at paying p1 p2 s i ≤ 100000000
+  pub pay_small : (i : ℕ) → i < n → priced_at paying p1 p2 s i ≤ 100000000
   pub owed_small : (i : ℕ) → i < n → priced_at owing p1 p2 s i ≤ 100000000
 
 -- every row has both figures, and their sums are known
@@ -194,8 +194,8 @@ standing_in total n s = final total (column_of line.weight n s) (column_of line.
 -- the rounds are over: how things stand, and the payments in front of an array
 pub record LeviedOn (n first total : ℕ) (ws cs marks paid : List ℕ) (r : Rest) : Type 0 where
   pub stands : standing_of n marks r ≡ final total ws cs
-  pub marks-long : length marks ≡ 256
-  pub paid-long : length paid ≡ 256
+  pub marks_long : length marks ≡ 256
+  pub paid_long : length paid ≡ 256
   pub payments : take n paid ≡ payments ws cs (final total ws cs) first
   pub visits : r.visits ≡ visits total ws cs
 

@@ -83,11 +83,11 @@ module _ (ws qs rs list : List ℕ) (W first left low ties : ℕ) (good : Handab
         above-none true = refl
         above-none false = refl
 
-    marks-long : length ms ≡ length rs
-    marks-long = ap length is ∙ table-length (length rs) (marked rs s left)
+    marks_long : length ms ≡ length rs
+    marks_long = ap length is ∙ table-length (length rs) (marked rs s left)
 
     pub marks-liftable : Liftable ws qs ms list 0
-    marks-liftable = lifting ms 0 marks-long mark
+    marks-liftable = lifting ms 0 marks_long mark
 
     pub marks-all : (xs : List ℕ) → xs ≡ table (length ws) (lifted ws qs ms 0) → xs ≡ table (length ws) (raised ws qs rs list first left)
     marks-all = lifting-all ms 0 mark

@@ -68,7 +68,7 @@ reach-down rs j k h =
 pub record Halved (rs : List ℕ) (left lo hi few : ℕ) : Type 0 where
   pub apart : lo < hi
   pub enough : left ≤ reach rs lo
-  pub few-is : few ≡ reach rs hi
+  pub few_is : few ≡ reach rs hi
   pub short : few ≤ left
 
 module _ (rs : List ℕ) (W left : ℕ) where
@@ -78,7 +78,7 @@ module _ (rs : List ℕ) (W left : ℕ) where
       record {
         apart = omega (arith, s.under 0);
         enough = omega (arith, s.enough, count-all (length rs) (λ j. leb 0 (at rs j)) (λ j l. le-leb 0 (at rs j) (omega arith)));
-        few-is = sym (count_none (length rs) (λ j. leb W (at rs j)) (λ j l. lt-leb W (at rs j) (s.under j)));
+        few_is = sym (count_none (length rs) (λ j. leb W (at rs j)) (λ j l. lt-leb W (at rs j) (s.under j)));
         short = omega arith;
       }
 
@@ -91,15 +91,15 @@ module _ (rs : List ℕ) (left lo hi few mid count : ℕ) (h : Halved rs left lo
       }
 
   pub halved-low : mid < hi → left < count → Halved rs left mid hi few
-  halved-low l e = record { apart = l; enough = omega arith; few-is = h.few-is; short = h.short }
+  halved-low l e = record { apart = l; enough = omega arith; few_is = h.few_is; short = h.short }
 
   pub halved-high : lo < mid → count ≤ left → Halved rs left lo mid count
-  halved-high l e = record { apart = l; enough = h.enough; few-is = is; short = e }
+  halved-high l e = record { apart = l; enough = h.enough; few_is = is; short = e }
 
 pub line-last : (rs : List ℕ) (left lo hi few : ℕ) → Halved rs left lo hi few → hi - lo ≤ 1 → Served rs left lo (left - few)
 line-last rs left lo hi few h l =
     let e : hi ≡ lo + 1 = omega (arith, h.apart) in
-    record { is = rw (← e) (omega (arith, h.few-is, h.short)); most = h.enough }
+    record { is = rw (← e) (omega (arith, h.few_is, h.short)); most = h.enough }
 
 -- ---- to be served by the line
 
@@ -237,7 +237,7 @@ passed-next rs first k t i inside l e =
 pub record Handed (rs : List ℕ) (start left low t met : ℕ) (xs : List ℕ) : Type 0 where
   pub within : t ≤ length rs
   pub room : length xs ≡ length rs
-  pub met-is : met ≡ passed rs start low t
+  pub met_is : met ≡ passed rs start low t
   pub is : Below (length rs) (λ j. at xs j ≡ cond (ltb (turn (length rs) start j) t) (marked rs start left j) (at rs j))
 
 module _ (rs : List ℕ) (start left low ties : ℕ) (good : Turning rs start left low ties) where
@@ -247,7 +247,7 @@ module _ (rs : List ℕ) (start left low ties : ℕ) (good : Turning rs start le
       record {
         within = omega arith;
         room = refl;
-        met-is =
+        met_is =
             sym (count_none (length rs) (λ j. eqb (at rs j) low && ltb (turn (length rs) start j) 0)
             (λ j l. none (eqb (at rs j) low) (turn (length rs) start j)));
         is = λ j l. rw (le-ltb (turn (length rs) start j) 0 (omega arith));
@@ -259,7 +259,7 @@ module _ (rs : List ℕ) (start left low ties : ℕ) (good : Turning rs start le
 
   module _ (t met : ℕ) (xs : List ℕ) (h : Handed rs start left low t met xs) where
     pub met-fits : (b : Bool) → met + bool_byte b < 2 ^ 64
-    met-fits b = omega (arith, h.met-is, passed-le rs start low t, one-is b, bit_le b, good.short)
+    met-fits b = omega (arith, h.met_is, passed-le rs start low t, one-is b, bit_le b, good.short)
 
     pub handed-all : length rs ≤ t → xs ≡ table (length rs) (marked rs start left)
     handed-all m =
@@ -277,9 +277,9 @@ module _ (rs : List ℕ) (start left low ties : ℕ) (good : Turning rs start le
           record {
             within = omega (arith, turn-lt (length rs) start j (omega arith));
             room = length-set xs j (bool_byte b) ∙ h.room;
-            met-is =
+            met_is =
                 rw before-turn
-                (omega (arith, h.met-is, one-is (eqb (at rs j) low), passed-next rs start low t j good.inside l e));
+                (omega (arith, h.met_is, one-is (eqb (at rs j) low), passed-next rs start low t j good.inside l e));
             is = λ k m. each k m (test-or (eqb k j));
           }
         where
@@ -287,7 +287,7 @@ module _ (rs : List ℕ) (start left low ties : ℕ) (good : Turning rs start le
           due =
               unfold marked in
               (one-is b).0
-              ∙ ap bit (f ∙ (λ i. goes_before (before-turn i) ((h.met-is ∙ ap (passed rs start low) (sym e)) i) low ties)
+              ∙ ap bit (f ∙ (λ i. goes_before (before-turn i) ((h.met_is ∙ ap (passed rs start low) (sym e)) i) low ties)
               ∙ before-line rs start left low ties good.line j l)
 
           -- no other place has turn t

@@ -31,7 +31,7 @@ use Rattle.share.proofs.Long.{divided-fits, quota-is, rest-is}
 pub record Filled (a : ℕ) (ws list : List ℕ) (m : ℕ) (qs₀ qs rs : List ℕ) (remains j : ℕ) : Type 0 where
   pub within : j ≤ m
   pub quotas : Dealt (length ws) (weighs ws) (quota a ws) qs₀ qs j
-  pub rests-room : length rs ≡ m
+  pub rests_room : length rs ≡ m
   pub rests : Below j (λ k. at rs k ≡ listed_rest a ws list k)
   pub leaves : remains + sum_to j (listed_quota a ws list) ≡ a
 
@@ -49,30 +49,30 @@ module _ (a : ℕ) (ws qs₀ rs₀ list : List ℕ) (W : ℕ) (c : Quotable ws q
       record {
         within = omega arith;
         quotas = dealt-none (length ws) (weighs ws) (quota a ws) qs₀;
-        rests-room = refl;
+        rests_room = refl;
         rests = λ k l. absurd (omega arith);
         leaves = unfold sum_to in omega arith;
       }
 
   module _ (qs rs : List ℕ) (remains j : ℕ) (f : Filled a ws list (length rs₀) qs₀ qs rs remains j) where
     pub place_in : j < length rs → j < 256
-    place_in l = omega (arith, f.rests-room, c.listed.many, count-le (length ws) (weighs ws), c.short)
+    place_in l = omega (arith, f.rests_room, c.listed.many, count-le (length ws) (weighs ws), c.short)
 
     pub filled-end : length rs ≤ j → Quoted a ws list (length rs₀) qs rs remains
     filled-end l =
         record {
           quotas =
-              dealt-all (length ws) (weighs ws) (quota a ws) qs₀ qs j f.quotas (omega (arith, f.rests-room, c.listed.many)) c.room
+              dealt-all (length ws) (weighs ws) (quota a ws) qs₀ qs j f.quotas (omega (arith, f.rests_room, c.listed.many)) c.room
               (λ i q off. c.blank i ∙ sym (quota-off a ws i off));
-          rests = table_is 0 rs (length rs₀) (listed_rest a ws list) f.rests-room (λ k q. f.rests k (omega (arith, f.rests-room)));
+          rests = table_is 0 rs (length rs₀) (listed_rest a ws list) f.rests_room (λ k q. f.rests k (omega (arith, f.rests_room)));
           leaves =
-              let e : j ≡ length rs₀ = omega (arith, f.within, f.rests-room) in
+              let e : j ≡ length rs₀ = omega (arith, f.within, f.rests_room) in
               omega (arith, f.leaves, ap (λ (k : ℕ). sum_to k (listed_quota a ws list)) e, quotas-all, left_is a ws some);
         }
 
     module _ (l : j < length rs) (x : ℕ) (x-is : x ≡ at list j) where
       here : Found (length ws) (weighs ws) j x
-      here = rw x-is (found (length ws) (weighs ws) list (length rs₀) j c.listed (omega (arith, f.rests-room)))
+      here = rw x-is (found (length ws) (weighs ws) list (length rs₀) j c.listed (omega (arith, f.rests_room)))
 
       pub weight-in : x < length ws
       weight-in = here.inside
@@ -98,7 +98,7 @@ module _ (a : ℕ) (ws qs₀ rs₀ list : List ℕ) (W : ℕ) (c : Quotable ws q
               ap (quota a ws) x-is,
               f.leaves,
               sum-next j (listed_quota a ws list),
-              sum-shorter (j + 1) (length rs₀) (listed_quota a ws list) (omega (arith, f.rests-room)),
+              sum-shorter (j + 1) (length rs₀) (listed_quota a ws list) (omega (arith, f.rests_room)),
               quotas-all,
               quotas-le a ws some,
             )
@@ -107,10 +107,10 @@ module _ (a : ℕ) (ws qs₀ rs₀ list : List ℕ) (W : ℕ) (c : Quotable ws q
         unfolding listed_quota listed_rest
         filled_next =
             record {
-              within = omega (arith, f.rests-room);
+              within = omega (arith, f.rests_room);
               quotas =
                   dealt-next (length ws) (weighs ws) (quota a ws) qs₀ qs j f.quotas x d.quota here (omega (arith, c.room)) quota-now;
-              rests-room = length-set rs j d.rest ∙ f.rests-room;
+              rests_room = length-set rs j d.rest ∙ f.rests_room;
               rests =
                   fill-next 0 rs j d.rest (listed_rest a ws list) l
                   (unfold rest in rw (← x-is, ← c.is) (rest-is (a * at ws x) W d divided)) f.rests;

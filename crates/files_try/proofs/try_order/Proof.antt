@@ -8,73 +8,73 @@ stated-answer-requires : tie.Need-stated-answer-requires
 stated-answer-requires c κs = search rules
 
 expect-requires : tie.Need-expect-requires
-expect-requires c κs = stated-told _ _ _ _ _ _ _ order.mark-f c.stated-answer.ensures
+expect-requires c κs = stated-told _ _ _ _ _ _ _ order.mark_f c.stated-answer.ensures
 
 stated-answer-requires-2 : tie.Need-stated-answer-requires-2
 stated-answer-requires-2 c κs = search rules
 
 expect-requires-2 : tie.Need-expect-requires-2
-expect-requires-2 c κs = stated-told _ _ _ _ _ _ _ order.one-before-2 c.stated-answer2.ensures
+expect-requires-2 c κs = stated-told _ _ _ _ _ _ _ order.one_before_2 c.stated-answer2.ensures
 
 stated-answer-requires-3 : tie.Need-stated-answer-requires-3
 stated-answer-requires-3 c κs = search rules
 
 expect-requires-3 : tie.Need-expect-requires-3
-expect-requires-3 c κs = stated-told _ _ _ _ _ _ _ order.two-before-14 c.stated-answer3.ensures
+expect-requires-3 c κs = stated-told _ _ _ _ _ _ _ order.two_before_14 c.stated-answer3.ensures
 
 stated-answer-requires-4 : tie.Need-stated-answer-requires-4
 stated-answer-requires-4 c κs = search rules
 
 expect-requires-4 : tie.Need-expect-requires-4
-expect-requires-4 c κs = stated-told _ _ _ _ _ _ _ order.one-before-14 c.stated-answer4.ensures
+expect-requires-4 c κs = stated-told _ _ _ _ _ _ _ order.one_before_14 c.stated-answer4.ensures
 
 stated-answer-requires-5 : tie.Need-stated-answer-requires-5
 stated-answer-requires-5 c κs = search rules
 
 expect-requires-5 : tie.Need-expect-requires-5
-expect-requires-5 c κs = stated-told _ _ _ _ _ _ _ order.one-before-3 c.stated-answer5.ensures
+expect-requires-5 c κs = stated-told _ _ _ _ _ _ _ order.one_before_3 c.stated-answer5.ensures
 
 stated-answer-requires-6 : tie.Need-stated-answer-requires-6
 stated-answer-requires-6 c κs = search rules
 
 expect-requires-6 : tie.Need-expect-requires-6
-expect-requires-6 c κs = stated-told _ _ _ _ _ _ _ order.length-24 c.stated-answer6.ensures
+expect-requires-6 c κs = stated-told _ _ _ _ _ _ _ order.length_24 c.stated-answer6.ensures
 
 stated-answer-requires-7 : tie.Need-stated-answer-requires-7
 stated-answer-requires-7 c κs = search rules
 
 expect-requires-7 : tie.Need-expect-requires-7
-expect-requires-7 c κs = stated-told _ _ _ _ _ _ _ order.tariff-0 c.stated-answer7.ensures
+expect-requires-7 c κs = stated-told _ _ _ _ _ _ _ order.tariff_0 c.stated-answer7.ensures
 
 stated-answer-requires-8 : tie.Need-stated-answer-requires-8
 stated-answer-requires-8 c κs = search rules
 
 expect-requires-8 : tie.Need-expect-requires-8
-expect-requires-8 c κs = stated-told _ _ _ _ _ _ _ order.three-before-14 c.stated-answer8.ensures
+expect-requires-8 c κs = stated-told _ _ _ _ _ _ _ order.three_before_14 c.stated-answer8.ensures
 
 stated-answer-requires-9 : tie.Need-stated-answer-requires-9
 stated-answer-requires-9 c κs = search rules
 
 expect-requires-9 : tie.Need-expect-requires-9
-expect-requires-9 c κs = stated-told _ _ _ _ _ _ _ order.length-44 c.stated-answer9.ensures
+expect-requires-9 c κs = stated-told _ _ _ _ _ _ _ order.length_44 c.stated-answer9.ensures
 
 stated-answer-requires-10 : tie.Need-stated-answer-requires-10
 stated-answer-requires-10 c κs = search rules
 
 expect-requires-10 : tie.Need-expect-requires-10
-expect-requires-10 c κs = stated-told _ _ _ _ _ _ _ order.fourteen-before-4 c.stated-answer10.ensures
+expect-requires-10 c κs = stated-told _ _ _ _ _ _ _ order.fourteen_before_4 c.stated-answer10.ensures
 
 stated-answer-requires-11 : tie.Need-stated-answer-requires-11
 stated-answer-requires-11 c κs = search rules
 
 expect-requires-11 : tie.Need-expect-requires-11
-expect-requires-11 c κs = stated-told _ _ _ _ _ _ _ order.row-mark c.stated-answer11.ensures
+expect-requires-11 c κs = stated-told _ _ _ _ _ _ _ order.row_mark c.stated-answer11.ensures
 
 stated-answer-requires-12 : tie.Need-stated-answer-requires-12
 stated-answer-requires-12 c κs = search rules
 
 expect-requires-12 : tie.Need-expect-requires-12
-expect-requires-12 c κs = stated-told _ _ _ _ _ _ _ order.fourteen-before-5 c.stated-answer12.ensures
+expect-requires-12 c κs = stated-told _ _ _ _ _ _ _ order.fourteen_before_5 c.stated-answer12.ensures
 
 returns : tie.Need-returns
 returns c = search rules
