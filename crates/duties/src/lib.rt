@@ -1,5 +1,7 @@
 // The duties of a row under its terms (01, Calls and prices, Compensation, Weights and caps; 02, requests 4 and 9): the one room that
 // knows capacities, percentages, kinds, statuses and limits. What follows works on the columns of these figures.
+#![tactic(auto)]
+
 ghost use Rattle.std.specs.Prelude.{◌≡◌, ◌≤◌};
 ghost use Rattle.units.specs.Load.{load};
 ghost use Rattle.files.specs.Terms.{baseline};

@@ -1,0 +1,13 @@
+-- `duties::joined` meets its contract: a row counts if it is thermal.
+use Rattle.duties.proofs.Averages.{joined_of, joined-fits}
+use native.Mathlib.Omega.{arith}
+use Rattle.duties.proofs.average.joined.Goals as goal
+
+pub plus-energy-requires : goal.plus-energy-requires
+plus-energy-requires c = search joined-fits
+
+pub overflow_add-capacity : goal.overflow_add-capacity
+overflow_add-capacity c = search joined-fits
+
+pub returns : goal.returns
+returns c = search joined_of
