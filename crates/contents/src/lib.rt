@@ -1,5 +1,7 @@
 // Interval contents (01, The files): read from a file's bytes, and written to bytes in a lent buffer; or read and written again in one go,
 // with no contents held.
+#![tactic(auto)]
+
 use files::{Form, Head, Row, Verdict};
 
 mod reader;

@@ -1,5 +1,7 @@
 // Compensation (01, Compensation; Article 28): what the energy delivered in each tier comes to in fen. And penalty (02, request 4;
 // Article 52): what the energy called for and not delivered costs.
+#![tactic(auto)]
+
 ghost use Rattle.std.specs.Prelude.{◌≡◌, ◌+◌, ◌^◌, ◌<◌, ◌≤◌};
 ghost use Rattle.units.specs.Measure.{to_fen};
 ghost use Rattle.pay.specs.Pay.{tier_pay, compensation, tier_penalty, penalty};

@@ -1,6 +1,8 @@
 // Statements in bytes (01, The files; 02, requests 4, 6, 8 and 9): a head and a line for each row, each a record by its table of widths. A
 // head PS is that of a file that states no terms, a head PT has them too; lines are the same. A line is its list of fields, and a field of
 // all lines is a column.
+#![tactic(auto)]
+
 ghost use Rattle.std.specs.Prelude.{◌≡◌, ◌+◌, ◌≤◌, length};
 ghost use Rattle.records.specs.Buffer.{put};
 ghost use Rattle.files.specs.Form.{terms_size, stated_bytes};
