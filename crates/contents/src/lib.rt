@@ -13,7 +13,7 @@ pub use rewriter::rewrite;
 pub use writer::write;
 
 // What an interval file says: its form, its head and its rows. Past the head's count of rows there are zero rows.
-#[derive(Drop)]
+#[derive(Clone, Copy)]
 pub struct Contents {
     pub form: Form,
     pub head: Head,
@@ -21,7 +21,7 @@ pub struct Contents {
 }
 
 // The answer of a reader of contents: the file's verdict, and beside a refusal contents that are all zero.
-#[derive(Drop)]
+#[derive(Clone, Copy)]
 pub struct Reading {
     pub verdict: Verdict,
     pub contents: Contents,

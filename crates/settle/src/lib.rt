@@ -1,4 +1,6 @@
 // The engine: one quarter hour settled from an interval file and its correction (01, What the engine settles).
+#![tactic(auto)]
+
 mod market;
 mod pairs;
 mod payers;

@@ -1,0 +1,11 @@
+-- `contents::writer::rows_verdict` meets its contract: the rows passed have no fault, the last id is at hand.
+use Prim.Native.Nat.{◌-◌}
+use Rattle.contents.proofs.Walk.{Checked, check-start, check-next, check-stops, check-ends}
+use native.Mathlib.Omega.{arith}
+use Rattle.contents.proofs.writer.rows_verdict.Given as goal
+
+abbrev pub invariant-loop-i : goal.invariant-loop-i
+invariant-loop-i l = Checked l.contents l.last l.i
+
+abbrev pub decreases-loop-i : goal.decreases-loop-i
+decreases-loop-i l = l.count - l.i

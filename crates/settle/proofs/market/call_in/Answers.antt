@@ -1,0 +1,15 @@
+-- `settle::market::call_in` meets its contract: the calls replace the widths, and are all 0 where nothing is needed.
+use Rattle.settle.proofs.Tiers.{tier-unneeded, calls-lined, tier-called}
+use native.Mathlib.Omega.{arith}
+use Rattle.settle.proofs.market.call_in.Goals as goal
+
+pub returns-then-need-eq0 : goal.returns-then-need-eq0
+returns-then-need-eq0 c = search tier-unneeded
+
+pub put_column-requires-2 : goal.put_column-requires-2
+put_column-requires-2 c =
+    let asked = c.requires in
+    calls-lined _ _ _ _ asked.0 _ _ _ c.clear_in-cleared.ensures
+
+pub returns : goal.returns
+returns c = search tier-called

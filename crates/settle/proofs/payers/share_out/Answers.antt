@@ -1,0 +1,20 @@
+-- `settle::payers::share_out` meets its contract: it only lends columns, and where there is nothing to share it leaves all as it is.
+use Rattle.settle.proofs.Levying.{none-shared, front-shareable, share-front, share-there}
+use borrow.Author.Rules.{rules}
+use native.Mathlib.Omega.{arith}
+use Rattle.settle.proofs.payers.share_out.Goals as goal
+
+pub returns-then-what-eq0 : goal.returns-then-what-eq0
+returns-then-what-eq0 c = search none-shared
+
+pub slice_bounds-share_in-end : goal.slice_bounds-share_in-end
+slice_bounds-share_in-end c = search front-shareable
+
+pub slice_bounds-share_in-end-2 : goal.slice_bounds-share_in-end-2
+slice_bounds-share_in-end-2 c = search front-shareable
+
+pub share_in-requires : goal.share_in-requires
+share_in-requires c = (search share-front, search rules)
+
+pub returns : goal.returns
+returns c = search share-there

@@ -1,0 +1,21 @@
+-- `settle::rows::read_own_row` meets its contract: without a correction the row that counts is the interval's own.
+use Rattle.files.proofs.Laws.{no_source}
+use Rattle.settle.proofs.Reading.{reads-start, terms-low, row-ranged, row_inside, usual-read}
+use borrow.Author.Rules.{rules}
+use native.Mathlib.Omega.{arith}
+use Rattle.settle.proofs.rows.read_own_row.Goals as goal
+
+pub counting_row-row-requires : goal.counting_row-row-requires
+counting_row-row-requires c = record {
+  correction_value = (search rules, search reads-start);
+  i_lt_n = (search rules, search no_source);
+}
+
+pub usual_duty-d-requires : goal.usual_duty-d-requires
+usual_duty-d-requires c = (search row-ranged, search terms-low)
+
+pub put_duty-requires : goal.put_duty-requires
+put_duty-requires c = (search row_inside, search rules)
+
+pub returns : goal.returns
+returns c = search usual-read
