@@ -37,9 +37,9 @@ use Rattle.settle.specs.Settlement.{first_turn, compensations_of, penalties_of, 
 use Rattle.settle.specs.Statement.{statement_head, statement_bytes}
 use Rattle.settle.specs.Answer.{average_in, duties_in, figures_of, top_of, line_in, statement_of, settle_order, answer_of, buffer_after}
 use Rattle.demands.specs.Requests.{file_of, settled_three, told, stated_file, ruled, settled_none, settled_reduced, visited, rungs, climbed, settled_low, request_table}
-use Rattle.demands.specs.Table.{interval_x, settled_x, Entry, entry, figures_table, same, all_right-holds}
+use Rattle.demands.specs.Table.{interval_x, settled_x, Entry, entry, figures_table, same, all_right}
 
-all_right-holds : (all_right-holds figures_table && all_right-holds request_table) ≡ true
+all_right-holds : (all_right figures_table && all_right request_table) ≡ true
 unfolding sum_to count_to sum_where max_to max_where find_to whole table number_at number_bytes fields_bytes fields_at record_at record_bytes records_bytes put column_of
     quota rest turn before rank left share shares
     first_refusal row_by_row previous head_at row_at correction_head_at head_tests head_ok terms_tests terms_ok status_ok idle_tests not_offering offer_tests offering row_tests row_ok
@@ -48,7 +48,7 @@ unfolding sum_to count_to sum_where max_to max_where find_to whole table number_
     opens closes closed next run opening final visits_from visits open_weights paid payments shortfall cuts returned first_turn compensations_of penalties_of levied figures
     top_bytes has_terms head_in terms_in body_in statement_head statement_bytes
     average_in duties_in figures_of top_of line_in statement_of settle_order answer_of buffer_after
-    interval_x settled_x figures_table file_of settled_three told stated_file ruled settled_none settled_reduced visited rungs climbed settled_low request_table same all_right-holds
+    interval_x settled_x figures_table file_of settled_three told stated_file ruled settled_none settled_reduced visited rungs climbed settled_low request_table same all_right
 all_right-holds = refl
 
 same-is : (xs ys : List ℕ) → same xs ys ≡ true → xs ≡ ys
@@ -59,15 +59,15 @@ same-is (x ∷ xs) [] e = absurd (subst T (sym e) tt)
 same-is (x ∷ xs) (y ∷ ys) e =
     ap₂ ◌∷◌ (eqb-true x y (left-true (eqb x y) (same xs ys) e)) (same-is xs ys (right-true (eqb x y) (same xs ys) e))
 
-right-at : (es : List Entry) → all_right-holds es ≡ true → (k : ℕ) → k < length es → (get_or es k (entry [] [])).worked ≡ (get_or es k (entry [] [])).paper
-unfolding all_right-holds
+right-at : (es : List Entry) → all_right es ≡ true → (k : ℕ) → k < length es → (get_or es k (entry [] [])).worked ≡ (get_or es k (entry [] [])).paper
+unfolding all_right
 right-at [] e k l = absurd (not-suc-le-zero l)
-right-at (x ∷ es) e zero l = same-is x.worked x.paper (left-true (same x.worked x.paper) (all_right-holds es) e)
+right-at (x ∷ es) e zero l = same-is x.worked x.paper (left-true (same x.worked x.paper) (all_right es) e)
 right-at (x ∷ es) e (suc k) l =
-    right-at es (right-true (same x.worked x.paper) (all_right-holds es) e) k (le_of_suc-le-suc l)
+    right-at es (right-true (same x.worked x.paper) (all_right es) e) k (le_of_suc-le-suc l)
 
 pub worked-figures : (k : ℕ) → k < length figures_table → (get_or figures_table k (entry [] [])).worked ≡ (get_or figures_table k (entry [] [])).paper
-worked-figures = right-at figures_table (left-true (all_right-holds figures_table) (all_right-holds request_table) all_right-holds)
+worked-figures = right-at figures_table (left-true (all_right figures_table) (all_right request_table) all_right-holds)
 
 pub request-figures : (k : ℕ) → k < length request_table → (get_or request_table k (entry [] [])).worked ≡ (get_or request_table k (entry [] [])).paper
-request-figures = right-at request_table (right-true (all_right-holds figures_table) (all_right-holds request_table) all_right-holds)
+request-figures = right-at request_table (right-true (all_right figures_table) (all_right request_table) all_right-holds)
