@@ -1,6 +1,8 @@
 // The library for C and Rust: the engine's three public parts on numbers and byte slices. A slice is a pointer and a length.
 // Every answer is one word: number × 2^32 + value. Number 0 is success, and the value counts bytes; any other number is a
 // refusal, and the value is its place (01, Numbers of refusal).
+#![tactic(auto)]
+
 ghost use Rattle.std.specs.Prelude.{◌≡◌, length};
 ghost use Rattle.settle.specs.Answer.{buffer_after};
 ghost use Rattle.contents.specs.Content.{rewritten_buffer};
