@@ -1,6 +1,8 @@
 // Reader and writer of contents, run from compiled code (01, The files; Numbers of refusal; 02, request 6): interval X, without and with
 // stated terms, read and written again, and changed so that each of the writer's refusals is due. `rewrite`, which holds no contents, is
 // tried by the library's tests.
+#![tactic(auto)]
+
 ghost use Rattle.std.specs.Prelude.{◌<◌, ◌≤◌, length};
 
 use contents::{Contents, Written};

@@ -1,6 +1,8 @@
 // Worked figures of duties and compensation (01, Checked figures: P6, P10, P11, paid energies, the rows of interval X), run from code;
 // those that look at the baseline also under stated terms (02, request 6), and those of a quarter that the thermal average rules
 // (02, request 9).
+#![tactic(auto)]
+
 ghost use Rattle.std.specs.Prelude.{◌^◌, ◌≤◌};
 ghost use Rattle.units.specs.Load.{load};
 ghost use Rattle.duties.specs.Ranged.{Ranged};

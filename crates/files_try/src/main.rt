@@ -1,5 +1,7 @@
 // Figures that are run (01, Checked figures): capacity 2,000 and 2,001; tier 1 bids 99, 100, 320, 321. Then files that state their terms
 // (02, request 6): each end of the terms' ranges, the order of the checks around 14, the ranges of a row that follow the terms.
+#![tactic(auto)]
+
 ghost use Rattle.std.specs.Prelude.{◌≡◌, ◌<◌, ◌≤◌};
 ghost use Rattle.files.specs.Order.{number_of};
 ghost use Rattle.files_try.specs.Tried.{tried, answer_of, stated, stated_answer};

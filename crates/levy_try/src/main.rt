@@ -1,5 +1,7 @@
 // The rounds of P1 to P5 (01, Checked figures: interval X at five tariffs) and a case of four rounds, run on columns. Weights and caps are
 // written as numbers; rounds, visits, shortfall and payments are proved and printed. P6 to P11 are no matter of rounds and stand elsewhere.
+#![tactic(auto)]
+
 ghost use Rattle.std.specs.Prelude.{◌≡◌, ◌++◌, ◌≤◌, take, drop, replicate};
 ghost use Rattle.levy_try.specs.Shown.{Case, Worked, outcome, paid_in};
 

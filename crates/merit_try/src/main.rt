@@ -1,4 +1,6 @@
 // Worked figures of the merit order, run from code and printed.
+#![tactic(auto)]
+
 ghost use Rattle.std.specs.Prelude.{◌≡◌, ◌≤◌};
 
 use columns::wide;

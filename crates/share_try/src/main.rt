@@ -1,4 +1,6 @@
 // Worked figures of the sharing rule (01, Checked figures, P7 and P8), run from code, proved and printed.
+#![tactic(auto)]
+
 ghost use Rattle.std.specs.Prelude.{◌≡◌};
 ghost use Rattle.share.specs.Share.{shares};
 ghost use Rattle.share.specs.Split.{Splittable};

@@ -1,5 +1,7 @@
 // What the program `tell` does (01, Checked figures): an interval file from standard input, its statement or its refusal as
 // text on standard output. The engine does the work; this reads, makes the whole text in one buffer and writes it.
+#![tactic(auto)]
+
 ghost use Rattle.std.specs.Prelude.{◌≡◌, true, [], ◌∷◌, ◌++◌, ◌+◌, ◌*◌, ◌≤◌, ◌<◌, length};
 ghost use Rattle.records.specs.Record.{record_size, record_at, narrow};
 ghost use Rattle.statement.specs.Statement.{line_start};
