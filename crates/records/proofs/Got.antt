@@ -1,11 +1,10 @@
 -- The loop that reads a record's fields: those before field i stand in `fields`, and field i begins at `end`.
 --   got-none, -next, -all, -fits   its start, a turn, its end
 --   got-room, width_narrow         what a turn asks of the reader of numbers
-use mathlib.Core.Path.{◌≡◌, refl, sym, ◌∙◌}
+use mathlib.Core.Path.{◌≡◌, sym, ◌∙◌}
 use mathlib.Core.Bool.{true}
 use mathlib.Core.List.{List, [], ◌∷◌}
 use Prim.Native.Nat.{ℕ, zero, suc, ◌+◌, ◌^◌, ◌≤◌, ◌<◌}
-use native.Mathlib.Nat.{le_of_suc-le-suc}
 use native.Mathlib.Numerals.{add-one}
 use native.Mathlib.Omega.{arith}
 use lib.Dec.{leb}

@@ -11,8 +11,6 @@ use native.Mathlib.Nat.{lt_of_mul-lt-mul_left, mul-le-mul, mul-lt-mul_of_pos_rig
 use native.Mathlib.Nat.{div-le_self, div-eq_of_lt, div-div-eq-div-mul, div-one, div-mul-le_self, div-add-mod}
 use native.Mathlib.Nat.{mod-lt, mul-add-div, mul-add-mod_self_left, mod-eq_of_lt}
 use native.Mathlib.Omega.{arith}
-use Rattle.columns.specs.Table.{at}
-use Rattle.share.specs.Share.{quota, rest}
 use Rattle.share.specs.declared.Division.{Division}
 use Rattle.share.specs.Steps.{Divided, Carries, Digits, Divisible}
 

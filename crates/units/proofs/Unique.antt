@@ -1,6 +1,6 @@
 -- Two results that one contract allows are equal, for each public function: theorems of the contract itself (`Learnt`).
 use Prim.Native.Nat.{ℕ}
-use mathlib.Core.Path.{◌≡◌, ap, sym, ◌∙◌}
+use mathlib.Core.Path.{ap, sym, ◌∙◌}
 use Rattle.columns.proofs.Unique.{OneResult}
 use Rattle.units.proofs.load.Reads as load
 use Rattle.units.proofs.most.Reads as most

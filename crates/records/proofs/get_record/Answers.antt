@@ -1,8 +1,5 @@
 -- `records::get_record` meets its contract: the fields before field i are read.
-use Prim.Native.Nat.{◌-◌}
-use lib.ListN.{length}
-use Rattle.records.proofs.Got.{Got, width_narrow, got-none, got-room, got-next, got-all, got-fits}
-use native.Mathlib.Omega.{arith}
+use Rattle.records.proofs.Got.{width_narrow, got-none, got-room, got-next, got-all, got-fits}
 use Rattle.records.proofs.get_record.Goals as goal
 
 pub loop-i-init : goal.loop-i-init

@@ -1,8 +1,7 @@
 -- `records::number_at` meets its contract: four bytes or two as they are; of any other width the loop has read the bytes above i.
 use Prim.Native.Nat.{◌<◌, ◌^◌}
-use Rattle.records.proofs.Reading.{Read, read_none, read-room, read_next, read_all}
+use Rattle.records.proofs.Reading.{read_none, read-room, read_next, read_all}
 use borrow.Author.Rules.{rules}
-use native.Mathlib.Omega.{arith}
 use Rattle.records.proofs.number_at.Goals as goal
 
 pub returns-then-width-eq4 : goal.returns-then-width-eq4

@@ -1,8 +1,5 @@
 -- `records::number_at` meets its contract: four bytes or two as they are; of any other width the loop has read the bytes above i.
-use Prim.Native.Nat.{◌<◌, ◌^◌}
-use Rattle.records.proofs.Reading.{Read, read_none, read-room, read_next, read_all}
-use borrow.Author.Rules.{rules}
-use native.Mathlib.Omega.{arith}
+use Rattle.records.proofs.Reading.{Read}
 use Rattle.records.proofs.number_at.Given as goal
 
 abbrev pub invariant-loop-i : goal.invariant-loop-i

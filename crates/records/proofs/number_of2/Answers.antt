@@ -1,7 +1,6 @@
 -- `records::number_of2` meets its contract: two bytes, each by its place.
 use Rattle.records.proofs.Reading.{number-of2}
 use borrow.Author.Rules.{rules}
-use native.Mathlib.Omega.{arith}
 use Rattle.records.proofs.number_of2.Goals as goal
 
 pub returns : goal.returns

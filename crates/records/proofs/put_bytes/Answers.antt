@@ -1,9 +1,6 @@
 -- `records::put_bytes` meets its contract: so far the first i elements of the source are put.
-use mathlib.Core.Path.{◌≡◌}
-use Prim.Native.Nat.{◌-◌, ◌≤◌}
 use native.Mathlib.Omega.{arith}
-use lib.ListN.{length, take, length-set}
-use Rattle.records.specs.Buffer.{put}
+use lib.ListN.{length-set}
 use Rattle.records.proofs.Buffer.{copy-none, copy_more, copy-all}
 use borrow.Author.Rules.{rules}
 use Rattle.records.proofs.put_bytes.Goals as goal

@@ -1,11 +1,8 @@
 -- `records::put_bytes` meets its contract: so far the first i elements of the source are put.
 use mathlib.Core.Path.{◌≡◌}
 use Prim.Native.Nat.{◌-◌, ◌≤◌}
-use native.Mathlib.Omega.{arith}
-use lib.ListN.{length, take, length-set}
+use lib.ListN.{length, take}
 use Rattle.records.specs.Buffer.{put}
-use Rattle.records.proofs.Buffer.{copy-none, copy_more, copy-all}
-use borrow.Author.Rules.{rules}
 use Rattle.records.proofs.put_bytes.Given as goal
 
 abbrev pub invariant-loop-i : goal.invariant-loop-i

@@ -1,9 +1,6 @@
 -- `records::put_fields` meets its contract: the fields from i on are still owed, from `end` on.
-use Prim.Native.Nat.{◌-◌}
-use lib.ListN.{length}
-use Rattle.records.proofs.Fields.{Owed, owed_none, owed-room, owed-next, owed_all}
+use Rattle.records.proofs.Fields.{owed_none, owed-room, owed-next, owed_all}
 use borrow.Author.Rules.{rules}
-use native.Mathlib.Omega.{arith}
 use Rattle.records.proofs.put_fields.Goals as goal
 
 pub loop-i-init : goal.loop-i-init

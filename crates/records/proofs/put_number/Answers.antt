@@ -1,10 +1,6 @@
 -- `records::put_number` meets its contract: the bytes from i on are still owed.
-use mathlib.Core.Path.{◌≡◌}
-use Prim.Native.Nat.{◌+◌, ◌-◌, ◌≤◌}
 use native.Mathlib.Omega.{arith}
-use lib.ListN.{length, length-set}
-use Rattle.records.specs.Number.{number_bytes}
-use Rattle.records.specs.Buffer.{put}
+use lib.ListN.{length-set}
 use Rattle.records.proofs.Fields.{number-none, number_more, number-all}
 use borrow.Author.Rules.{rules}
 use Rattle.records.proofs.put_number.Goals as goal

@@ -1,7 +1,6 @@
 -- `share::at_turn` meets its contract: turns go on from `first` and, past the column's end, from its front.
 use Rattle.share.proofs.Serving.{turned_on, turned_round}
 use borrow.Author.Rules.{rules}
-use native.Mathlib.Omega.{arith}
 use Rattle.share.proofs.at_turn.Goals as goal
 
 pub returns-then-n-i : goal.returns-then-n-i

@@ -1,6 +1,5 @@
 -- `share::carry` meets its contract: a remainder that reaches the sum becomes one of the quota.
 use Rattle.share.proofs.Long.{carry-sum, carry-more, carry_over}
-use native.Mathlib.Omega.{arith}
 use Rattle.share.proofs.carry.Goals as goal
 
 pub overflow_add-result : goal.overflow_add-result

@@ -1,7 +1,5 @@
 -- `share::divide_long` meets its contract: before digit k the amount without its last k digits is divided.
-use Prim.Native.Nat.{◌≤◌, ◌*◌, ◌/◌, ◌^◌}
 use native.Mathlib.Omega.{arith}
-use Rattle.share.specs.Steps.{Divided}
 use Rattle.share.proofs.Long.{long-holds, long-ready, long-again, long-end}
 use borrow.Author.Rules.{rules}
 use Rattle.share.proofs.divide_long.Goals as goal

@@ -1,6 +1,5 @@
 -- `share::divide_plain` meets its contract: quotient and remainder of the product.
 use Rattle.share.proofs.Long.{divided-plain}
-use native.Mathlib.Omega.{arith}
 use Rattle.share.proofs.divide_plain.Goals as goal
 
 pub returns : goal.returns

@@ -1,6 +1,5 @@
 -- `share::hand_out` meets its contract: where nobody at the line is served, those above it are all; else all that were marked in turn.
 use Rattle.share.proofs.Lifting.{liftable, lifted-all, marks-liftable, marks-all}
-use native.Mathlib.Omega.{arith}
 use Rattle.share.proofs.hand_out.Goals as goal
 
 pub serve_above-requires : goal.serve_above-requires

@@ -1,7 +1,5 @@
 -- `share::line_of` meets its contract: enough remainders reach lo, too few reach hi, until the two are neighbours.
-use Prim.Native.Nat.{◌-◌}
-use Rattle.share.proofs.Serving.{Halved, halved_none, halved-low, halved-high, line-exact, line-last}
-use native.Mathlib.Omega.{arith}
+use Rattle.share.proofs.Serving.{halved_none, halved-low, halved-high, line-exact, line-last}
 use Rattle.share.proofs.line_of.Goals as goal
 
 pub loop-hi-init : goal.loop-hi-init

@@ -1,7 +1,6 @@
 -- `share::line_of` meets its contract: enough remainders reach lo, too few reach hi, until the two are neighbours.
 use Prim.Native.Nat.{◌-◌}
-use Rattle.share.proofs.Serving.{Halved, halved_none, halved-low, halved-high, line-exact, line-last}
-use native.Mathlib.Omega.{arith}
+use Rattle.share.proofs.Serving.{Halved}
 use Rattle.share.proofs.line_of.Given as goal
 
 abbrev pub invariant-loop-hi : goal.invariant-loop-hi

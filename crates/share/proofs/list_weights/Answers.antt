@@ -1,9 +1,6 @@
 -- `share::list_weights` meets its contract: of the positions passed those of weight stand in the list.
-use Prim.Native.Nat.{◌-◌}
-use lib.ListN.{length}
-use Rattle.columns.proofs.Listed.{Listing, listing_none, listing-room, listing-fits, listing-next, listing-end}
+use Rattle.columns.proofs.Listed.{listing_none, listing-room, listing-fits, listing-next, listing-end}
 use Rattle.share.specs.Steps.{weighs}
-use native.Mathlib.Omega.{arith}
 use Rattle.share.proofs.list_weights.Goals as goal
 
 pub loop-i-init : goal.loop-i-init

@@ -1,9 +1,8 @@
 -- `share::list_weights` meets its contract: of the positions passed those of weight stand in the list.
 use Prim.Native.Nat.{◌-◌}
 use lib.ListN.{length}
-use Rattle.columns.proofs.Listed.{Listing, listing_none, listing-room, listing-fits, listing-next, listing-end}
+use Rattle.columns.proofs.Listed.{Listing}
 use Rattle.share.specs.Steps.{weighs}
-use native.Mathlib.Omega.{arith}
 use Rattle.share.proofs.list_weights.Given as goal
 
 abbrev pub invariant-loop-i : goal.invariant-loop-i

@@ -1,8 +1,7 @@
 -- `share::mark_in_turn` meets its contract: whoever has had its turn is marked.
 use Prim.Native.Nat.{◌-◌}
 use lib.ListN.{length}
-use Rattle.share.proofs.Serving.{Handed, handed-none, met-fits, handed-next, handed-all}
-use native.Mathlib.Omega.{arith}
+use Rattle.share.proofs.Serving.{Handed}
 use Rattle.share.proofs.mark_in_turn.Given as goal
 
 abbrev pub invariant-loop-t : goal.invariant-loop-t

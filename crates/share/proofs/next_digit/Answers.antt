@@ -1,6 +1,5 @@
 -- `share::next_digit` meets its contract: twice what was divided so far, and the weight if the digit is 1.
 use Rattle.share.proofs.Long.{twice-fits, digit-0, digit-1-ready, digit-1}
-use native.Mathlib.Omega.{arith}
 use Rattle.share.proofs.next_digit.Goals as goal
 
 pub overflow_mul-d : goal.overflow_mul-d

@@ -1,8 +1,5 @@
 -- `share::quotas_of` meets its contract: quotas and remainders are filled up to place j of the list.
-use Prim.Native.Nat.{◌-◌}
-use lib.ListN.{length}
-use Rattle.share.proofs.Steps.{Filled, filled_none, place_in, weight-in, quota-in, leaves-more, filled_next, filled-end, divisible, plain_known}
-use native.Mathlib.Omega.{arith}
+use Rattle.share.proofs.Steps.{filled_none, place_in, weight-in, quota-in, leaves-more, filled_next, filled-end, divisible, plain_known}
 use Rattle.share.proofs.quotas_of.Goals as goal
 
 pub loop-j-init : goal.loop-j-init

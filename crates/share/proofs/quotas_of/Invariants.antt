@@ -1,8 +1,7 @@
 -- `share::quotas_of` meets its contract: quotas and remainders are filled up to place j of the list.
 use Prim.Native.Nat.{◌-◌}
 use lib.ListN.{length}
-use Rattle.share.proofs.Steps.{Filled, filled_none, place_in, weight-in, quota-in, leaves-more, filled_next, filled-end, divisible, plain_known}
-use native.Mathlib.Omega.{arith}
+use Rattle.share.proofs.Steps.{Filled}
 use Rattle.share.proofs.quotas_of.Given as goal
 
 abbrev pub invariant-loop-j : goal.invariant-loop-j

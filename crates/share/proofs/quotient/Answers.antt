@@ -1,7 +1,6 @@
 -- `share::quotient` meets its contract: both ways give the same.
 use Rattle.share.proofs.Steps.{plainly}
 use borrow.Author.Rules.{rules}
-use native.Mathlib.Omega.{arith}
 use Rattle.share.proofs.quotient.Goals as goal
 
 pub divide_plain-requires : goal.divide_plain-requires

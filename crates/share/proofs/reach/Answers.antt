@@ -1,10 +1,5 @@
 -- `share::reach` meets its contract: the loop's count is that of the positions passed.
-use Prim.Native.Nat.{◌≤◌, ◌-◌}
-use mathlib.Core.Path.{◌≡◌}
-use lib.Dec.{leb}
-use lib.ListN.{length}
 use Rattle.columns.specs.Sum.{sum_to, count_to}
-use Rattle.columns.specs.Table.{at}
 use Rattle.share.proofs.Serving.{reach-next, reach-fits, reach-end}
 use Rattle.std.proofs.lemmas.Grind.{common_steps}
 use borrow.Author.Rules.{rules}

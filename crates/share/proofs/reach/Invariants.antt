@@ -3,12 +3,8 @@ use Prim.Native.Nat.{◌≤◌, ◌-◌}
 use mathlib.Core.Path.{◌≡◌}
 use lib.Dec.{leb}
 use lib.ListN.{length}
-use Rattle.columns.specs.Sum.{sum_to, count_to}
+use Rattle.columns.specs.Sum.{count_to}
 use Rattle.columns.specs.Table.{at}
-use Rattle.share.proofs.Serving.{reach-next, reach-fits, reach-end}
-use Rattle.std.proofs.lemmas.Grind.{common_steps}
-use borrow.Author.Rules.{rules}
-use native.Mathlib.Omega.{arith}
 use Rattle.share.proofs.reach.Given as goal
 
 abbrev pub invariant-loop-i : goal.invariant-loop-i

@@ -1,10 +1,5 @@
 -- `share::serve_above` meets its contract: up to place j of the list everybody has what is due.
-use Prim.Native.Nat.{◌-◌}
-use lib.ListN.{length}
-use Rattle.columns.proofs.Listed.{Dealt}
-use Rattle.share.specs.Steps.{weighs, lifted}
 use Rattle.share.proofs.Lifting.{lifted-none, lifted-place, lifted-in, lifted-fits, lifted-next, lifted-end}
-use native.Mathlib.Omega.{arith}
 use Rattle.share.proofs.serve_above.Goals as goal
 
 pub loop-j-init : goal.loop-j-init

@@ -3,8 +3,6 @@ use Prim.Native.Nat.{◌-◌}
 use lib.ListN.{length}
 use Rattle.columns.proofs.Listed.{Dealt}
 use Rattle.share.specs.Steps.{weighs, lifted}
-use Rattle.share.proofs.Lifting.{lifted-none, lifted-place, lifted-in, lifted-fits, lifted-next, lifted-end}
-use native.Mathlib.Omega.{arith}
 use Rattle.share.proofs.serve_above.Given as goal
 
 abbrev pub invariant-loop-j : goal.invariant-loop-j

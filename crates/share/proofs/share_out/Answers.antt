@@ -1,6 +1,5 @@
 -- `share::share_out` meets its contract: where the quotas leave nothing they are the shares.
 use Rattle.share.proofs.Handing.{none_left, handable, handed}
-use native.Mathlib.Omega.{arith}
 use Rattle.share.proofs.share_out.Goals as goal
 
 pub returns-then-left-eq0 : goal.returns-then-left-eq0

@@ -1,7 +1,6 @@
 -- `share::split` meets its contract: without an amount or a weight everybody gets 0, else there is room for the remainders of the list.
 use Rattle.share.proofs.Handing.{no-amount, no-weight, listed-few, listed-front, quotable}
 use borrow.Author.Rules.{rules}
-use native.Mathlib.Omega.{arith}
 use Rattle.share.proofs.split.Goals as goal
 
 pub returns-then-amount-eq0 : goal.returns-then-amount-eq0

@@ -1,10 +1,6 @@
 -- `share::start_of` meets its contract: the loop's count is that of the places passed.
-use Prim.Native.Nat.{◌≤◌, ◌-◌}
-use mathlib.Core.Path.{◌≡◌}
-use Rattle.share.specs.Steps.{start_in}
 use Rattle.share.proofs.Serving.{start_none, start-next, start-end}
 use borrow.Author.Rules.{rules}
-use native.Mathlib.Omega.{arith}
 use Rattle.share.proofs.start_of.Goals as goal
 
 pub loop-j-init : goal.loop-j-init

@@ -2,9 +2,6 @@
 use Prim.Native.Nat.{◌≤◌, ◌-◌}
 use mathlib.Core.Path.{◌≡◌}
 use Rattle.share.specs.Steps.{start_in}
-use Rattle.share.proofs.Serving.{start_none, start-next, start-end}
-use borrow.Author.Rules.{rules}
-use native.Mathlib.Omega.{arith}
 use Rattle.share.proofs.start_of.Given as goal
 
 abbrev pub invariant-loop-j : goal.invariant-loop-j

@@ -1,8 +1,5 @@
 -- `share::whole_of` meets its contract: the loop's sum is the sum of the positions passed, and it is at most the whole.
-use Prim.Native.Nat.{◌≤◌, ◌-◌}
-use mathlib.Core.Path.{◌≡◌}
 use native.Mathlib.Omega.{arith}
-use lib.ListN.{length}
 use Rattle.columns.specs.Sum.{sum_to}
 use Rattle.columns.specs.Table.{at}
 use Rattle.columns.proofs.Sum.{sum-next}

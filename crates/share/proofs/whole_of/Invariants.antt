@@ -1,13 +1,9 @@
 -- `share::whole_of` meets its contract: the loop's sum is the sum of the positions passed, and it is at most the whole.
 use Prim.Native.Nat.{◌≤◌, ◌-◌}
 use mathlib.Core.Path.{◌≡◌}
-use native.Mathlib.Omega.{arith}
 use lib.ListN.{length}
 use Rattle.columns.specs.Sum.{sum_to}
 use Rattle.columns.specs.Table.{at}
-use Rattle.columns.proofs.Sum.{sum-next}
-use Rattle.share.proofs.Steps.{sum_fits, sum-end}
-use Rattle.std.proofs.lemmas.Grind.{common_steps}
 use Rattle.share.proofs.whole_of.Given as goal
 
 abbrev pub invariant-loop-i : goal.invariant-loop-i

@@ -1,9 +1,6 @@
 -- `share::zero` meets its contract: the positions passed are 0.
-use Prim.Native.Nat.{◌-◌}
-use lib.ListN.{length}
-use Rattle.columns.proofs.Fill.{Reached, reached-none, reached-next, reached-all}
+use Rattle.columns.proofs.Fill.{reached-none, reached-next, reached-all}
 use Rattle.share.specs.Steps.{nothing}
-use native.Mathlib.Omega.{arith}
 use Rattle.share.proofs.zero.Goals as goal
 
 pub loop-i-init : goal.loop-i-init

@@ -1,9 +1,8 @@
 -- `share::zero` meets its contract: the positions passed are 0.
 use Prim.Native.Nat.{◌-◌}
 use lib.ListN.{length}
-use Rattle.columns.proofs.Fill.{Reached, reached-none, reached-next, reached-all}
+use Rattle.columns.proofs.Fill.{Reached}
 use Rattle.share.specs.Steps.{nothing}
-use native.Mathlib.Omega.{arith}
 use Rattle.share.proofs.zero.Given as goal
 
 abbrev pub invariant-loop-i : goal.invariant-loop-i

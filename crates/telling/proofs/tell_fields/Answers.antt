@@ -21,7 +21,7 @@ loop-i-preserved c =
     let p = c.requires in
     let call = c.tell_number-at in (
       omega arith,
-      call.auto.0 ∙ l.invariant.1,
+      call.auto.text ∙ l.invariant.1,
       fields-more _ _ _ _ _ _ _ _ _ c.loop-i-test.true p.0 p.1 l.invariant.2
           c.end_of.ensures call.ensures,
     )

@@ -5,7 +5,10 @@ use native.Mathlib.Omega.{arith}
 use Rattle.telling.proofs.tell_head.Goals as goal
 
 pub tell_record-requires : goal.tell_record-requires
-tell_record-requires c = ((search head-room, search rules, search rules), search rules)
+tell_record-requires c = record {
+  widths_in_bounds = (search head-room, search rules, search rules);
+  line_most_in_bounds = search rules;
+}
 
 pub returns-then-marked : goal.returns-then-marked
 returns-then-marked c = search head-stated

@@ -9,4 +9,4 @@ pub slice_bounds-tell_read-end : goal.slice_bounds-tell_read-end
 slice_bounds-tell_read-end c = search front_long
 
 pub tell_read-requires : goal.tell_read-requires
-tell_read-requires c = (search rules, (search fields_lent, search rules))
+tell_read-requires c = record { widths_in_bounds = search rules; fields_len = (search fields_lent, search rules) }

@@ -1,11 +1,7 @@
 -- `records::get_column` meets its contract: the cells before record i stand in the column.
-use Prim.Native.Nat.{◌-◌, ◌<◌, ◌^◌}
-use lib.ListN.{length}
-use Rattle.columns.proofs.Fill.{Reached, reached-none, reached-next}
-use Rattle.records.specs.Sheet.{cell}
+use Rattle.columns.proofs.Fill.{reached-none, reached-next}
 use Rattle.records.proofs.Column.{cell-narrow, read-room, read_all}
 use borrow.Author.Rules.{rules}
-use native.Mathlib.Omega.{arith}
 use Rattle.records.proofs.cells.get_column.Goals as goal
 
 pub loop-i-init : goal.loop-i-init

@@ -1,8 +1,5 @@
 -- `records::put_column` meets its contract: the cells before record i hold the column's numbers.
-use Prim.Native.Nat.{◌-◌}
-use lib.ListN.{length}
-use Rattle.records.proofs.Column.{Filled, filled_none, filled-room, filled_next, filled-all}
-use native.Mathlib.Omega.{arith}
+use Rattle.records.proofs.Column.{filled_none, filled-room, filled_next, filled-all}
 use Rattle.records.proofs.cells.put_column.Goals as goal
 
 pub loop-i-init : goal.loop-i-init

@@ -1,8 +1,7 @@
 -- `records::put_column` meets its contract: the cells before record i hold the column's numbers.
 use Prim.Native.Nat.{◌-◌}
 use lib.ListN.{length}
-use Rattle.records.proofs.Column.{Filled, filled_none, filled-room, filled_next, filled-all}
-use native.Mathlib.Omega.{arith}
+use Rattle.records.proofs.Column.{Filled}
 use Rattle.records.proofs.cells.put_column.Given as goal
 
 abbrev pub invariant-loop-i : goal.invariant-loop-i

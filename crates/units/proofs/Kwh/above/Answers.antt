@@ -1,6 +1,5 @@
 -- `units::Kwh::above` meets its contract: nothing wraps, and the quotient is 1 or 0.
 use Rattle.units.proofs.Chosen.{excess, excess-32, excess-64}
-use native.Mathlib.Omega.{arith}
 use Rattle.units.proofs.Kwh.above.Goals as goal
 
 pub overflow_mul-result : goal.overflow_mul-result

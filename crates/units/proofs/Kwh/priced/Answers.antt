@@ -2,7 +2,6 @@
 use Prim.Native.Nat.{◌^◌}
 use Rattle.columns.proofs.Product.{product}
 use borrow.Author.Rules.{rules}
-use native.Mathlib.Omega.{arith}
 use Rattle.units.proofs.Kwh.priced.Goals as goal
 
 pub overflow_mul-result : goal.overflow_mul-result
