@@ -40,7 +40,7 @@ use Rattle.files.specs.Layout.{head_at, row_count, correction_count}
 use Rattle.files.specs.Form.{terms_of, rows_from, row_start}
 use Rattle.files.specs.Range.{row_ok}
 use Rattle.files.specs.Walk.{own_id, has_id, find_id, in_interval, in_correction, Rows, Own}
-use Rattle.files.specs.Order.{alike, corrects, verdict, verdict_of}
+use Rattle.files.specs.Order.{alike, corrects, verdict_of}
 use Rattle.files.specs.Counting.{part, named, counting_bytes, source_of, counting_row}
 use Rattle.files.specs.declared.Row.{Row}
 use Rattle.files.specs.declared.Verdict.TheVariants.{Accepted, Refused}

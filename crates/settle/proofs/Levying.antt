@@ -14,7 +14,6 @@ use native.Mathlib.Numerals.{add-one}
 use native.Mathlib.Omega.{arith}
 use lib.ListN.{length, take, drop, length-append, length-drop}
 use lib.Seq.{length-take-le, take_at}
-use Rattle.columns.specs.Table.{at}
 use Rattle.columns.proofs.Table.{table-length}
 use Rattle.records.specs.declared.Field.{Field}
 use Rattle.records.specs.Sheet.{Lined, cell, column_of, with_column}

@@ -10,7 +10,6 @@ use mathlib.Core.List.{List, []}
 use native.Mathlib.Omega.{arith}
 use lib.ListN.{length}
 use Rattle.columns.specs.Sum.{bit, whole}
-use Rattle.columns.specs.Table.{at}
 use Rattle.columns.proofs.Table.{table_at}
 use Rattle.records.proofs.Sheet.{sheet-same}
 use Rattle.units.specs.declared.Fen.{Fen}

@@ -13,7 +13,6 @@ use native.Mathlib.Omega.{arith}
 use lib.ListN.{length, take}
 use lib.Seq.{length-take-le}
 use Rattle.columns.specs.Sum.{whole}
-use Rattle.columns.specs.Table.{at}
 use Rattle.columns.proofs.Table.{table-length}
 use Rattle.records.specs.Sheet.{Lined, cell, column_of, with_column}
 use Rattle.records.specs.declared.Field.{Field}

@@ -1,7 +1,6 @@
 -- `abi::wheatrudder_rewrite` meets its contract, for bytes written and for a refusal.
 use Rattle.abi.proofs.Told.{bytes-packs, unwritten-packs, bytes-told, unwritten-told}
 use borrow.Author.Rules.{rules}
-use native.Mathlib.Omega.{arith}
 use Rattle.abi.proofs.wheatrudder_rewrite.Goals as goal
 
 ruleset fitting = (bytes-packs, unwritten-packs, rules)

@@ -1,7 +1,6 @@
 -- `abi::wheatrudder_row` meets its contract, for a buffer that is too short and for one with room.
 use Rattle.abi.proofs.Told.{part-packs, short-told, short-buffer, copied-told, copied-made}
 use borrow.Author.Rules.{rules}
-use native.Mathlib.Omega.{arith}
 use Rattle.abi.proofs.wheatrudder_row.Goals as goal
 
 ruleset fitting = (part-packs, rules)

@@ -1,7 +1,6 @@
 -- `abi::wheatrudder_settle` meets its contract, for a statement and for a refusal.
 use Rattle.abi.proofs.Told.{settled-packs, refused-packs, settled-told, refused-told}
 use borrow.Author.Rules.{rules}
-use native.Mathlib.Omega.{arith}
 use Rattle.abi.proofs.wheatrudder_settle.Goals as goal
 
 ruleset fitting = (settled-packs, refused-packs, rules)

@@ -1,7 +1,6 @@
 -- `duties::average_duty` meets its contract: the average is the base.
 use Rattle.duties.proofs.Averages.{by-loads, low_load}
 use borrow.Author.Rules.{rules}
-use native.Mathlib.Omega.{arith}
 use Rattle.duties.proofs.average_duty.Goals as goal
 
 pub duty_of-requires : goal.duty_of-requires

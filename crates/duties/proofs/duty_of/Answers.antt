@@ -1,6 +1,5 @@
 -- `duties::duty_of` meets its contract: every part has its own.
 use Rattle.duties.proofs.Parts.{duty-of}
-use native.Mathlib.Omega.{arith}
 use Rattle.duties.proofs.duty_of.Goals as goal
 
 pub returns : goal.returns

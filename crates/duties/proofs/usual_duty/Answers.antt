@@ -2,7 +2,6 @@
 use Rattle.duties.proofs.Averages.{by-loads}
 use Rattle.duties.proofs.Parts.{low-base}
 use borrow.Author.Rules.{rules}
-use native.Mathlib.Omega.{arith}
 use Rattle.duties.proofs.usual_duty.Goals as goal
 
 pub duty_of-requires : goal.duty_of-requires

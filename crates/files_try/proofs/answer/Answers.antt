@@ -1,6 +1,5 @@
 -- `files_try::answer` meets its contract.
 use Rattle.files_try.specs.Tried.{answer_of}
-use native.Mathlib.Omega.{arith}
 use Rattle.files_try.proofs.answer.Goals as goal
 
 pub returns : goal.returns

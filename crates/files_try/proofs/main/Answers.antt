@@ -1,6 +1,5 @@
 -- `files_try::main` meets its contract.
 use Rattle.files_try.proofs.Figures.{figures, told}
-use native.Mathlib.Omega.{arith}
 use Rattle.files_try.proofs.main.Goals as goal
 
 pub expect-requires : goal.expect-requires

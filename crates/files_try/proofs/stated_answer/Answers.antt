@@ -4,7 +4,6 @@ use lib.Seq.{length-take-le}
 use lib.ListN.{length-set}
 use Rattle.files_try.proofs.Figures.{stated-number}
 use borrow.Author.Rules.{rules}
-use native.Mathlib.Omega.{arith}
 use Rattle.files_try.proofs.stated_answer.Goals as goal
 
 pub slice_bounds-file-end : goal.slice_bounds-file-end

@@ -1,6 +1,5 @@
 -- `files_try::try_order` meets its contract.
 use Rattle.files_try.proofs.Figures.{order, stated-told}
-use native.Mathlib.Omega.{arith}
 use Rattle.files_try.proofs.try_order.Goals as goal
 
 pub expect-requires : goal.expect-requires

@@ -1,6 +1,5 @@
 -- `files_try::try_rows` meets its contract.
 use Rattle.files_try.proofs.Figures.{rows, stated-told}
-use native.Mathlib.Omega.{arith}
 use Rattle.files_try.proofs.try_rows.Goals as goal
 
 pub expect-requires : goal.expect-requires

@@ -1,6 +1,5 @@
 -- `files_try::try_terms` meets its contract.
 use Rattle.files_try.proofs.Figures.{terms, stated-told}
-use native.Mathlib.Omega.{arith}
 use Rattle.files_try.proofs.try_terms.Goals as goal
 
 pub expect-requires : goal.expect-requires

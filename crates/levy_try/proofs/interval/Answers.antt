@@ -1,6 +1,5 @@
 -- `levy_try::interval` meets its contract: its figures are those that were asked for.
 use Rattle.levy_try.proofs.Cases.{got-at, paid-at, fit-x}
-use native.Mathlib.Omega.{arith}
 use Rattle.levy_try.proofs.interval.Goals as goal
 
 pub shown-told-requires : goal.shown-told-requires

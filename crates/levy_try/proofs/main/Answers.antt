@@ -1,6 +1,5 @@
 -- `levy_try::main` meets its contract: what is asked of each call is the figure of 01.
 use Rattle.levy_try.proofs.Cases.{p1-to-p5}
-use native.Mathlib.Omega.{arith}
 use Rattle.levy_try.proofs.main.Goals as goal
 
 pub interval-requires : goal.interval-requires

@@ -2,7 +2,6 @@
 use mathlib.Core.Path.{refl}
 use mathlib.Core.List.{[], ◌∷◌}
 use Rattle.levy_try.proofs.Cases.{got-at, paid-at, low-at, ready, four, four-paid}
-use native.Mathlib.Omega.{arith}
 use Rattle.levy_try.proofs.many.Goals as goal
 
 pub shown-told-requires : goal.shown-told-requires

@@ -1,6 +1,5 @@
 -- `levy_try::show_line` meets its contract.
 use Prim.Native.Nat.{◌-◌, ◌≤◌}
-use native.Mathlib.Omega.{arith}
 use Rattle.levy_try.proofs.show_line.Given as goal
 
 abbrev pub invariant-loop-i : goal.invariant-loop-i

@@ -1,6 +1,5 @@
 -- `levy_try::shown` meets its contract.
 use Rattle.levy_try.proofs.Cases.{fit, pay-asked, told, made}
-use native.Mathlib.Omega.{arith}
 use Rattle.levy_try.proofs.shown.Goals as goal
 
 pub rounds-rest-requires : goal.rounds-rest-requires

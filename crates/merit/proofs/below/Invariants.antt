@@ -2,8 +2,7 @@
 use Prim.Native.Nat.{◌-◌}
 use lib.ListN.{length}
 use Rattle.merit.specs.OneTier.{under}
-use Rattle.merit.proofs.Steps.{Summed, summed-none, summed-next, below-told}
-use native.Mathlib.Omega.{arith}
+use Rattle.merit.proofs.Steps.{Summed}
 use Rattle.merit.proofs.below.Given as goal
 
 abbrev pub invariant-loop-i : goal.invariant-loop-i

@@ -1,9 +1,5 @@
 -- `merit::call_below` meets its contract: the positions passed are written, and the sum is theirs.
-use Prim.Native.Nat.{◌-◌}
-use lib.ListN.{length}
-use Rattle.merit.specs.OneTier.{under}
-use Rattle.merit.proofs.Steps.{Grouped, grouped-none, grouped-next, cheap-told, cheap-sum}
-use native.Mathlib.Omega.{arith}
+use Rattle.merit.proofs.Steps.{grouped-none, grouped-next, cheap-told, cheap-sum}
 use Rattle.merit.proofs.call_below.Goals as goal
 
 pub loop-i-init : goal.loop-i-init

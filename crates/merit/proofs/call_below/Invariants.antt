@@ -2,8 +2,7 @@
 use Prim.Native.Nat.{◌-◌}
 use lib.ListN.{length}
 use Rattle.merit.specs.OneTier.{under}
-use Rattle.merit.proofs.Steps.{Grouped, grouped-none, grouped-next, cheap-told, cheap-sum}
-use native.Mathlib.Omega.{arith}
+use Rattle.merit.proofs.Steps.{Grouped}
 use Rattle.merit.proofs.call_below.Given as goal
 
 abbrev pub invariant-loop-i : goal.invariant-loop-i

@@ -1,11 +1,8 @@
 -- `merit::call_one` meets its contract: the bands passed are called for all that is left.
 use Prim.Native.Nat.{◌-◌, ◌≤◌}
 use lib.ListN.{length}
-use Rattle.columns.proofs.Fill.{Reached, reached-none}
+use Rattle.columns.proofs.Fill.{Reached}
 use Rattle.merit.specs.Walk.{alone}
-use Rattle.merit.proofs.Steps.{alone-next, alone-all}
-use borrow.Author.Rules.{rules}
-use native.Mathlib.Omega.{arith}
 use Rattle.merit.proofs.call_one.Given as goal
 
 abbrev pub invariant-loop-i : goal.invariant-loop-i

@@ -1,11 +1,7 @@
 -- `merit::copy` meets its contract: the positions passed are copied.
-use Prim.Native.Nat.{◌-◌, ◌≤◌}
-use lib.ListN.{length}
-use Rattle.columns.specs.Table.{at}
-use Rattle.columns.proofs.Fill.{Reached, reached-none}
+use Rattle.columns.proofs.Fill.{reached-none}
 use Rattle.merit.proofs.Steps.{copied_next, copied_all}
 use borrow.Author.Rules.{rules}
-use native.Mathlib.Omega.{arith}
 use Rattle.merit.proofs.copy.Goals as goal
 
 pub loop-i-init : goal.loop-i-init

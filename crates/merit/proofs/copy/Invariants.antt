@@ -2,10 +2,7 @@
 use Prim.Native.Nat.{◌-◌, ◌≤◌}
 use lib.ListN.{length}
 use Rattle.columns.specs.Table.{at}
-use Rattle.columns.proofs.Fill.{Reached, reached-none}
-use Rattle.merit.proofs.Steps.{copied_next, copied_all}
-use borrow.Author.Rules.{rules}
-use native.Mathlib.Omega.{arith}
+use Rattle.columns.proofs.Fill.{Reached}
 use Rattle.merit.proofs.copy.Given as goal
 
 abbrev pub invariant-loop-i : goal.invariant-loop-i

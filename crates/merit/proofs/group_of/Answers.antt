@@ -1,9 +1,5 @@
 -- `merit::group_of` meets its contract: the positions passed are written, and sum and number are theirs.
-use Prim.Native.Nat.{◌-◌}
-use lib.ListN.{length}
-use Rattle.merit.specs.OneTier.{equal}
-use Rattle.merit.proofs.Steps.{Banded, banded-none, banded-next, banded-fits, banded-counts, group-told}
-use native.Mathlib.Omega.{arith}
+use Rattle.merit.proofs.Steps.{banded-none, banded-next, banded-fits, banded-counts, group-told}
 use Rattle.merit.proofs.group_of.Goals as goal
 
 pub loop-i-init : goal.loop-i-init

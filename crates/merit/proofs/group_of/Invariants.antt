@@ -2,8 +2,7 @@
 use Prim.Native.Nat.{◌-◌}
 use lib.ListN.{length}
 use Rattle.merit.specs.OneTier.{equal}
-use Rattle.merit.proofs.Steps.{Banded, banded-none, banded-next, banded-fits, banded-counts, group-told}
-use native.Mathlib.Omega.{arith}
+use Rattle.merit.proofs.Steps.{Banded}
 use Rattle.merit.proofs.group_of.Given as goal
 
 abbrev pub invariant-loop-i : goal.invariant-loop-i

@@ -1,7 +1,5 @@
 -- `merit::margin` meets its contract: lower bids than lo do not pass the need and lower ones than hi do, until the two are neighbours.
-use Prim.Native.Nat.{◌-◌}
-use Rattle.merit.proofs.Steps.{Bracket, bracket-none, bracket-low, bracket-high, margin-past, margin-last}
-use native.Mathlib.Omega.{arith}
+use Rattle.merit.proofs.Steps.{bracket-none, bracket-low, bracket-high, margin-past, margin-last}
 use Rattle.merit.proofs.margin.Goals as goal
 
 pub returns-then-below-need : goal.returns-then-below-need

@@ -1,6 +1,5 @@
 -- `merit::member` meets its contract: a width, if the bid is k.
 use Rattle.merit.proofs.Steps.{member_is, width_small}
-use native.Mathlib.Omega.{arith}
 use Rattle.merit.proofs.member.Goals as goal
 
 pub returns : goal.returns

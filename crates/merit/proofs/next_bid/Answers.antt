@@ -1,9 +1,5 @@
 -- `merit::next_bid` meets its contract: the lowest so far is that of the positions passed.
-use Prim.Native.Nat.{◌-◌, ◌≤◌}
-use mathlib.Core.Path.{◌≡◌}
 use native.Mathlib.Omega.{arith}
-use lib.ListN.{length}
-use Rattle.merit.specs.Walk.{next_in}
 use Rattle.merit.proofs.Next.{next-none, next_more, next-all}
 use Rattle.merit.proofs.next_bid.Goals as goal
 

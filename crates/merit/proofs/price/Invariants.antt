@@ -1,9 +1,8 @@
 -- `merit::price` meets its contract: the top is the highest bid of those that deliver among the positions passed.
 use Prim.Native.Nat.{◌-◌, ◌≤◌}
 use mathlib.Core.Path.{◌≡◌}
-use native.Mathlib.Omega.{arith}
 use lib.ListN.{length}
-use Rattle.merit.proofs.Steps.{highest, highest-none, highest-more, highest-all}
+use Rattle.merit.proofs.Steps.{highest}
 use Rattle.merit.proofs.price.Given as goal
 
 abbrev pub invariant-loop-i : goal.invariant-loop-i

@@ -1,6 +1,5 @@
 -- `merit::share_group` meets its contract: a group within what is left is called in full, one band alone for what is left, any other shares it.
 use Rattle.merit.proofs.Steps.{called-in-full, called-alone, called-in-part}
-use native.Mathlib.Omega.{arith}
 use Rattle.merit.proofs.share_group.Goals as goal
 
 pub returns-then-all-left : goal.returns-then-all-left

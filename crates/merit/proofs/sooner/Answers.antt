@@ -1,6 +1,5 @@
 -- `merit::sooner` meets its contract: one of the two bids, by the definition's own test.
 use Rattle.merit.proofs.Next.{sooner-early, sooner-it, sooner-not}
-use native.Mathlib.Omega.{arith}
 use Rattle.merit.proofs.sooner.Goals as goal
 
 pub returns-then-bid-after : goal.returns-then-bid-after

@@ -1,14 +1,8 @@
 -- `merit::walk` meets its contract: what was called so far is what the definition calls below this bid.
-use Prim.Native.Nat.{◌+◌, ◌-◌}
-use mathlib.Core.Path.{◌≡◌}
-use lib.ListN.{length}
-use Rattle.merit.specs.OneTier.{below}
-use Rattle.merit.specs.Walk.{past}
 use Rattle.merit.proofs.Next.{next-less}
-use Rattle.merit.proofs.Walking.{Walked, walked-first, walked-room, walked-calls, walked_next}
-use Rattle.merit.proofs.Walking.{Turned, turned-first, turned-calls, turned-next, turn-fits, callable, ended-met, ended-past}
+use Rattle.merit.proofs.Walking.{walked-first, walked-room, walked-calls, walked_next}
+use Rattle.merit.proofs.Walking.{turned-first, turned-calls, turned-next, turn-fits, callable, ended-met, ended-past}
 use borrow.Author.Rules.{rules}
-use native.Mathlib.Omega.{arith}
 use Rattle.merit.proofs.walk.Goals as goal
 
 pub walk-init : goal.walk-init

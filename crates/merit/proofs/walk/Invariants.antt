@@ -4,11 +4,8 @@ use mathlib.Core.Path.{◌≡◌}
 use lib.ListN.{length}
 use Rattle.merit.specs.OneTier.{below}
 use Rattle.merit.specs.Walk.{past}
-use Rattle.merit.proofs.Next.{next-less}
-use Rattle.merit.proofs.Walking.{Walked, walked-first, walked-room, walked-calls, walked_next}
-use Rattle.merit.proofs.Walking.{Turned, turned-first, turned-calls, turned-next, turn-fits, callable, ended-met, ended-past}
-use borrow.Author.Rules.{rules}
-use native.Mathlib.Omega.{arith}
+use Rattle.merit.proofs.Walking.{Walked}
+use Rattle.merit.proofs.Walking.{Turned}
 use Rattle.merit.proofs.walk.Given as goal
 
 abbrev pub invariant-loop-i : goal.invariant-loop-i

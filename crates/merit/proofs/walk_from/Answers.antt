@@ -1,7 +1,6 @@
 -- `merit::walk_from` meets its contract: it only lends room for the bands of one bid and their parts.
 use Rattle.merit.proofs.Steps.{front, front-room}
 use borrow.Author.Rules.{rules}
-use native.Mathlib.Omega.{arith}
 use Rattle.merit.proofs.walk_from.Goals as goal
 
 pub slice_bounds-walk-end : goal.slice_bounds-walk-end

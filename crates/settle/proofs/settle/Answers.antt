@@ -1,6 +1,5 @@
 -- `settle::settle` meets its contract: a refused pair keeps the buffer, an accepted one is for `settle_rows`.
 use Rattle.settle.proofs.Answered.{told, refusal-told, refusal-left}
-use native.Mathlib.Omega.{arith}
 use Rattle.settle.proofs.settle.Goals as goal
 
 pub settle_rows-requires : goal.settle_rows-requires

@@ -1,6 +1,5 @@
 -- `settle::settle_rows` meets its contract: too short a buffer gets 11 and is kept, any other holds the statement.
 use Rattle.settle.proofs.Answered.{few-rows, head-there, form-there, short-told, short-left, written-told, written-left}
-use native.Mathlib.Omega.{arith}
 use Rattle.settle.proofs.settle_rows.Goals as goal
 
 pub form_of-form-requires : goal.form_of-form-requires

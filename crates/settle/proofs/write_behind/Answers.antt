@@ -1,6 +1,5 @@
 -- `settle::write_behind` meets its contract.
 use Rattle.settle.proofs.Answered.{behind}
-use native.Mathlib.Omega.{arith}
 use Rattle.settle.proofs.write_behind.Goals as goal
 
 pub returns : goal.returns

@@ -1,6 +1,5 @@
 -- `settle::write_statement` meets its contract.
 use Rattle.settle.proofs.Answered.{head-over}
-use native.Mathlib.Omega.{arith}
 use Rattle.settle.proofs.write_statement.Goals as goal
 
 pub returns : goal.returns

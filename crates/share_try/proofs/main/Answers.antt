@@ -1,7 +1,6 @@
 -- `share_try::main` meets its contract: each check is read off the figure of its case.
 use Rattle.share.proofs.Figures.{p7, p8, second-first, wide, wide-tie, no-weight}
 use Rattle.share_try.proofs.Cases.{ready, got}
-use native.Mathlib.Omega.{arith}
 use Rattle.share_try.proofs.main.Goals as goal
 
 pub shown-p7-requires : goal.shown-p7-requires

@@ -1,6 +1,5 @@
 -- `statement::front_fields` meets its contract: the fields that it is handed, in order.
 use mathlib.Core.Path.{refl}
-use native.Mathlib.Omega.{arith}
 use Rattle.statement.proofs.front_fields.Goals as goal
 
 pub returns : goal.returns

@@ -1,7 +1,6 @@
 -- `statement::head_in` meets its contract: the front by its table, the tail by its own.
 use Rattle.statement.proofs.Topped.{tail-room, head-told}
 use borrow.Author.Rules.{rules}
-use native.Mathlib.Omega.{arith}
 use Rattle.statement.proofs.head_in.Goals as goal
 
 pub get_record-requires-2 : goal.get_record-requires-2

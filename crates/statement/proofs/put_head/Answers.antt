@@ -1,7 +1,6 @@
 -- `statement::put_head` meets its contract.
 use Rattle.statement.proofs.Topped.{parts-put}
 use Rattle.records.specs.Buffer.{put}
-use native.Mathlib.Omega.{arith}
 use Rattle.statement.proofs.put_head.Goals as goal
 
 pub returns : goal.returns

@@ -1,7 +1,6 @@
 -- `statement::put_terms` meets its contract.
 use Rattle.statement.proofs.Topped.{terms-room, terms-put, terms-none}
 use borrow.Author.Rules.{rules}
-use native.Mathlib.Omega.{arith}
 use Rattle.statement.proofs.put_terms.Goals as goal
 
 pub put_fields-requires : goal.put_fields-requires

@@ -1,6 +1,5 @@
 -- `telling::end_of` meets its contract.
 use borrow.Author.Tests.{eq-eqb, ne_eqb}
-use native.Mathlib.Omega.{arith}
 use Rattle.telling.proofs.end_of.Goals as goal
 
 pub returns-then-i-n : goal.returns-then-i-n

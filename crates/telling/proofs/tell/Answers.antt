@@ -1,7 +1,4 @@
 -- `telling::tell` meets its contract.
-use mathlib.Core.Path.{sym}
-use native.Mathlib.Omega.{arith}
-use lib.Seq.{length-take-le}
 use Rattle.telling.proofs.Texts.{placed-front}
 use Rattle.telling.proofs.tell.Goals as goal
 

@@ -1,9 +1,6 @@
 -- `telling::tell_fields` meets its contract.
-use mathlib.Core.Path.{◌≡◌, refl, ◌∙◌}
-use Prim.Native.Nat.{◌*◌, ◌-◌, ◌≤◌}
-use lib.ListN.{length}
+use mathlib.Core.Path.{refl, ◌∙◌}
 use native.Mathlib.Omega.{arith}
-use Rattle.telling.specs.Text.{text_to, number_most, Placed}
 use Rattle.telling.proofs.Spelled.{no_fields, fields-more, fields-all}
 use Rattle.telling.proofs.tell_fields.Goals as goal
 

@@ -1,10 +1,8 @@
 -- `telling::tell_fields` meets its contract.
-use mathlib.Core.Path.{◌≡◌, refl, ◌∙◌}
+use mathlib.Core.Path.{◌≡◌}
 use Prim.Native.Nat.{◌*◌, ◌-◌, ◌≤◌}
 use lib.ListN.{length}
-use native.Mathlib.Omega.{arith}
 use Rattle.telling.specs.Text.{text_to, number_most, Placed}
-use Rattle.telling.proofs.Spelled.{no_fields, fields-more, fields-all}
 use Rattle.telling.proofs.tell_fields.Given as goal
 
 abbrev pub invariant-loop-i : goal.invariant-loop-i

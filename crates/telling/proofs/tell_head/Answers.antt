@@ -1,7 +1,6 @@
 -- `telling::tell_head` meets its contract.
 use Rattle.telling.proofs.Printed.{head-stated, head_plain, head-room}
 use borrow.Author.Rules.{rules}
-use native.Mathlib.Omega.{arith}
 use Rattle.telling.proofs.tell_head.Goals as goal
 
 pub tell_record-requires : goal.tell_record-requires

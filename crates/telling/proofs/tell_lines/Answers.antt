@@ -1,11 +1,6 @@
 -- `telling::tell_lines` meets its contract.
-use mathlib.Core.Path.{◌≡◌}
-use Prim.Native.Nat.{◌*◌, ◌-◌, ◌≤◌}
-use lib.ListN.{length}
-use Rattle.telling.specs.Text.{lines_to, line_most, Placed}
 use Rattle.telling.proofs.Printed.{no_lines, lines_more, lines-all}
 use borrow.Author.Rules.{rules}
-use native.Mathlib.Omega.{arith}
 use Rattle.telling.proofs.tell_lines.Goals as goal
 
 pub loop-i-init : goal.loop-i-init

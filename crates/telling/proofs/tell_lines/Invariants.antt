@@ -3,9 +3,6 @@ use mathlib.Core.Path.{◌≡◌}
 use Prim.Native.Nat.{◌*◌, ◌-◌, ◌≤◌}
 use lib.ListN.{length}
 use Rattle.telling.specs.Text.{lines_to, line_most, Placed}
-use Rattle.telling.proofs.Printed.{no_lines, lines_more, lines-all}
-use borrow.Author.Rules.{rules}
-use native.Mathlib.Omega.{arith}
 use Rattle.telling.proofs.tell_lines.Given as goal
 
 abbrev pub invariant-loop-i : goal.invariant-loop-i

@@ -1,6 +1,5 @@
 -- `telling::tell_read` meets its contract.
 use Rattle.telling.proofs.Printed.{record-placed}
-use native.Mathlib.Omega.{arith}
 use Rattle.telling.proofs.tell_read.Goals as goal
 
 pub returns : goal.returns

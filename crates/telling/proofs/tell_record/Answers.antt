@@ -2,7 +2,6 @@
 use Rattle.columns.proofs.Table.{front_long}
 use Rattle.telling.proofs.Printed.{fields_lent}
 use borrow.Author.Rules.{rules}
-use native.Mathlib.Omega.{arith}
 use Rattle.telling.proofs.tell_record.Goals as goal
 
 pub slice_bounds-tell_read-end : goal.slice_bounds-tell_read-end

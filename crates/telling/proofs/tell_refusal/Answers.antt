@@ -1,6 +1,5 @@
 -- `telling::tell_refusal` meets its contract.
 use Rattle.telling.proofs.Printed.{refusal-placed}
-use native.Mathlib.Omega.{arith}
 use Rattle.telling.proofs.tell_refusal.Goals as goal
 
 pub returns : goal.returns

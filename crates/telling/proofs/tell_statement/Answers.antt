@@ -1,7 +1,6 @@
 -- `telling::tell_statement` meets its contract.
 use Rattle.telling.proofs.Printed.{part-long, part-lines, part-few, statement-placed}
 use borrow.Author.Rules.{rules}
-use native.Mathlib.Omega.{arith}
 use Rattle.telling.proofs.tell_statement.Goals as goal
 
 pub overflow_sub-body : goal.overflow_sub-body

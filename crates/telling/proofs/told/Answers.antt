@@ -1,5 +1,5 @@
 -- `telling::told` meets its contract: where the answer is a settlement, the buffer holds what the engine wrote.
-use Rattle.std.proofs.Common.{◌≤◌, length, rules, sym, arith}
+use Rattle.std.proofs.Common.{rules, sym, arith}
 use lib.Seq.{length-take-le}
 use Rattle.telling.proofs.Size.{settled-size}
 use Rattle.telling.proofs.Printed.{settled-told, settled-placed, refused-placed}

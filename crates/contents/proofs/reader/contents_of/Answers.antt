@@ -1,8 +1,6 @@
 -- `contents::reader::contents_of` meets its contract: the rows passed are the file's, zero rows follow.
-use Prim.Native.Nat.{◌-◌}
-use Rattle.contents.proofs.Walk.{Filled, fill_start, fill-next, fill-ends}
+use Rattle.contents.proofs.Walk.{fill_start, fill-next, fill-ends}
 use Rattle.contents.proofs.Answered.{read_head, read_whole}
-use native.Mathlib.Omega.{arith}
 use Rattle.contents.proofs.reader.contents_of.Goals as goal
 
 pub form_of-form-requires : goal.form_of-form-requires

@@ -1,6 +1,5 @@
 -- `contents::read` meets its contract, for a refusal and for an acceptance.
 use Rattle.contents.proofs.Answered.{read-few, read-long, read-refused, read_done}
-use native.Mathlib.Omega.{arith}
 use Rattle.contents.proofs.reader.read.Goals as goal
 
 pub contents_of-requires : goal.contents_of-requires

@@ -1,6 +1,5 @@
 -- `contents::reader::zero_contents` meets its contract.
 use Rattle.contents.specs.Content.{zero_contents}
-use native.Mathlib.Omega.{arith}
 use Rattle.contents.proofs.reader.zero_contents.Goals as goal
 
 pub returns : goal.returns

@@ -1,6 +1,5 @@
 -- `contents::reader::zero_rows` meets its contract.
 use Rattle.columns.specs.Table.{table}
-use native.Mathlib.Omega.{arith}
 use Rattle.contents.proofs.reader.zero_rows.Goals as goal
 
 pub returns : goal.returns

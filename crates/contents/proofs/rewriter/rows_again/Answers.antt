@@ -1,11 +1,8 @@
 -- `contents::rewriter::rows_again` meets its contract: the rows passed stand in the buffer, nothing else has changed.
-use Prim.Native.Nat.{◌-◌}
 use mathlib.Core.Path.{refl}
-use Rattle.contents.specs.Content.{fields_from}
-use Rattle.contents.proofs.Walk.{Placed, place-start}
+use Rattle.contents.proofs.Walk.{place-start}
 use Rattle.contents.proofs.Again.{again-next, again-rows}
 use borrow.Author.Rules.{rules}
-use native.Mathlib.Omega.{arith}
 use Rattle.contents.proofs.rewriter.rows_again.Goals as goal
 
 pub loop-i-init : goal.loop-i-init

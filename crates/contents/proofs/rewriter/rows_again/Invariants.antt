@@ -1,11 +1,7 @@
 -- `contents::rewriter::rows_again` meets its contract: the rows passed stand in the buffer, nothing else has changed.
 use Prim.Native.Nat.{◌-◌}
-use mathlib.Core.Path.{refl}
 use Rattle.contents.specs.Content.{fields_from}
-use Rattle.contents.proofs.Walk.{Placed, place-start}
-use Rattle.contents.proofs.Again.{again-next, again-rows}
-use borrow.Author.Rules.{rules}
-use native.Mathlib.Omega.{arith}
+use Rattle.contents.proofs.Walk.{Placed}
 use Rattle.contents.proofs.rewriter.rows_again.Given as goal
 
 abbrev pub invariant-loop-i : goal.invariant-loop-i

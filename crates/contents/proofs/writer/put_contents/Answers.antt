@@ -1,6 +1,5 @@
 -- `contents::writer::put_contents` meets its contract: the rows, then the head in front of them.
 use Rattle.contents.proofs.Answered.{rows-then-head}
-use native.Mathlib.Omega.{arith}
 use Rattle.contents.proofs.writer.put_contents.Goals as goal
 
 pub returns : goal.returns

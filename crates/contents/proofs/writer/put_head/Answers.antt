@@ -1,7 +1,6 @@
 -- `contents::writer::put_head` meets its contract: the head's fields by their table, and those of the terms that it states.
 use Rattle.contents.proofs.Headed.{stated-room, plain-room, head-stated, head_plain}
 use borrow.Author.Rules.{rules}
-use native.Mathlib.Omega.{arith}
 use Rattle.contents.proofs.writer.put_head.Goals as goal
 
 pub put_record-requires : goal.put_record-requires

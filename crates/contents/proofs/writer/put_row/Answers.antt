@@ -1,5 +1,4 @@
 -- `contents::writer::put_row` meets its contract: the row's fields by its table.
-use native.Mathlib.Omega.{arith}
 use Rattle.contents.proofs.writer.put_row.Goals as goal
 
 pub returns : goal.returns

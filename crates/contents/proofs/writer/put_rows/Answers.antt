@@ -1,9 +1,6 @@
 -- `contents::writer::put_rows` meets its contract: the rows passed stand in the buffer, nothing else has changed.
-use Prim.Native.Nat.{◌-◌}
 use mathlib.Core.Path.{refl}
-use Rattle.contents.specs.Content.{fields_in}
-use Rattle.contents.proofs.Walk.{Placed, place-start, held_next, held-ends}
-use native.Mathlib.Omega.{arith}
+use Rattle.contents.proofs.Walk.{place-start, held_next, held-ends}
 use Rattle.contents.proofs.writer.put_rows.Goals as goal
 
 pub loop-i-init : goal.loop-i-init

@@ -1,9 +1,7 @@
 -- `contents::writer::put_rows` meets its contract: the rows passed stand in the buffer, nothing else has changed.
 use Prim.Native.Nat.{◌-◌}
-use mathlib.Core.Path.{refl}
 use Rattle.contents.specs.Content.{fields_in}
-use Rattle.contents.proofs.Walk.{Placed, place-start, held_next, held-ends}
-use native.Mathlib.Omega.{arith}
+use Rattle.contents.proofs.Walk.{Placed}
 use Rattle.contents.proofs.writer.put_rows.Given as goal
 
 abbrev pub invariant-loop-i : goal.invariant-loop-i

@@ -1,7 +1,5 @@
 -- `contents::writer::rows_verdict` meets its contract: the rows passed have no fault, the last id is at hand.
-use Prim.Native.Nat.{◌-◌}
-use Rattle.contents.proofs.Walk.{Checked, check-start, check-next, check-stops, check-ends}
-use native.Mathlib.Omega.{arith}
+use Rattle.contents.proofs.Walk.{check-start, check-next, check-stops, check-ends}
 use Rattle.contents.proofs.writer.rows_verdict.Goals as goal
 
 pub loop-i-init : goal.loop-i-init

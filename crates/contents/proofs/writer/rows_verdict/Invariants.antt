@@ -1,7 +1,6 @@
 -- `contents::writer::rows_verdict` meets its contract: the rows passed have no fault, the last id is at hand.
 use Prim.Native.Nat.{◌-◌}
-use Rattle.contents.proofs.Walk.{Checked, check-start, check-next, check-stops, check-ends}
-use native.Mathlib.Omega.{arith}
+use Rattle.contents.proofs.Walk.{Checked}
 use Rattle.contents.proofs.writer.rows_verdict.Given as goal
 
 abbrev pub invariant-loop-i : goal.invariant-loop-i

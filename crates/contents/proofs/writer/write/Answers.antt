@@ -1,7 +1,6 @@
 -- `contents::write` meets its contract, for a refusal and for bytes written.
 use Rattle.contents.proofs.Answered.{write-few, write-room, refused-buffer, done-buffer}
 use borrow.Author.Rules.{rules}
-use native.Mathlib.Omega.{arith}
 use Rattle.contents.proofs.writer.write.Goals as goal
 
 pub put_contents-requires : goal.put_contents-requires

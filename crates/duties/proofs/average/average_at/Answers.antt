@@ -3,7 +3,6 @@ use Prim.Native.Nat.{◌^◌}
 use Rattle.columns.proofs.Product.{product}
 use Rattle.duties.proofs.Averages.{half-fits}
 use borrow.Author.Rules.{rules}
-use native.Mathlib.Omega.{arith}
 use Rattle.duties.proofs.average.average_at.Goals as goal
 
 pub overflow_mul-capacity : goal.overflow_mul-capacity

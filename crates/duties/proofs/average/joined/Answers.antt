@@ -1,6 +1,5 @@
 -- `duties::joined` meets its contract: a row counts if it is thermal.
 use Rattle.duties.proofs.Averages.{joined_of, joined-fits}
-use native.Mathlib.Omega.{arith}
 use Rattle.duties.proofs.average.joined.Goals as goal
 
 pub plus-energy-requires : goal.plus-energy-requires

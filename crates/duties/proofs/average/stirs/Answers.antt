@@ -1,5 +1,4 @@
 -- `duties::stirs` meets its contract: the tests are the definition's own.
-use native.Mathlib.Omega.{arith}
 use Rattle.duties.proofs.average.stirs.Goals as goal
 
 pub returns : goal.returns

@@ -1,6 +1,5 @@
 -- `duties::width1` meets its contract: no width unless the row offers.
 use Rattle.duties.specs.Duty.{width1}
-use native.Mathlib.Omega.{arith}
 use Rattle.duties.proofs.bands.width1.Goals as goal
 
 pub returns : goal.returns

@@ -1,6 +1,5 @@
 -- `duties::credit2` meets its contract: the whole band unless the row owes for what it did not deliver.
 use Rattle.duties.specs.Duty.{credit2}
-use native.Mathlib.Omega.{arith}
 use Rattle.duties.proofs.credit.credit2.Goals as goal
 
 pub returns : goal.returns

@@ -1,5 +1,4 @@
 -- `duties::weighing::counted` meets its contract: the meter of a payer, else 0.
-use native.Mathlib.Omega.{arith}
 use Rattle.duties.proofs.weighing.counted.Goals as goal
 
 pub returns : goal.returns

@@ -1,7 +1,6 @@
 -- `duties::weight` meets its contract: the energy that counts, thermal energy by its bands.
 use Rattle.duties.proofs.Parts.{counted-le, weight-of}
 use borrow.Author.Rules.{rules}
-use native.Mathlib.Omega.{arith}
 use Rattle.duties.proofs.weighing.weight.Goals as goal
 
 pub thermal_weight-requires : goal.thermal_weight-requires

@@ -1,6 +1,5 @@
 -- `files::counts::counting` meets its contract.
 use Rattle.files.proofs.Sourced.{counting-named, counting-none}
-use native.Mathlib.Omega.{arith}
 use Rattle.files.proofs.counts.counting.Goals as goal
 
 pub named_part-requires : goal.named_part-requires

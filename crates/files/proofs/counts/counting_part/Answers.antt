@@ -4,7 +4,6 @@ use Rattle.files.specs.Layout.{head_size}
 use Rattle.files.specs.Form.{terms_size}
 use Rattle.files.proofs.Sourced.{own-small, own-near, own_in, their-in, own-source, their-source}
 use borrow.Author.Rules.{rules}
-use native.Mathlib.Omega.{arith}
 use Rattle.files.proofs.counts.counting_part.Goals as goal
 
 pub overflow_mul-i : goal.overflow_mul-i

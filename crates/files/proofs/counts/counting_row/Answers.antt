@@ -1,5 +1,4 @@
 -- `files::counts::counting_row` meets its contract: the row is read from the bytes that count.
-use native.Mathlib.Omega.{arith}
 use Rattle.files.proofs.counts.counting_row.Goals as goal
 
 pub returns : goal.returns

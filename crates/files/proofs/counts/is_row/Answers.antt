@@ -2,7 +2,6 @@
 use Rattle.files.proofs.Passed.{row_in}
 use Rattle.files.proofs.Sourced.{not_there, is-there}
 use borrow.Author.Rules.{rules}
-use native.Mathlib.Omega.{arith}
 use Rattle.files.proofs.counts.is_row.Goals as goal
 
 pub returns-then-n-i : goal.returns-then-n-i

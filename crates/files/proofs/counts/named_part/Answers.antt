@@ -3,7 +3,6 @@ use Prim.Native.Nat.{◌<◌}
 use Rattle.files.proofs.Accepted.{accepted-few, accepted-long, accepted-theirs}
 use Rattle.files.proofs.Sourced.{theirs-of, few-of, under_none, has-below, has-small, has_in, named-theirs, named-own, named_none, own-found, own_in}
 use borrow.Author.Rules.{rules}
-use native.Mathlib.Omega.{arith}
 use Rattle.files.proofs.counts.named_part.Goals as goal
 
 pub named_rows-m-requires : goal.named_rows-m-requires

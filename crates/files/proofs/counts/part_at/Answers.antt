@@ -1,6 +1,5 @@
 -- `files::counts::part_at` meets its contract.
 use Rattle.files.proofs.Sourced.{part-is}
-use native.Mathlib.Omega.{arith}
 use Rattle.files.proofs.counts.part_at.Goals as goal
 
 pub returns : goal.returns

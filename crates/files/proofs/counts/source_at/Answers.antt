@@ -3,7 +3,6 @@ use Prim.Native.Nat.{◌<◌}
 use Rattle.columns.proofs.Choice.{checks}
 use Rattle.files.proofs.Sourced.{has-told}
 use borrow.Author.Rules.{rules}
-use native.Mathlib.Omega.{arith}
 use Rattle.files.proofs.counts.source_at.Goals as goal
 
 pub returns-then-not-is_row : goal.returns-then-not-is_row

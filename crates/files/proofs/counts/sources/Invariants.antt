@@ -1,9 +1,6 @@
 -- `files::counts::sources` meets its contract: the first i sources are put, and the rows passed in the correction lie below the next id.
-use Prim.Native.Nat.{◌-◌, ◌<◌}
-use Rattle.files.proofs.Accepted.{accepted-long, accepted-theirs}
-use Rattle.files.proofs.Sourced.{Sourced, sourced-none, sourced-next, sourced-ends, under-sourced, theirs-of, few-of, own-small, own_in}
-use borrow.Author.Rules.{rules}
-use native.Mathlib.Omega.{arith}
+use Prim.Native.Nat.{◌-◌}
+use Rattle.files.proofs.Sourced.{Sourced}
 use Rattle.files.proofs.counts.sources.Given as goal
 
 abbrev pub invariant-loop-i : goal.invariant-loop-i

@@ -1,6 +1,5 @@
 -- `files::forms::form_of` meets its contract.
 use Rattle.files.proofs.Walked.{stated-long, form-stated, form-plain}
-use native.Mathlib.Omega.{arith}
 use Rattle.files.proofs.forms.form_of.Goals as goal
 
 pub terms_at-terms-requires : goal.terms_at-terms-requires

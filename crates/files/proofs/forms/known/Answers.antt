@@ -1,6 +1,5 @@
 -- `files::forms::known` meets its contract.
 use Rattle.files.specs.Form.{known}
-use native.Mathlib.Omega.{arith}
 use Rattle.files.proofs.forms.known.Goals as goal
 
 pub returns : goal.returns

@@ -1,7 +1,6 @@
 -- `files::forms::rows_from` meets its contract.
 use mathlib.Core.Path.{ap, ◌∙◌}
 use Rattle.files.specs.Form.{start_of, rows_from}
-use native.Mathlib.Omega.{arith}
 use Rattle.files.proofs.forms.rows_from.Goals as goal
 
 pub returns : goal.returns

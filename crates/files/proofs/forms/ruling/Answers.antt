@@ -1,5 +1,4 @@
 -- `files::forms::ruling` meets its contract.
-use native.Mathlib.Omega.{arith}
 use Rattle.files.proofs.forms.ruling.Goals as goal
 
 pub returns : goal.returns

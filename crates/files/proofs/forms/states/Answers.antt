@@ -1,6 +1,5 @@
 -- `files::forms::states` meets its contract.
 use Rattle.files.specs.Form.{states}
-use native.Mathlib.Omega.{arith}
 use Rattle.files.proofs.forms.states.Goals as goal
 
 pub returns : goal.returns

@@ -2,7 +2,6 @@
 use mathlib.Core.Path.{ap}
 use Rattle.records.specs.Record.{record_at}
 use Rattle.files.specs.Form.{terms_from, terms_at}
-use native.Mathlib.Omega.{arith}
 use Rattle.files.proofs.forms.terms_at.Goals as goal
 
 pub returns : goal.returns

@@ -1,6 +1,5 @@
 -- `files::range::correction_head_ok` meets its contract.
 use Rattle.files.specs.Range.{correction_head_ok, correction_tests}
-use native.Mathlib.Omega.{arith}
 use Rattle.files.proofs.range.correction_head_ok.Goals as goal
 
 pub returns : goal.returns

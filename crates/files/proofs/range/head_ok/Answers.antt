@@ -1,6 +1,5 @@
 -- `files::range::head_ok` meets its contract.
 use Rattle.files.specs.Range.{head_ok, head_tests}
-use native.Mathlib.Omega.{arith}
 use Rattle.files.proofs.range.head_ok.Goals as goal
 
 pub returns : goal.returns

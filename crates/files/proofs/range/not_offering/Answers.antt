@@ -1,6 +1,5 @@
 -- `files::range::not_offering` meets its contract.
 use Rattle.files.specs.Range.{not_offering, idle_tests}
-use native.Mathlib.Omega.{arith}
 use Rattle.files.proofs.range.not_offering.Goals as goal
 
 pub returns : goal.returns

@@ -1,6 +1,5 @@
 -- `files::range::offering` meets its contract.
 use Rattle.files.specs.Range.{offering, offer_tests}
-use native.Mathlib.Omega.{arith}
 use Rattle.files.proofs.range.offering.Goals as goal
 
 pub returns : goal.returns

@@ -1,7 +1,6 @@
 -- `files::range::row_checks` meets its contract.
 use Rattle.columns.proofs.Choice.{checks}
 use Rattle.files.specs.Order.{row_checks}
-use native.Mathlib.Omega.{arith}
 use Rattle.files.proofs.range.row_checks.Goals as goal
 
 pub returns-then-not-ok : goal.returns-then-not-ok

@@ -1,6 +1,5 @@
 -- `files::range::row_ok` meets its contract.
 use Rattle.files.specs.Range.{row_ok, row_tests}
-use native.Mathlib.Omega.{arith}
 use Rattle.files.proofs.range.row_ok.Goals as goal
 
 pub returns : goal.returns

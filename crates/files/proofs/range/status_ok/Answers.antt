@@ -1,6 +1,5 @@
 -- `files::range::status_ok` meets its contract.
 use Rattle.files.specs.Range.{status_ok}
-use native.Mathlib.Omega.{arith}
 use Rattle.files.proofs.range.status_ok.Goals as goal
 
 pub returns : goal.returns

@@ -1,6 +1,5 @@
 -- `files::range::terms_ok` meets its contract.
 use Rattle.files.specs.Range.{terms_ok, terms_tests}
-use native.Mathlib.Omega.{arith}
 use Rattle.files.proofs.range.terms_ok.Goals as goal
 
 pub returns : goal.returns

@@ -1,7 +1,6 @@
 -- `files::read::correction_head_at` meets its contract: the fields read by the table.
 use mathlib.Core.Path.{ap}
 use Rattle.files.specs.Layout.{correction_head_at, correction_head_of}
-use native.Mathlib.Omega.{arith}
 use Rattle.files.proofs.read.correction_head_at.Goals as goal
 
 pub returns : goal.returns

@@ -1,7 +1,6 @@
 -- `files::read::head_at` meets its contract: the fields read by the table.
 use mathlib.Core.Path.{ap}
 use Rattle.files.specs.Layout.{head_at, head_of}
-use native.Mathlib.Omega.{arith}
 use Rattle.files.proofs.read.head_at.Goals as goal
 
 pub returns : goal.returns

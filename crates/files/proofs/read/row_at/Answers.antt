@@ -1,7 +1,6 @@
 -- `files::read::row_at` meets its contract: the fields read by the table.
 use mathlib.Core.Path.{ap}
 use Rattle.files.specs.Layout.{row_at, row_of}
-use native.Mathlib.Omega.{arith}
 use Rattle.files.proofs.read.row_at.Goals as goal
 
 pub returns : goal.returns

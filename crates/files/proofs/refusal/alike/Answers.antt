@@ -1,7 +1,6 @@
 -- `files::refusal::alike` meets its contract.
 use mathlib.Core.Path.{refl}
 use Rattle.files.specs.Order.{alike}
-use native.Mathlib.Omega.{arith}
 use Rattle.files.proofs.refusal.alike.Goals as goal
 
 pub returns : goal.returns

@@ -1,7 +1,6 @@
 -- `files::refusal::beside_verdict` meets its contract.
 use Rattle.files.proofs.Named.{own-long, bad-time, good-time}
 use borrow.Author.Rules.{rules}
-use native.Mathlib.Omega.{arith}
 use Rattle.files.proofs.refusal.beside_verdict.Goals as goal
 
 pub same_time-requires : goal.same_time-requires

@@ -1,6 +1,5 @@
 -- `files::refusal::check` meets its contract.
 use Rattle.files.proofs.Named.{own-accepted, own-refused, alone, paired}
-use native.Mathlib.Omega.{arith}
 use Rattle.files.proofs.refusal.check.Goals as goal
 
 pub returns-then-correction-eq0 : goal.returns-then-correction-eq0

@@ -1,6 +1,5 @@
 -- `files::refusal::correction_starts` meets its contract.
 use Rattle.files.proofs.Named.{starts-short, starts-told}
-use native.Mathlib.Omega.{arith}
 use Rattle.files.proofs.refusal.correction_starts.Goals as goal
 
 pub returns-then-k-lt-CORRECTION_HEAD : goal.returns-then-k-lt-CORRECTION_HEAD

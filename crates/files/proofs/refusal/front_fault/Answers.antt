@@ -3,7 +3,6 @@ use Rattle.columns.proofs.Choice.{checks}
 use Rattle.files.specs.Order.{front_checks}
 use Rattle.files.proofs.Walked.{unranged, ranged, bad-terms, good-terms, short-own, not_short, own-there}
 use borrow.Author.Rules.{rules}
-use native.Mathlib.Omega.{arith}
 use Rattle.files.proofs.refusal.front_fault.Goals as goal
 
 pub returns-then-s-lt-HEAD : goal.returns-then-s-lt-HEAD

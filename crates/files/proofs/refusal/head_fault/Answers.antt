@@ -1,6 +1,5 @@
 -- `files::refusal::head_fault` meets its contract.
 use Rattle.files.proofs.Walked.{front-stops, front-there, length-wrong, length-right}
-use native.Mathlib.Omega.{arith}
 use Rattle.files.proofs.refusal.head_fault.Goals as goal
 
 pub returns-then-f-ne0 : goal.returns-then-f-ne0

@@ -1,7 +1,6 @@
 -- `files::refusal::interval_verdict` meets its contract.
 use Rattle.files.proofs.Walked.{head-there, form-there, rows-there, interval-refused, interval-rows}
 use borrow.Author.Rules.{rules}
-use native.Mathlib.Omega.{arith}
 use Rattle.files.proofs.refusal.interval_verdict.Goals as goal
 
 pub returns-then-f-ne0 : goal.returns-then-f-ne0

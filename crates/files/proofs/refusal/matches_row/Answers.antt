@@ -2,7 +2,6 @@
 use Rattle.files.proofs.Named.{no-match, match-told}
 use Rattle.files.proofs.Passed.{row_in}
 use borrow.Author.Rules.{rules}
-use native.Mathlib.Omega.{arith}
 use Rattle.files.proofs.refusal.matches_row.Goals as goal
 
 pub returns-then-n-i : goal.returns-then-n-i

@@ -1,12 +1,11 @@
 -- `files::refusal::names_verdict` meets its contract: the correction's rows before j refuse nothing, and the rows passed in the
 -- interval lie below its next id.
-use Prim.Native.Nat.{◌+◌, ◌-◌, ◌≤◌}
+use Prim.Native.Nat.{◌+◌, ◌≤◌}
 use lib.ListN.{length}
 use Rattle.files.specs.Layout.{correction_start, row_size}
-use Rattle.files.proofs.Named.{Beside, own_at, beside_none, beside-next, beside-stops, beside-ends, under-beside}
+use Rattle.files.proofs.Named.{own_at, beside_none, beside-next, beside-stops, beside-ends, under-beside}
 use Rattle.files.proofs.Passed.{row_in}
 use borrow.Author.Rules.{rules}
-use native.Mathlib.Omega.{arith}
 use Rattle.files.proofs.refusal.names_verdict.Goals as goal
 
 pub loop-j-init : goal.loop-j-init

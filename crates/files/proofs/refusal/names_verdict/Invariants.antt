@@ -1,12 +1,7 @@
 -- `files::refusal::names_verdict` meets its contract: the correction's rows before j refuse nothing, and the rows passed in the
 -- interval lie below its next id.
-use Prim.Native.Nat.{◌+◌, ◌-◌, ◌≤◌}
-use lib.ListN.{length}
-use Rattle.files.specs.Layout.{correction_start, row_size}
-use Rattle.files.proofs.Named.{Beside, own_at, beside_none, beside-next, beside-stops, beside-ends, under-beside}
-use Rattle.files.proofs.Passed.{row_in}
-use borrow.Author.Rules.{rules}
-use native.Mathlib.Omega.{arith}
+use Prim.Native.Nat.{◌-◌}
+use Rattle.files.proofs.Named.{Beside}
 use Rattle.files.proofs.refusal.names_verdict.Given as goal
 
 abbrev pub invariant-loop-j : goal.invariant-loop-j

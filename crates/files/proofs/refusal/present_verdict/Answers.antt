@@ -2,7 +2,6 @@
 use Rattle.files.proofs.Walked.{start-told}
 use Rattle.files.proofs.Named.{own-long, own-whole, correction-there, theirs-there, theirs-sound, bad-start, bad-row, good-rows}
 use borrow.Author.Rules.{rules}
-use native.Mathlib.Omega.{arith}
 use Rattle.files.proofs.refusal.present_verdict.Goals as goal
 
 pub returns-then-not-correction_starts : goal.returns-then-not-correction_starts

@@ -2,7 +2,6 @@
 use mathlib.Core.Path.{ap}
 use Rattle.files.specs.declared.Head.{Head}
 use borrow.Author.Rules.{rules}
-use native.Mathlib.Omega.{arith}
 use Rattle.files.proofs.refusal.row_count.Goals as goal
 
 pub returns : goal.returns

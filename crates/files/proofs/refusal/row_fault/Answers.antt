@@ -2,7 +2,6 @@
 use Rattle.columns.proofs.Choice.{checks}
 use Rattle.files.specs.Order.{row_checks_at}
 use Rattle.files.proofs.Walked.{checks-told}
-use native.Mathlib.Omega.{arith}
 use Rattle.files.proofs.refusal.row_fault.Goals as goal
 
 pub returns-then-not-marked : goal.returns-then-not-marked

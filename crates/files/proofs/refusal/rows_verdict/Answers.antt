@@ -1,10 +1,9 @@
 -- `files::refusal::rows_verdict` meets its contract: the rows before i refuse nothing, and `last` is the id before row i.
-use Prim.Native.Nat.{◌+◌, ◌-◌, ◌*◌, ◌≤◌}
+use Prim.Native.Nat.{◌+◌, ◌*◌, ◌≤◌}
 use lib.ListN.{length}
 use Rattle.files.specs.Layout.{row_size}
-use Rattle.files.proofs.Walked.{Walked, walk-in, walk_none, walk-next, walk-stops, walk_ends}
+use Rattle.files.proofs.Walked.{walk-in, walk_none, walk-next, walk-stops, walk_ends}
 use borrow.Author.Rules.{rules}
-use native.Mathlib.Omega.{arith}
 use Rattle.files.proofs.refusal.rows_verdict.Goals as goal
 
 pub loop-i-init : goal.loop-i-init

@@ -1,6 +1,5 @@
 -- `files::refusal::same_time` meets its contract.
 use Rattle.files.specs.Order.{same_time}
-use native.Mathlib.Omega.{arith}
 use Rattle.files.proofs.refusal.same_time.Goals as goal
 
 pub returns : goal.returns

@@ -1,12 +1,6 @@
 -- `files::refusal::seek` meets its contract: the rows passed have ids below the one sought.
-use Prim.Native.Nat.{◌+◌, ◌-◌, ◌*◌, ◌≤◌}
-use native.Mathlib.Omega.{arith}
-use lib.ListN.{length}
+use Prim.Native.Nat.{◌-◌, ◌≤◌}
 use Rattle.files.specs.Walk.{Under}
-use Rattle.files.specs.Layout.{row_size}
-use Rattle.files.proofs.Found.{under_next, sought-here, sought-none}
-use Rattle.files.proofs.Passed.{row_in}
-use borrow.Author.Rules.{rules}
 use Rattle.files.proofs.refusal.seek.Given as goal
 
 abbrev pub invariant-loop-i : goal.invariant-loop-i

@@ -1,9 +1,7 @@
 -- `levy::close_round` meets its contract: the open payers passed are closed if the round closes them, the others listed, and both
 -- sums are theirs.
-use Prim.Native.Nat.{◌-◌}
-use Rattle.levy.proofs.Turn.{Pass, pass-none, pass-next, pass-end, products, caps-fit, weights-fit, place_in, kept_in, kept-fits}
+use Rattle.levy.proofs.Turn.{pass-none, pass-next, pass-end, products, caps-fit, weights-fit, place_in, kept_in, kept-fits}
 use borrow.Author.Rules.{rules}
-use native.Mathlib.Omega.{arith}
 use Rattle.levy.proofs.closing.close_round.Goals as goal
 
 ruleset mine = (pass-none, pass-end, rules)

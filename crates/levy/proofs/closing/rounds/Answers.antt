@@ -1,7 +1,6 @@
 -- `levy::rounds` meets its contract: the walk starts where the definition starts, with nobody closed, and visits are told by where it ends.
 use Rattle.columns.proofs.Table.{front_long}
 use Rattle.levy.proofs.Again.{weights-few, rounds-begin, visits-asked, rounds-end}
-use native.Mathlib.Omega.{arith}
 use Rattle.levy.proofs.closing.rounds.Goals as goal
 
 pub slice_bounds-total_of-end : goal.slice_bounds-total_of-end

@@ -1,7 +1,6 @@
 -- `levy::shortfall` meets its contract: money is short only where no weight is left.
 use borrow.Author.Tests.{eq-eqb, ne_eqb}
 use Rattle.levy.specs.Rounds.{shortfall}
-use native.Mathlib.Omega.{arith}
 use Rattle.levy.proofs.closing.shortfall.Goals as goal
 
 pub returns-then-rest-eq0 : goal.returns-then-rest-eq0

@@ -2,7 +2,6 @@
 use Rattle.columns.proofs.Table.{front_long}
 use Rattle.levy.proofs.Making.{front-room}
 use borrow.Author.Rules.{rules}
-use native.Mathlib.Omega.{arith}
 use Rattle.levy.proofs.filling.apportion.Goals as goal
 
 pub slice_bounds-apportion_over-end : goal.slice_bounds-apportion_over-end

@@ -1,7 +1,6 @@
 -- `levy::filling::apportion_over` meets its contract: a share is at most its sum, so it fits.
 use Rattle.levy.proofs.Making.{part-split, part-long, part_small, part-made}
 use borrow.Author.Rules.{rules}
-use native.Mathlib.Omega.{arith}
 use Rattle.levy.proofs.filling.apportion_over.Goals as goal
 
 pub split-requires : goal.split-requires

@@ -1,10 +1,7 @@
 -- `levy::narrow` meets its contract: the positions passed are copied, each below 2 ^ 32.
-use Prim.Native.Nat.{◌-◌}
 use mathlib.Core.Path.{refl}
-use Rattle.columns.specs.Table.{at}
-use Rattle.levy.proofs.Fill.{Fill, fill_none, fill_on, fill_is, small_at}
+use Rattle.levy.proofs.Fill.{fill_none, fill_on, fill_is, small_at}
 use borrow.Author.Rules.{rules}
-use native.Mathlib.Omega.{arith}
 use Rattle.levy.proofs.filling.narrow.Goals as goal
 
 pub loop-i-init : goal.loop-i-init

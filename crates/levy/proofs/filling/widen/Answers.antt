@@ -1,8 +1,5 @@
 -- `levy::widen` meets its contract: the positions passed are copied.
-use Prim.Native.Nat.{◌-◌}
-use Rattle.columns.specs.Table.{at}
-use Rattle.levy.proofs.Fill.{Fill, fill_none, fill_on, fill_is, fill-small}
-use native.Mathlib.Omega.{arith}
+use Rattle.levy.proofs.Fill.{fill_none, fill_on, fill_is, fill-small}
 use Rattle.levy.proofs.filling.widen.Goals as goal
 
 pub loop-i-init : goal.loop-i-init

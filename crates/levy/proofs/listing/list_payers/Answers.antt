@@ -1,11 +1,7 @@
 -- `levy::list_payers` meets its contract: of the positions passed those of weight stand in the list.
-use Prim.Native.Nat.{◌-◌}
-use lib.ListN.{take}
-use Rattle.columns.proofs.Listed.{Listing, listing_none, listing-room, listing-fits, listing-end}
-use Rattle.levy.specs.Rounds.{is_payer}
+use Rattle.columns.proofs.Listed.{listing_none, listing-room, listing-fits, listing-end}
 use Rattle.levy.proofs.Listed.{payers-next}
 use borrow.Author.Rules.{rules}
-use native.Mathlib.Omega.{arith}
 use Rattle.levy.proofs.listing.list_payers.Goals as goal
 
 ruleset mine = (listing_none, listing-room, listing-end, rules)

@@ -1,11 +1,8 @@
 -- `levy::list_payers` meets its contract: of the positions passed those of weight stand in the list.
 use Prim.Native.Nat.{◌-◌}
 use lib.ListN.{take}
-use Rattle.columns.proofs.Listed.{Listing, listing_none, listing-room, listing-fits, listing-end}
+use Rattle.columns.proofs.Listed.{Listing}
 use Rattle.levy.specs.Rounds.{is_payer}
-use Rattle.levy.proofs.Listed.{payers-next}
-use borrow.Author.Rules.{rules}
-use native.Mathlib.Omega.{arith}
 use Rattle.levy.proofs.listing.list_payers.Given as goal
 
 abbrev pub invariant-loop-i : goal.invariant-loop-i

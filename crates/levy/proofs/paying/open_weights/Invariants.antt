@@ -1,7 +1,6 @@
 -- `levy::open_weights` meets its contract: the positions passed have their weight, or 0 if they closed.
 use Prim.Native.Nat.{◌-◌}
-use Rattle.levy.proofs.Fill.{Fill, open_at, fill_none, open-on, open-end}
-use native.Mathlib.Omega.{arith}
+use Rattle.levy.proofs.Fill.{Fill, open_at}
 use Rattle.levy.proofs.paying.open_weights.Given as goal
 
 abbrev pub invariant-loop-i : goal.invariant-loop-i

@@ -1,7 +1,6 @@
 -- `levy::paid_by` meets its contract: an open row pays its part, a closed one its cap.
 use Rattle.levy.proofs.Fill.{part-fits, paid-part, paid-cap}
 use borrow.Author.Rules.{rules}
-use native.Mathlib.Omega.{arith}
 use Rattle.levy.proofs.paying.paid_by.Goals as goal
 
 pub overflow_cast-result : goal.overflow_cast-result

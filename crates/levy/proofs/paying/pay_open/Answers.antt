@@ -1,6 +1,5 @@
 -- `levy::pay_open` meets its contract: the parts are the sharing of the last money over the open weights.
 use Rattle.levy.proofs.Making.{spread-split, spread-made, spread-out}
-use native.Mathlib.Omega.{arith}
 use Rattle.levy.proofs.paying.pay_open.Goals as goal
 
 pub split-requires : goal.split-requires

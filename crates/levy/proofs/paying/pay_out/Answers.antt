@@ -1,10 +1,6 @@
 -- `levy::pay_out` meets its contract: the positions passed have what they pay, the others their caps.
-use Prim.Native.Nat.{◌-◌, ◌≤◌}
-use lib.ListN.{length}
-use Rattle.levy.specs.Asked.{paid_from}
-use Rattle.levy.proofs.Fill.{Fill, fill_none, made_at, paid-on, paid-end}
+use Rattle.levy.proofs.Fill.{fill_none, made_at, paid-on, paid-end}
 use borrow.Author.Rules.{rules}
-use native.Mathlib.Omega.{arith}
 use Rattle.levy.proofs.paying.pay_out.Goals as goal
 
 pub loop-i-init : goal.loop-i-init

@@ -2,9 +2,7 @@
 use Prim.Native.Nat.{◌-◌, ◌≤◌}
 use lib.ListN.{length}
 use Rattle.levy.specs.Asked.{paid_from}
-use Rattle.levy.proofs.Fill.{Fill, fill_none, made_at, paid-on, paid-end}
-use borrow.Author.Rules.{rules}
-use native.Mathlib.Omega.{arith}
+use Rattle.levy.proofs.Fill.{Fill}
 use Rattle.levy.proofs.paying.pay_out.Given as goal
 
 abbrev pub invariant-loop-i : goal.invariant-loop-i

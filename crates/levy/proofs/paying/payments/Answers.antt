@@ -1,7 +1,6 @@
 -- `levy::payments` meets its contract: it only lends columns.
 use Rattle.columns.proofs.Table.{front_long}
 use Rattle.levy.proofs.Making.{pay-spread, payments-made}
-use native.Mathlib.Omega.{arith}
 use Rattle.levy.proofs.paying.payments.Goals as goal
 
 pub slice_bounds-pay_open-end : goal.slice_bounds-pay_open-end

@@ -1,7 +1,5 @@
 -- `levy::count_visits` meets its contract: the sum is that of the positions passed.
-use Prim.Native.Nat.{◌-◌}
-use Rattle.levy.proofs.Told.{Told, told_none, told-fits, told-on, told-end}
-use native.Mathlib.Omega.{arith}
+use Rattle.levy.proofs.Told.{told_none, told-fits, told-on, told-end}
 use Rattle.levy.proofs.visiting.count_visits.Goals as goal
 
 pub loop-i-init : goal.loop-i-init

@@ -1,7 +1,6 @@
 -- `levy::count_visits` meets its contract: the sum is that of the positions passed.
 use Prim.Native.Nat.{◌-◌}
-use Rattle.levy.proofs.Told.{Told, told_none, told-fits, told-on, told-end}
-use native.Mathlib.Omega.{arith}
+use Rattle.levy.proofs.Told.{Told}
 use Rattle.levy.proofs.visiting.count_visits.Given as goal
 
 abbrev pub invariant-loop-i : goal.invariant-loop-i

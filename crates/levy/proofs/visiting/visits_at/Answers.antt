@@ -1,6 +1,5 @@
 -- `levy::visits_at` meets its contract: by whether there is weight, and whether it has closed.
 use Rattle.levy.proofs.Told.{weightless, still_open, has-closed}
-use native.Mathlib.Omega.{arith}
 use Rattle.levy.proofs.visiting.visits_at.Goals as goal
 
 pub returns-then-w-eq0 : goal.returns-then-w-eq0

@@ -1,8 +1,6 @@
 -- `settle::market::account` meets its contract: the rows passed have both figures.
-use Prim.Native.Nat.{◌-◌}
-use Rattle.settle.proofs.Paying.{Sofar, sofar-none, line-there, pay-there, owed-there, total-fits, penalties-fit, sofar-more, sofar-long, sofar-all}
+use Rattle.settle.proofs.Paying.{sofar-none, line-there, pay-there, owed-there, total-fits, penalties-fit, sofar-more, sofar-long, sofar-all}
 use borrow.Author.Rules.{rules}
-use native.Mathlib.Omega.{arith}
 use Rattle.settle.proofs.market.account.Goals as goal
 
 pub loop-i-init : goal.loop-i-init

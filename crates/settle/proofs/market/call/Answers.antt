@@ -1,6 +1,5 @@
 -- `settle::market::call` meets its contract: it only lends columns.
 use Rattle.settle.proofs.Tiers.{front-offered, asked-front, lent-front, called-front}
-use native.Mathlib.Omega.{arith}
 use Rattle.settle.proofs.market.call.Goals as goal
 
 pub slice_bounds-call_in-end : goal.slice_bounds-call_in-end

@@ -1,6 +1,5 @@
 -- `settle::market::call_in` meets its contract: the calls replace the widths, and are all 0 where nothing is needed.
 use Rattle.settle.proofs.Tiers.{tier-unneeded, calls-lined, tier-called}
-use native.Mathlib.Omega.{arith}
 use Rattle.settle.proofs.market.call_in.Goals as goal
 
 pub returns-then-need-eq0 : goal.returns-then-need-eq0

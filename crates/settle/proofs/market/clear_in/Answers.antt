@@ -1,6 +1,5 @@
 -- `settle::market::clear_in` meets its contract: the columns read are the fields'.
 use Rattle.settle.proofs.Tiers.{widths-asked, bids-asked, lent_level, tier-ready, columns-level, energies-asked, tier-cleared}
-use native.Mathlib.Omega.{arith}
 use Rattle.settle.proofs.market.clear_in.Goals as goal
 
 pub get_pair-requires : goal.get_pair-requires

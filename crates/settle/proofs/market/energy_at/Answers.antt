@@ -1,6 +1,5 @@
 -- `settle::market::energy_at` meets its contract: a cell of four bytes fits 32 bits.
 use Rattle.settle.proofs.Paying.{four}
-use native.Mathlib.Omega.{arith}
 use Rattle.settle.proofs.market.energy_at.Goals as goal
 
 pub overflow_cast-cell : goal.overflow_cast-cell

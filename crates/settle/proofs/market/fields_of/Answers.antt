@@ -1,6 +1,5 @@
 -- `settle::market::fields_of` meets its contract: by the tier.
 use borrow.Author.Tests.{eq-eqb, ne_eqb}
-use native.Mathlib.Omega.{arith}
 use Rattle.settle.proofs.market.fields_of.Goals as goal
 
 pub returns-then-tier-eq0 : goal.returns-then-tier-eq0

@@ -1,10 +1,6 @@
 -- `settle::market::trade` meets its contract: tier 1, then tier 2 with what is left of the need.
-use Prim.Native.Nat.{◌-◌, ◌≤◌}
-use mathlib.Core.Path.{◌≡◌}
-use lib.ListN.{length}
-use Rattle.settle.proofs.Trading.{Sofar, sofar-none, sofar-asked, sofar-more, sofar-all}
+use Rattle.settle.proofs.Trading.{sofar-none, sofar-asked, sofar-more, sofar-all}
 use borrow.Author.Rules.{rules}
-use native.Mathlib.Omega.{arith}
 use Rattle.settle.proofs.market.trade.Goals as goal
 
 pub loop-tier-init : goal.loop-tier-init

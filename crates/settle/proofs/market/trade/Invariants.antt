@@ -2,9 +2,7 @@
 use Prim.Native.Nat.{◌-◌, ◌≤◌}
 use mathlib.Core.Path.{◌≡◌}
 use lib.ListN.{length}
-use Rattle.settle.proofs.Trading.{Sofar, sofar-none, sofar-asked, sofar-more, sofar-all}
-use borrow.Author.Rules.{rules}
-use native.Mathlib.Omega.{arith}
+use Rattle.settle.proofs.Trading.{Sofar}
 use Rattle.settle.proofs.market.trade.Given as goal
 
 abbrev pub invariant-loop-tier : goal.invariant-loop-tier

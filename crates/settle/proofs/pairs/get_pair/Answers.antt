@@ -1,10 +1,7 @@
 -- `settle::pairs::get_pair` meets its contract: the cells of both fields before line i stand in their columns.
-use Prim.Native.Nat.{◌-◌}
-use lib.ListN.{length}
 use Rattle.records.proofs.Column.{cell-narrow}
-use Rattle.settle.proofs.LineByLine.{ReadTo, read_none, read-inside, read-one-room, read-two-room, read_next, read_one, read-two}
+use Rattle.settle.proofs.LineByLine.{read_none, read-inside, read-one-room, read-two-room, read_next, read_one, read-two}
 use borrow.Author.Rules.{rules}
-use native.Mathlib.Omega.{arith}
 use Rattle.settle.proofs.pairs.get_pair.Goals as goal
 
 pub loop-i-init : goal.loop-i-init

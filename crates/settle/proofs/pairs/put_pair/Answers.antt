@@ -1,8 +1,5 @@
 -- `settle::pairs::put_pair` meets its contract: the cells of both fields before line i hold the columns' numbers.
-use Prim.Native.Nat.{◌-◌}
-use lib.ListN.{length}
-use Rattle.settle.proofs.LineByLine.{WrittenTo, written_none, written-inside, written-one-room, written-two-room, written_next, written_all}
-use native.Mathlib.Omega.{arith}
+use Rattle.settle.proofs.LineByLine.{written_none, written-inside, written-one-room, written-two-room, written_next, written_all}
 use Rattle.settle.proofs.pairs.put_pair.Goals as goal
 
 pub loop-i-init : goal.loop-i-init

@@ -1,8 +1,7 @@
 -- `settle::pairs::put_pair` meets its contract: the cells of both fields before line i hold the columns' numbers.
 use Prim.Native.Nat.{◌-◌}
 use lib.ListN.{length}
-use Rattle.settle.proofs.LineByLine.{WrittenTo, written_none, written-inside, written-one-room, written-two-room, written_next, written_all}
-use native.Mathlib.Omega.{arith}
+use Rattle.settle.proofs.LineByLine.{WrittenTo}
 use Rattle.settle.proofs.pairs.put_pair.Given as goal
 
 abbrev pub invariant-loop-i : goal.invariant-loop-i

@@ -1,7 +1,6 @@
 -- `settle::payers::collect` meets its contract: it lends columns, and puts payments and closing rounds into their fields.
 use Rattle.settle.proofs.Levying.{front-leviable, weights-asked, caps-asked, rounds-asked, paid-count, marks-count, paid-asked, marks-asked, counts-level, levied}
 use mathlib.Core.Path.{refl}
-use native.Mathlib.Omega.{arith}
 use Rattle.settle.proofs.payers.collect.Goals as goal
 
 pub slice_bounds-get_pair-end : goal.slice_bounds-get_pair-end

@@ -1,11 +1,6 @@
 -- `settle::payers::divide` meets its contract: one sharing after the other.
-use Prim.Native.Nat.{◌-◌, ◌≤◌}
-use mathlib.Core.Path.{◌≡◌}
-use lib.ListN.{length}
-use Rattle.settle.specs.Work.{divided_to}
 use Rattle.settle.proofs.Levying.{divided-none, divided-asked, divided-more, divided-all}
 use borrow.Author.Rules.{rules}
-use native.Mathlib.Omega.{arith}
 use Rattle.settle.proofs.payers.divide.Goals as goal
 
 pub loop-k-init : goal.loop-k-init

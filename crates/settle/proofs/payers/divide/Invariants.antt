@@ -3,9 +3,6 @@ use Prim.Native.Nat.{◌-◌, ◌≤◌}
 use mathlib.Core.Path.{◌≡◌}
 use lib.ListN.{length}
 use Rattle.settle.specs.Work.{divided_to}
-use Rattle.settle.proofs.Levying.{divided-none, divided-asked, divided-more, divided-all}
-use borrow.Author.Rules.{rules}
-use native.Mathlib.Omega.{arith}
 use Rattle.settle.proofs.payers.divide.Given as goal
 
 abbrev pub invariant-loop-k : goal.invariant-loop-k

@@ -1,6 +1,5 @@
 -- `settle::payers::levy_on` meets its contract: the payments are those of the standing that the rounds left.
 use Rattle.settle.proofs.Levying.{payments-asked, levied-on}
-use native.Mathlib.Omega.{arith}
 use Rattle.settle.proofs.payers.levy_on.Goals as goal
 
 pub payments-requires : goal.payments-requires

@@ -1,6 +1,5 @@
 -- `settle::payers::share_in` meets its contract: the amount shared over the column of a field.
 use Rattle.settle.proofs.Levying.{shares-asked, shares-lined, shares_left}
-use native.Mathlib.Omega.{arith}
 use Rattle.settle.proofs.payers.share_in.Goals as goal
 
 pub apportion-requires : goal.apportion-requires

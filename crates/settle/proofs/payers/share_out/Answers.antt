@@ -1,7 +1,6 @@
 -- `settle::payers::share_out` meets its contract: it only lends columns, and where there is nothing to share it leaves all as it is.
 use Rattle.settle.proofs.Levying.{none-shared, front-shareable, share-front, share-there}
 use borrow.Author.Rules.{rules}
-use native.Mathlib.Omega.{arith}
 use Rattle.settle.proofs.payers.share_out.Goals as goal
 
 pub returns-then-what-eq0 : goal.returns-then-what-eq0

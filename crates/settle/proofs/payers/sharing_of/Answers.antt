@@ -1,6 +1,5 @@
 -- `settle::payers::sharing_of` meets its contract: cuts first.
 use borrow.Author.Tests.{eq-eqb, ne_eqb}
-use native.Mathlib.Omega.{arith}
 use Rattle.settle.proofs.payers.sharing_of.Goals as goal
 
 pub returns-then-k-eq0 : goal.returns-then-k-eq0

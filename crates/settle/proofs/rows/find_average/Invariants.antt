@@ -1,9 +1,6 @@
 -- `settle::rows::find_average` meets its contract: no row passed keeps the average from ruling, and their sums are made.
 use Prim.Native.Nat.{◌-◌}
-use Rattle.duties.proofs.Averages.{needless}
-use Rattle.settle.proofs.Reading.{reads-start, source-room, source_fits, source-at-row, Scanning, scanning-none, scanning-more, scanning-stop, scanning-all, energy-fits, capacity-fits}
-use borrow.Author.Rules.{rules}
-use native.Mathlib.Omega.{arith}
+use Rattle.settle.proofs.Reading.{Scanning}
 use Rattle.settle.proofs.rows.find_average.Given as goal
 
 abbrev pub invariant-loop-i : goal.invariant-loop-i

@@ -1,7 +1,6 @@
 -- `settle::rows::find_sources` meets its contract: a blank list is right without a correction.
 use Rattle.settle.proofs.Reading.{own-sources, found-sources, blank-long}
 use borrow.Author.Rules.{rules}
-use native.Mathlib.Omega.{arith}
 use Rattle.settle.proofs.rows.find_sources.Goals as goal
 
 pub returns-then-correction-eq0 : goal.returns-then-correction-eq0

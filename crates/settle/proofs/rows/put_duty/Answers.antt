@@ -1,6 +1,5 @@
 -- `settle::rows::put_duty` meets its contract: the fields of the record are the duties.
 use Rattle.settle.proofs.Reading.{duty-put}
-use native.Mathlib.Omega.{arith}
 use Rattle.settle.proofs.rows.put_duty.Goals as goal
 
 pub returns : goal.returns

@@ -3,7 +3,6 @@ use Rattle.settle.proofs.Answered.{head-there}
 use Rattle.settle.proofs.Reading.{reads_of, low-found, flag-told, read_told}
 use mathlib.Core.Path.{refl}
 use borrow.Author.Rules.{rules}
-use native.Mathlib.Omega.{arith}
 use Rattle.settle.proofs.rows.read.Goals as goal
 
 pub head_at-head-requires : goal.head_at-head-requires

@@ -1,7 +1,5 @@
 -- `settle::rows::read_averaged` meets its contract: the lines of the rows passed are put.
-use Prim.Native.Nat.{◌-◌}
-use Rattle.settle.proofs.Reading.{Sofar, sofar-none, source-room, source-at-row, line-room, sofar-more, sofar-long, sofar-all}
-use native.Mathlib.Omega.{arith}
+use Rattle.settle.proofs.Reading.{sofar-none, source-room, source-at-row, line-room, sofar-more, sofar-long, sofar-all}
 use Rattle.settle.proofs.rows.read_averaged.Goals as goal
 
 pub loop-i-init : goal.loop-i-init

@@ -1,7 +1,6 @@
 -- `settle::rows::read_averaged` meets its contract: the lines of the rows passed are put.
 use Prim.Native.Nat.{◌-◌}
-use Rattle.settle.proofs.Reading.{Sofar, sofar-none, source-room, source-at-row, line-room, sofar-more, sofar-long, sofar-all}
-use native.Mathlib.Omega.{arith}
+use Rattle.settle.proofs.Reading.{Sofar}
 use Rattle.settle.proofs.rows.read_averaged.Given as goal
 
 abbrev pub invariant-loop-i : goal.invariant-loop-i

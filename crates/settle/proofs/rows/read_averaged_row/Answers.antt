@@ -1,7 +1,6 @@
 -- `settle::rows::read_averaged_row` meets its contract: the average is the base of the row that counts.
 use Rattle.settle.proofs.Reading.{reads-start, row-ranged, row_inside, averaged-read}
 use borrow.Author.Rules.{rules}
-use native.Mathlib.Omega.{arith}
 use Rattle.settle.proofs.rows.read_averaged_row.Goals as goal
 
 pub counting_row-row-requires : goal.counting_row-row-requires

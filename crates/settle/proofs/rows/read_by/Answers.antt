@@ -1,7 +1,6 @@
 -- `settle::rows::read_by` meets its contract: without an average that rules the lines are the usual ones.
 use Rattle.settle.proofs.Reading.{by-usual}
 use borrow.Author.Rules.{rules}
-use native.Mathlib.Omega.{arith}
 use Rattle.settle.proofs.rows.read_by.Goals as goal
 
 pub read_averaged-requires : goal.read_averaged-requires

@@ -1,8 +1,7 @@
 -- `settle::rows::read_corrected` meets its contract: the lines of the rows passed are put.
 use Prim.Native.Nat.{◌-◌}
 use Rattle.duties.specs.Average.{usual}
-use Rattle.settle.proofs.Reading.{Sofar, sofar-none, source-room, source-at-row, line-room, sofar-more, sofar-long, sofar-all}
-use native.Mathlib.Omega.{arith}
+use Rattle.settle.proofs.Reading.{Sofar}
 use Rattle.settle.proofs.rows.read_corrected.Given as goal
 
 abbrev pub invariant-loop-i : goal.invariant-loop-i

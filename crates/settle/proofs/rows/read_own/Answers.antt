@@ -1,9 +1,6 @@
 -- `settle::rows::read_own` meets its contract: the lines of the rows passed are put.
-use Prim.Native.Nat.{◌-◌}
-use Rattle.settle.proofs.Reading.{Sofar, sofar-none, line-room, sofar-more, sofar-long, sofar-all}
-use Rattle.duties.specs.Average.{usual}
+use Rattle.settle.proofs.Reading.{sofar-none, line-room, sofar-more, sofar-long, sofar-all}
 use borrow.Author.Rules.{rules}
-use native.Mathlib.Omega.{arith}
 use Rattle.settle.proofs.rows.read_own.Goals as goal
 
 pub loop-i-init : goal.loop-i-init

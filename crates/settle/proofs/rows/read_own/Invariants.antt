@@ -1,9 +1,7 @@
 -- `settle::rows::read_own` meets its contract: the lines of the rows passed are put.
 use Prim.Native.Nat.{◌-◌}
-use Rattle.settle.proofs.Reading.{Sofar, sofar-none, line-room, sofar-more, sofar-long, sofar-all}
+use Rattle.settle.proofs.Reading.{Sofar}
 use Rattle.duties.specs.Average.{usual}
-use borrow.Author.Rules.{rules}
-use native.Mathlib.Omega.{arith}
 use Rattle.settle.proofs.rows.read_own.Given as goal
 
 abbrev pub invariant-loop-i : goal.invariant-loop-i

@@ -2,7 +2,6 @@
 use Rattle.files.proofs.Laws.{no_source}
 use Rattle.settle.proofs.Reading.{reads-start, terms-low, row-ranged, row_inside, usual-read}
 use borrow.Author.Rules.{rules}
-use native.Mathlib.Omega.{arith}
 use Rattle.settle.proofs.rows.read_own_row.Goals as goal
 
 pub counting_row-row-requires : goal.counting_row-row-requires

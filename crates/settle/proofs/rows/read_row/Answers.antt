@@ -1,7 +1,6 @@
 -- `settle::rows::read_row` meets its contract: the line is that of the duties of the row that counts.
 use Rattle.settle.proofs.Reading.{reads-start, terms-low, row-ranged, row_inside, usual-read}
 use borrow.Author.Rules.{rules}
-use native.Mathlib.Omega.{arith}
 use Rattle.settle.proofs.rows.read_row.Goals as goal
 
 pub counting_row-row-requires : goal.counting_row-row-requires

@@ -1,7 +1,6 @@
 -- `settle::stages::first_turn` meets its contract.
 use borrow.Author.Tests.{eq-eqb, ne_eqb}
 use Rattle.settle.specs.Settlement.{first_turn}
-use native.Mathlib.Omega.{arith}
 use Rattle.settle.proofs.stages.first_turn.Goals as goal
 
 pub returns-then-n-eq0 : goal.returns-then-n-eq0

@@ -1,6 +1,6 @@
 -- `settle::stages::write_lines` meets its contract: each stage finds what the one before left (proofs/Stated.antt).
 use Rattle.std.proofs.Common.{arith}
-use Rattle.settle.proofs.Answered.{few-rows, head-there, lined-long}
+use Rattle.settle.proofs.Answered.{few-rows, head-there}
 use Rattle.settle.proofs.Stated.{asked-trade, asked-account, asked-levy, asked-divide, lines-told, top-told}
 use Rattle.settle.proofs.stages.write_lines.Goals as goal
 
