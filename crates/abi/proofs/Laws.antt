@@ -11,11 +11,12 @@ use native.Mathlib.Omega.{arith}
 use lib.ListN.{length, get_or}
 use borrow.Author.Tests.{lt-ltb, le-ltb}
 use Rattle.records.specs.Buffer.{put}
-use Rattle.files.specs.Order as read
+use Rattle.files.specs.Verdict as read
+use Rattle.files.specs.Verdict.{number_of, value_of}
 use Rattle.files.specs.Counting.{counting_bytes}
 use Rattle.contents.specs.Content.{reading_of, rewritten_buffer}
 use Rattle.contents.proofs.RoundTrip.{file-again-bytes, file-again-buffer}
-use Rattle.settle.specs.Answer.{answer_of, number_of, value_of}
+use Rattle.settle.specs.Answer.{answer_of}
 use Rattle.abi.specs.Packed.{packed, settled, copied, rewritten}
 use Rattle.abi.proofs.Small.{answer-packs}
 

@@ -28,18 +28,15 @@ use Rattle.files.specs.declared.Terms.{Terms}
 use Rattle.files.proofs.Answer.{interval-numbers}
 use Rattle.files.proofs.Passed.{head_passed}
 use Rattle.files.proofs.Ranges.{correction-few}
-use Rattle.contents.specs.Content.{reading_of, row_checks_in, row_place, writer_order, written_of, rewritten_of}
-use Rattle.contents.specs.Content as write
+use Rattle.files.specs.Verdict.{Verdict, Accepted, Refused, number_of, value_of}
+use Rattle.contents.specs.Content.{reading_of, row_checks_in, row_place, writer_order, written_of, rewritten_of, held_order}
 use Rattle.contents.specs.declared.Contents.{Contents}
-use Rattle.contents.specs.declared.Written.{Written}
-use Rattle.contents.specs.declared.Written.TheVariants as written
 use Rattle.contents.proofs.Record.{rows_few}
 use Rattle.contents.proofs.Refusal.{writer-passed, writer-numbers}
 use Rattle.contents.proofs.Said.{few}
 use Rattle.statement.specs.Statement.{extra_of}
-use Rattle.settle.specs.Answer.{size_of, room_order, settle_order, answer_of, number_of, value_of}
+use Rattle.settle.specs.Answer.{size_of, room_order, settle_order, answer_of}
 use Rattle.settle.proofs.Answered.{settle-numbers}
-use Rattle.settle.specs.declared.Answer.TheVariants as Answer
 use Rattle.abi.specs.Packed.{Packs}
 
 -- ---- places
@@ -140,7 +137,7 @@ unfolding writer_order
 writer-near c room =
     let first = refusal (not (head_ok c.head)) 3 0 in
     let second = refusal (not (terms_ok (ruling c.form))) 14 0 in
-    let rows = write.held_order c in
+    let rows = held_order c in
     append-near (first ∷ second ∷ rows) (refusal (ltb room (row_place c c.head.rows)) 11 0 ∷ [])
     (append-near (first ∷ []) (second ∷ rows) (one-near (not (head_ok c.head)) 3)
     (λ e. append-near (second ∷ []) rows (one-near (not (terms_ok (ruling c.form))) 14)
@@ -187,24 +184,24 @@ module _ {A : Type 0} (refuse : ℕ → ℕ → A) (done : A) (number value : A 
 pub answer-packs : (s k : List ℕ) (room : ℕ) → Packs (number_of (answer_of s k room)) (value_of (answer_of s k room))
 unfolding answer_of
 answer-packs s k room =
-    by-list Answer.Refused (Answer.Settled (size_of s)) number_of value_of refl (λ a p. refl) (λ a p. refl)
+    by-list Refused (Accepted (size_of s)) number_of value_of refl (λ a p. refl) (λ a p. refl)
     (settle_order s k room) (settle-numbers s k room) (settle-near s k room) (λ e. omega (arith, settled-few s k room e, extra-most (states s)))
 
-pub written-packs : (c : Contents) (room : ℕ) → Packs (write.number_of (written_of c room)) (write.value_of (written_of c room))
+pub written-packs : (c : Contents) (room : ℕ) → Packs (number_of (written_of c room)) (value_of (written_of c room))
 unfolding written_of
 written-packs c room =
-    by-list written.Refused (written.Bytes (row_place c c.head.rows)) write.number_of write.value_of refl (λ a p. refl) (λ a p. refl)
+    by-list Refused (Accepted (row_place c c.head.rows)) number_of value_of refl (λ a p. refl) (λ a p. refl)
     (writer_order c room) (writer-numbers c room) (writer-near c room)
     (λ e. omega (arith, rows_few c.head (writer-passed c room e).head, start-most c.form.stated))
 
-pub rewritten-packs : (s : List ℕ) (room : ℕ) → Packs (write.number_of (rewritten_of s room)) (write.value_of (rewritten_of s room))
+pub rewritten-packs : (s : List ℕ) (room : ℕ) → Packs (number_of (rewritten_of s room)) (value_of (rewritten_of s room))
 unfolding rewritten_of
 rewritten-packs s room = go (interval_fault s).applies refl
   where
-    answer : Bool → Written
-    answer b = cond b (written.Refused (interval_fault s).number (interval_fault s).place) (written_of (reading_of s).contents room)
+    answer : Bool → Verdict
+    answer b = cond b (Refused (interval_fault s).number (interval_fault s).place) (written_of (reading_of s).contents room)
 
-    go : (b : Bool) → (interval_fault s).applies ≡ b → Packs (write.number_of (answer b)) (write.value_of (answer b))
+    go : (b : Bool) → (interval_fault s).applies ≡ b → Packs (number_of (answer b)) (value_of (answer b))
     go true e =
         record { number_fits = (first-number 1 last_number (interval_order s) (interval-numbers s) e).1; value_fits = omega (arith, interval-near s) }
     go false e = written-packs (reading_of s).contents room

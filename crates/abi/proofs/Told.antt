@@ -1,8 +1,7 @@
 -- What the exported functions answer, in the shape in which their code has it.
---   settled-packs, refused-packs, bytes-packs, unwritten-packs          number and value fit their word, case by case
---   part-packs                                                          so does the length of a row
---   settled-told, refused-told, bytes-told, unwritten-told              the word is that of the answer
---   short-told, short-buffer, copied-told, copied-made                  no room for the row, and room
+--   settled-packs, rewritten-fits, short-packs, part-packs      number and value fit their word
+--   settled-told, rewritten-told                                the word is that of the answer
+--   short-told, short-buffer, copied-told, copied-made          no room for the row, and room
 use Prim.Native.Nat.{ℕ, ◌≤◌, ◌<◌, zero-le}
 use mathlib.Core.Path.{◌≡◌}
 use mathlib.Core.List.{List}
@@ -11,51 +10,30 @@ use lib.ListN.{length}
 use borrow.Author.Tests.{lt-ltb, le-ltb}
 use Rattle.records.specs.Buffer.{put}
 use Rattle.files.specs.Counting.{counting_bytes}
+use Rattle.files.specs.Verdict.{Verdict, number_of, value_of}
 use Rattle.contents.specs.Content.{rewritten_of}
-use Rattle.contents.specs.Content as write
-use Rattle.contents.specs.declared.Written.{Written}
-use Rattle.contents.specs.declared.Written.TheVariants as written
-use Rattle.settle.specs.Answer.{answer_of, number_of, value_of}
-use Rattle.settle.specs.declared.Answer.{Answer}
-use Rattle.settle.specs.declared.Answer.TheVariants as answer
+use Rattle.settle.specs.Answer.{answer_of}
 use Rattle.abi.specs.Packed.{packed, Packs, settled, copied, copied_buffer, rewritten}
 use Rattle.abi.proofs.Small.{answer-packs, rewritten-packs, part-short}
 
-module _ (s k : List ℕ) (room : ℕ) (a : Answer) (is : a ≡ answer_of s k room) where
-  packs : Packs (number_of a) (value_of a)
-  packs = rw is (answer-packs s k room)
+module _ (s k : List ℕ) (room : ℕ) (a : Verdict) (is : a ≡ answer_of s k room) where
+  pub settled-packs : Packs (number_of a) (value_of a)
+  settled-packs = rw is (answer-packs s k room)
 
-  pub settled-packs : (count : ℕ) → a ≡ answer.Settled count → Packs 0 count
-  settled-packs count e = rw e at packs
-
-  pub refused-packs : (number place : ℕ) → a ≡ answer.Refused number place → Packs number place
-  refused-packs number place e = rw e at packs
-
-  pub settled-told : (count r : ℕ) → a ≡ answer.Settled count → r ≡ packed 0 count → r ≡ settled s k room
+  pub settled-told : (r : ℕ) → r ≡ packed (number_of a) (value_of a) → r ≡ settled s k room
   unfolding settled
-  settled-told count r e p = rw (← is, e) p
+  settled-told r p = rw (← is) p
 
-  pub refused-told : (number place r : ℕ) → a ≡ answer.Refused number place → r ≡ packed number place → r ≡ settled s k room
-  unfolding settled
-  refused-told number place r e p = rw (← is, e) p
+module _ (s : List ℕ) (room : ℕ) (w : Verdict) (is : w ≡ rewritten_of s room) where
+  pub rewritten-fits : Packs (number_of w) (value_of w)
+  rewritten-fits = rw is (rewritten-packs s room)
 
-module _ (s : List ℕ) (room : ℕ) (w : Written) (is : w ≡ rewritten_of s room) where
-  packs-rewritten : Packs (write.number_of w) (write.value_of w)
-  packs-rewritten = rw is (rewritten-packs s room)
-
-  pub bytes-packs : (count : ℕ) → w ≡ written.Bytes count → Packs 0 count
-  bytes-packs count e = rw e at packs-rewritten
-
-  pub unwritten-packs : (number place : ℕ) → w ≡ written.Refused number place → Packs number place
-  unwritten-packs number place e = rw e at packs-rewritten
-
-  pub bytes-told : (count r : ℕ) → w ≡ written.Bytes count → r ≡ packed 0 count → r ≡ rewritten s room
+  pub rewritten-told : (r : ℕ) → r ≡ packed (number_of w) (value_of w) → r ≡ rewritten s room
   unfolding rewritten
-  bytes-told count r e p = rw (← is, e) p
+  rewritten-told r p = rw (← is) p
 
-  pub unwritten-told : (number place r : ℕ) → w ≡ written.Refused number place → r ≡ packed number place → r ≡ rewritten s room
-  unfolding rewritten
-  unwritten-told number place r e p = rw (← is, e) p
+pub short-packs : Packs 11 0
+short-packs = record { number_fits = omega arith; value_fits = omega arith }
 
 module _ (s k : List ℕ) (id : ℕ) (bytes : List ℕ) (is : bytes ≡ counting_bytes s k id) where
   pub part-packs : Packs 0 (length bytes)

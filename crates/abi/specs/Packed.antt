@@ -2,10 +2,10 @@
 use Rattle.std.specs.Prelude.{ℕ, ◌+◌, ◌*◌, ◌≤◌, ◌<◌, cond, List, ltb, length}
 use Rattle.columns.specs.Checks.{last_number}
 use Rattle.records.specs.Buffer.{put}
+use Rattle.files.specs.Verdict.{number_of, value_of}
 use Rattle.files.specs.Counting.{counting_bytes}
 use Rattle.contents.specs.Content.{rewritten_of}
-use Rattle.contents.specs.Content as writing
-use Rattle.settle.specs.Answer.{answer_of, number_of, value_of}
+use Rattle.settle.specs.Answer.{answer_of}
 
 -- the number in the upper 32 bits, the value in the lower
 abbrev pub packed : ℕ → ℕ → ℕ
@@ -37,4 +37,4 @@ copied_buffer s k id out =
 unfoldable pub rewritten : List ℕ → ℕ → ℕ
 rewritten s room =
     let w = rewritten_of s room in
-    packed (writing.number_of w) (writing.value_of w)
+    packed (number_of w) (value_of w)

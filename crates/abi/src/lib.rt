@@ -4,20 +4,31 @@
 #![tactic(auto)]
 
 ghost use Rattle.std.specs.Prelude.{◌≡◌, length};
+ghost use Rattle.files.specs.Verdict.{number_of, value_of, told};
 ghost use Rattle.settle.specs.Answer.{buffer_after};
 ghost use Rattle.contents.specs.Content.{rewritten_buffer};
 ghost use Rattle.abi.specs.Packed.{packed, Packs, settled, copied, copied_buffer, rewritten};
 
-use contents::Written;
+use files::{Fault, Refusal};
 use records::put_bytes;
-use settle::Answer;
 
-// Number and value in one word.
+// Number and value in one word, as C has them (include/wheatrudder.h).
 fn pack(number: usize, value: usize) -> u64
     requires { Packs number value }
     ensures { result ≡ packed number value }
 {
     (number as u64) * 4294967296 + (value as u64)
+}
+
+// The word of an answer.
+fn word(answer: Result<usize, Refusal>) -> u64
+    requires { Packs (number_of (told answer)) (value_of (told answer)) }
+    ensures { result ≡ packed (number_of (told answer)) (value_of (told answer)) }
+{
+    match answer {
+        Ok(count) => pack(0, count),
+        Err(refusal) => pack(refusal.fault.number(), refusal.place),
+    }
 }
 
 // Settles an interval file with its correction (length 0: none) into a lent buffer.
@@ -30,11 +41,7 @@ pub extern "C" fn wheatrudder_settle<'a>(
     ensures value { result ≡ settled interval.now correction.now (length statement.old) }
     ensures statement_after { statement.new ≡ buffer_after interval.now correction.now statement.old }
 {
-    let answer = settle::settle(interval, correction, statement);
-    match answer {
-        Answer::Settled(count) => pack(0, count),
-        Answer::Refused(number, place) => pack(number, place),
-    }
+    word(settle::settle(interval, correction, statement))
 }
 
 // Copies the bytes that count for a row into a lent buffer.
@@ -50,10 +57,10 @@ pub extern "C" fn wheatrudder_row<'a>(
 {
     let part = files::counting(interval, correction, id);
     if out.len() < part.len() {
-        return pack(11, 0);
+        return word(Err(Refusal::from(Fault::ShortBuffer)));
     }
     put_bytes(out, 0, part);
-    pack(0, part.len())
+    word(Ok(part.len()))
 }
 
 // Reads an interval file and writes what it says again into a lent buffer, row by row.
@@ -62,9 +69,5 @@ pub extern "C" fn wheatrudder_rewrite(interval: &[u8], out: &mut [u8]) -> u64
     ensures value { result ≡ rewritten interval.now (length out.old) }
     ensures out_after { out.new ≡ rewritten_buffer interval.now out.old }
 {
-    let written = contents::rewrite(interval, out);
-    match written {
-        Written::Bytes(count) => pack(0, count),
-        Written::Refused(number, place) => pack(number, place),
-    }
+    word(contents::rewrite(interval, out))
 }

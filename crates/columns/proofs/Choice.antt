@@ -3,14 +3,10 @@
 --   not_yes, not-no      a test that code negates, told by a call that answers the definition's test
 --   told-no, told-yes    the definition's test itself, where code negated a call's answer
 --   differ, agree        a negated test of equality
---   counted_is, counted-fits      a figure times the 1 or 0 of a test
 --   checks               all of these, with the orders of numbers, as one set
 use mathlib.Core.Path.{◌≡◌, sym, ap, ◌∙◌}
-use Prim.Native.Nat.{ℕ, ◌*◌}
+use Prim.Native.Nat.{ℕ}
 use mathlib.Core.Bool.{Bool, true, false, not, cond}
-use native.Mathlib.Omega.{arith}
-use mir.Syntax.{w32}
-use mir.Val.{Fits, bool_byte}
 use lib.Dec.{eqb}
 use borrow.Author.Tests.{lt-ltb, le-ltb, le-leb, lt-leb, eq-eqb, ne_eqb, not-true, not-false}
 
@@ -37,13 +33,5 @@ differ a b h = ap not (ne_eqb a b h)
 
 pub agree : (a b : ℕ) → a ≡ b → not (eqb a b) ≡ false
 agree a b e = ap not (eq-eqb a b e)
-
-pub counted_is : (x : ℕ) (t : Bool) → x * bool_byte t ≡ cond t x 0
-counted_is x true = omega arith
-counted_is x false = omega arith
-
-pub counted-fits : (x : ℕ) (t : Bool) → Fits w32 x → Fits w32 (x * bool_byte t)
-counted-fits x true h = omega arith
-counted-fits x false h = omega arith
 
 pub ruleset checks = (yes, no, not_yes, not-no, told-no, told-yes, differ, agree, lt-ltb, le-ltb, le-leb, lt-leb, eq-eqb, ne_eqb)

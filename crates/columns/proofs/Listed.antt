@@ -1,5 +1,6 @@
 -- A list of the positions below n that pass a test (specs/Lists.antt), and the loops that make it and go over it.
 --     one-is, cond-bit     a test as a number
+--     from_bit, from_one   the same of a number that std made of a test
 --     lists-none           the list of nobody
 --     lists-room           there is a place in the list for each position
 --     lists-next           one position more, listed if it passes
@@ -7,7 +8,7 @@
 --     Listing              the invariant of the loop that makes the list: of the positions below i those that pass are listed
 --     listing_none, listing-room, listing-fits, listing-next, listing-end     before the first position, room for one more, its count fits,
 --                          one position more, after the last one
---     Found, found         which position stands at place j
+--     Found, found_in, found     which position stands at place j
 --     found_at             a position that passes stands at its place
 --     sum-listed           a sum over the list is the sum over the positions that pass
 --     front-count          how many that pass stand before position k
@@ -37,6 +38,12 @@ use Rattle.columns.specs.Lists.{Lists}
 pub one-is : (t : Bool) → (bool_byte t ≡ bit t) × (bool_byte t ≤ 1)
 one-is true = (refl, omega arith)
 one-is false = (refl, omega arith)
+
+pub from_bit : (t : Bool) (b : ℕ) → b ≡ bool_byte t → b ≡ bit t
+from_bit t b e = e ∙ (one-is t).0
+
+pub from_one : (t : Bool) (b : ℕ) → b ≡ bool_byte t → b ≤ 1
+from_one t b e = omega (arith, e, one-is t)
 
 pub cond-bit : (t : Bool) → cond t 1 0 ≡ bit t
 cond-bit true = refl
@@ -115,11 +122,15 @@ seat (suc n) p j l =
     last q (inl on) = (n, record { inside = omega arith; passes = on; place = omega (arith, more, ap bit on) })
     last q (inr off) = absurd (omega (arith, more, ap bit off))
 
-pub found : (n : ℕ) (p : ℕ → Bool) (list : List ℕ) (m j : ℕ) → Lists n p list m → j < m → Found n p j (at list j)
-found n p list m j lists l =
-    let s = seat n p j (omega (arith, lists.many)) in
-    let e : at list j ≡ s.0 = ap (at list) (sym s.1.place) ∙ lists.places s.0 s.1.inside s.1.passes in
+pub found_in : (n : ℕ) (p : ℕ → Bool) (list : List ℕ) (j : ℕ) → Below n (λ i. p i ≡ true → at list (count_to i p) ≡ i) → j < count_to n p
+    → Found n p j (at list j)
+found_in n p list j places l =
+    let s = seat n p j l in
+    let e : at list j ≡ s.0 = ap (at list) (sym s.1.place) ∙ places s.0 s.1.inside s.1.passes in
     rw e s.1
+
+pub found : (n : ℕ) (p : ℕ → Bool) (list : List ℕ) (m j : ℕ) → Lists n p list m → j < m → Found n p j (at list j)
+found n p list m j lists l = found_in n p list j lists.places (omega (arith, lists.many))
 
 pub found_at : (n : ℕ) (p : ℕ → Bool) (i : ℕ) → i < n → p i ≡ true → Found n p (count_to i p) i
 found_at n p i l on = record { inside = l; passes = on; place = refl }

@@ -1,5 +1,5 @@
 -- A list of positions: those that pass a test, so that a loop goes over them alone.
-use Rattle.std.specs.Prelude.{ℕ, ◌≡◌, Bool, true, List, length}
+use Rattle.std.specs.Prelude.{ℕ, ◌≡◌, Bool, true, List, Some, length, slice_get}
 use Rattle.columns.specs.Sum.{count_to}
 use Rattle.columns.specs.Table.{at, Below}
 
@@ -9,3 +9,7 @@ pub record Lists (n : ℕ) (test : ℕ → Bool) (list : List ℕ) (m : ℕ) : T
   pub long : length list ≡ 256
   pub many : m ≡ count_to n test
   pub places : Below n (λ i. test i ≡ true → at list (count_to i test) ≡ i)
+
+-- `answers x b` is that a test of rows may say b of row x: at each row of the column it says what `test` says of its position
+abbrev pub Tells : {T : Type 0} → List T → (T → Bool → Type 0) → (ℕ → Bool) → Type 0
+Tells {T} rows answers test = (i : ℕ) (x : T) (b : Bool) → slice_get rows i ≡ Some x → answers x b → b ≡ test i

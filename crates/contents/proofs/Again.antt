@@ -26,13 +26,11 @@ use Rattle.files.specs.Order.{interval_order, interval_fault, verdict}
 use Rattle.files.specs.declared.Form.{Form}
 use Rattle.files.specs.declared.Head.{Head}
 use Rattle.files.specs.declared.Row.{Row}
-use Rattle.files.specs.declared.Verdict.{Verdict}
-use Rattle.files.specs.declared.Verdict.TheVariants.{Accepted, Refused}
+use Rattle.files.specs.Verdict.{Verdict, Accepted, Refused}
 use Rattle.files.proofs.Answer.{accepted-of, refused-of}
 use Rattle.files.proofs.Walked.{start-told}
 use Rattle.contents.specs.Content.{contents_of, fields_from, fields_in, contents_bytes, with_rows, rows_again}
 use Rattle.contents.specs.Content.{writer_fault, written_of, written_buffer, rewritten_of, rewritten_buffer}
-use Rattle.contents.specs.declared.Written.TheVariants as written
 use Rattle.contents.proofs.Refusal.{room-decides, passed-writer}
 use Rattle.contents.proofs.Walk.{Placed, place-next, place-ends}
 use Rattle.contents.proofs.Said.{head_of, few, kept, rules-ok, file-held, file-said}
@@ -107,7 +105,7 @@ again-rows s l₀ start n l i from w h = rw (← from) (place-ends l₀ start (f
 
 -- a file by its verdict, and the buffer by the room that there is
 module _ (s : List ℕ) (v : Verdict) (p : v ≡ verdict (row_count s) (interval_fault s)) where
-  pub again-refused : (number place room : ℕ) → v ≡ Refused number place → written.Refused number place ≡ rewritten_of s room
+  pub again-refused : (number place room : ℕ) → v ≡ Refused number place → Refused number place ≡ rewritten_of s room
   unfolding rewritten_of
   again-refused number place room q = rw (refused-of (row_count s) number place (interval_fault s) (sym p ∙ q))
 
@@ -139,7 +137,7 @@ module _ (s : List ℕ) (v : Verdict) (p : v ≡ verdict (row_count s) (interval
       from : start ≡ rows_from s
       from = start-told s form start g o
 
-      pub again-short : (room : ℕ) → room < start + n * row_size → written.Refused 11 0 ≡ rewritten_of s room
+      pub again-short : (room : ℕ) → room < start + n * row_size → Refused 11 0 ≡ rewritten_of s room
       unfolding rewritten_of written_of
       again-short room l = rw (passes, file-said s passes, short-fault s passes room (omega (arith, rows, from)))
 
@@ -150,7 +148,7 @@ module _ (s : List ℕ) (v : Verdict) (p : v ≡ verdict (row_count s) (interval
       pub again-room : (room : ℕ) → start + n * row_size ≤ room → row_start s n ≤ room
       again-room room l = omega (arith, from)
 
-      pub again-bytes : (room : ℕ) → start + n * row_size ≤ room → written.Bytes (start + n * row_size) ≡ rewritten_of s room
+      pub again-bytes : (room : ℕ) → start + n * row_size ≤ room → Accepted (start + n * row_size) ≡ rewritten_of s room
       unfolding rewritten_of written_of contents_of rows_from
       again-bytes room l = rw (passes, file-said s passes, roomy-fault s passes room (omega (arith, rows, from)), rows, from)
 

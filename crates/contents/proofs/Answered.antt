@@ -25,16 +25,12 @@ use Rattle.files.specs.Range.{head_ok, terms_ok}
 use Rattle.files.specs.Order.{interval_order, interval_fault, verdict}
 use Rattle.files.specs.declared.Head.{Head}
 use Rattle.files.specs.declared.Terms.{Terms}
-use Rattle.files.specs.declared.Verdict.{Verdict}
-use Rattle.files.specs.declared.Verdict.TheVariants.{Accepted, Refused}
+use Rattle.files.specs.Verdict.{Verdict, Accepted, Refused}
 use Rattle.files.proofs.Answer.{accepted-of, refused-of}
 use Rattle.files.proofs.Passed.{from-least}
 use Rattle.contents.specs.Content.{zero_contents, contents_of, reading_of, fields_in, contents_bytes, with_rows}
 use Rattle.contents.specs.Content.{row_place, held_order, written_of, written_buffer}
 use Rattle.contents.specs.declared.Contents.{Contents}
-use Rattle.contents.specs.declared.Reading.{Reading}
-use Rattle.contents.specs.declared.Written.{Written}
-use Rattle.contents.specs.declared.Written.TheVariants as written
 use Rattle.contents.proofs.Record.{rows_few}
 use Rattle.contents.proofs.Headed.{head-length}
 use Rattle.contents.proofs.Refusal.{Writable, head-refuses, terms-refuse, rows-refuse, room-decides, writer-passed, unwritten_of, written-of}
@@ -43,25 +39,25 @@ use Rattle.contents.proofs.Said.{head_of, few}
 pub rows-few-told : (h : Head) (b : Bool) → b ≡ head_ok h → not b ≡ false → h.rows ≤ 256
 rows-few-told h b e t = rows_few h (sym e ∙ not-false b t)
 
-pub answer-3 : (c : Contents) (room : ℕ) (b : Bool) → b ≡ head_ok c.head → not b ≡ true → written.Refused 3 0 ≡ written_of c room
+pub answer-3 : (c : Contents) (room : ℕ) (b : Bool) → b ≡ head_ok c.head → not b ≡ true → Refused 3 0 ≡ written_of c room
 unfolding written_of
 answer-3 c room b e t = rw (head-refuses c room (sym e ∙ not-true b t))
 
 -- the head passed, then the terms by which its form rules
-module _ (c : Contents) (b : Bool) (e : b ≡ head_ok c.head) (t : not b ≡ false) (rules : Terms) (g : rules ≡ ruling c.form)
+module _ (c : Contents) (b : Bool) (e : b ≡ head_ok c.head) (t : b ≡ true) (rules : Terms) (g : rules ≡ ruling c.form)
     (d : Bool) (f : d ≡ terms_ok rules) where
   ok : head_ok c.head ≡ true
-  ok = sym e ∙ not-false b t
+  ok = sym e ∙ t
 
-  pub answer-14 : (room : ℕ) → not d ≡ true → written.Refused 14 0 ≡ written_of c room
+  pub answer-14 : (room : ℕ) → not d ≡ true → Refused 14 0 ≡ written_of c room
   unfolding written_of
   answer-14 room u = rw (terms-refuse c room ok (rw (← g) (sym f ∙ not-true d u)))
 
-  module _ (u : not d ≡ false) (v : Verdict) (p : v ≡ verdict c.head.rows (first_refusal (held_order c))) where
+  module _ (u : d ≡ true) (v : Verdict) (p : v ≡ verdict c.head.rows (first_refusal (held_order c))) where
     sound : terms_ok (ruling c.form) ≡ true
-    sound = rw (← g) (sym f ∙ not-false d u)
+    sound = rw (← g) (sym f ∙ u)
 
-    pub answer-6-7 : (room number place : ℕ) → v ≡ Refused number place → written.Refused number place ≡ written_of c room
+    pub answer-6-7 : (room number place : ℕ) → v ≡ Refused number place → Refused number place ≡ written_of c room
     unfolding written_of
     answer-6-7 room number place q =
         rw (rows-refuse c room ok sound number place (refused-of c.head.rows number place (first_refusal (held_order c)) (sym p ∙ q)))
@@ -74,22 +70,22 @@ module _ (c : Contents) (b : Bool) (e : b ≡ head_ok c.head) (t : not b ≡ fal
       count-few = omega (arith, rows_few c.head ok, passed.1)
 
       module _ (start : ℕ) (from : start ≡ start_of c.form.stated) (room : ℕ) where
-        pub answer-11 : room < start + count * row_size → written.Refused 11 0 ≡ written_of c room
+        pub answer-11 : room < start + count * row_size → Refused 11 0 ≡ written_of c room
         unfolding written_of first_refusal
         answer-11 l =
             rw (room-decides c room ok sound passed.0, passed.1, ← from, lt-ltb room (start + count * row_size) l)
 
-        pub answer-0 : start + count * row_size ≤ room → written.Bytes (start + count * row_size) ≡ written_of c room
+        pub answer-0 : start + count * row_size ≤ room → Accepted (start + count * row_size) ≡ written_of c room
         unfolding written_of first_refusal
         answer-0 l =
             rw (room-decides c room ok sound passed.0, passed.1, ← from, le-ltb room (start + count * row_size) l)
 
-module _ (c : Contents) (out : List ℕ) (w : Written) (p : w ≡ written_of c (length out)) where
-  pub refused-buffer : (number place : ℕ) → w ≡ written.Refused number place → out ≡ written_buffer c out
+module _ (c : Contents) (out : List ℕ) (w : Verdict) (p : w ≡ written_of c (length out)) where
+  pub refused-buffer : (number place : ℕ) → w ≡ Refused number place → out ≡ written_buffer c out
   unfolding written_buffer
   refused-buffer number place q = rw (unwritten_of c (length out) number place (sym p ∙ q))
 
-  module _ (n : ℕ) (q : w ≡ written.Bytes n) where
+  module _ (n : ℕ) (q : w ≡ Accepted n) where
     writable : Writable c (length out)
     writable = writer-passed c (length out) (written-of c (length out) n (sym p ∙ q))
 
@@ -122,17 +118,17 @@ module _ (s : List ℕ) (long : row_start s (row_count s) ≤ length s) where
 
 module _ (s : List ℕ) (v : Verdict) (p : v ≡ verdict (row_count s) (interval_fault s)) where
   pub read-refused : (number place : ℕ) (z : Contents) → v ≡ Refused number place → z ≡ zero_contents
-      → ◌≡◌ {A = Reading} (record { verdict = v; contents = z }) (reading_of s)
+      → (v ≡ (reading_of s).verdict) × (z ≡ (reading_of s).contents)
   unfolding reading_of
-  read-refused number place z q e = rw (p, refused-of (row_count s) number place (interval_fault s) (sym p ∙ q), e)
+  read-refused number place z q e = (p, rw (refused-of (row_count s) number place (interval_fault s) (sym p ∙ q)) e)
 
   module _ (n : ℕ) (q : v ≡ Accepted n) where
     accepted : Passes (interval_order s)
     accepted = (accepted-of (row_count s) n (interval_fault s) (sym p ∙ q)).0
 
-    pub read_done : (c : Contents) → c ≡ contents_of s → ◌≡◌ {A = Reading} (record { verdict = v; contents = c }) (reading_of s)
+    pub read_done : (c : Contents) → c ≡ contents_of s → (v ≡ (reading_of s).verdict) × (c ≡ (reading_of s).contents)
     unfolding reading_of
-    read_done c e = rw (p, accepted, e)
+    read_done c e = (p, rw accepted e)
 
     pub read-few : row_count s ≤ 256
     read-few = few s accepted

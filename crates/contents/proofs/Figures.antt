@@ -28,7 +28,7 @@ use Rattle.files.specs.declared.Form.{Form}
 use Rattle.files.specs.declared.Row.{Row}
 use Rattle.contents.specs.Content.{zero_row, contents_of, reading_of, contents_bytes, row_checks_in, writer_order, written_of, written_buffer}
 use Rattle.contents.specs.Content.{rewritten_of, rewritten_buffer}
-use Rattle.contents.specs.declared.Written.TheVariants.{Bytes, Refused}
+use Rattle.files.specs.Verdict.{Accepted, Refused}
 use Rattle.contents.specs.declared.Contents.{Contents}
 
 -- the rows, and the file that states no terms
@@ -131,7 +131,7 @@ unfolding written_of writer_order row_by_row row_checks_in row_checks previous f
 x-refused = (refl, refl)
 
 pub x-again :
-    (rewritten_of file 80 ≡ Bytes 78)
+    (rewritten_of file 80 ≡ Accepted 78)
     × (rewritten_buffer file (table 80 (λ i. 170)) ≡ file ++ (170 ∷ 170 ∷ []))
     × (rewritten_of file 77 ≡ Refused 11 0)
     × (rewritten_buffer file (table 77 (λ i. 170)) ≡ table 77 (λ i. 170))
@@ -177,7 +177,7 @@ unfolding written_of writer_order row_by_row row_checks_in row_checks previous f
 g-refused = (refl, refl, refl, refl, refl)
 
 pub g-again :
-    (rewritten_of stated 89 ≡ Bytes 87)
+    (rewritten_of stated 89 ≡ Accepted 87)
     × (rewritten_buffer stated (table 89 (λ i. 170)) ≡ stated ++ (170 ∷ 170 ∷ []))
     × (rewritten_of stated 86 ≡ Refused 11 0)
     × (rewritten_buffer stated (table 86 (λ i. 170)) ≡ table 86 (λ i. 170))

@@ -22,7 +22,7 @@ use Rattle.files.specs.Walk.{id_of}
 use Rattle.files.specs.Order.{front_checks, head_checks, row_checks, row_checks_at, row_checks_of, rows_order, own_order, interval_order}
 use Rattle.files.specs.declared.Head.{Head}
 use Rattle.files.specs.declared.Row.{Row}
-use Rattle.files.specs.declared.Verdict.TheVariants.{Accepted}
+use Rattle.files.specs.Verdict.{Accepted}
 use Rattle.contents.specs.Content.{zero_row, contents_of, reading_of, row_place, contents_bytes, id_in}
 use Rattle.contents.specs.InRange.{InRange}
 use Rattle.contents.specs.declared.Contents.{Contents}

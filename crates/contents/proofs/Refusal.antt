@@ -26,11 +26,10 @@ use Rattle.files.specs.declared.Row.{Row}
 use Rattle.files.specs.declared.Terms.{Terms}
 use Rattle.files.proofs.Ranges.{row-ranges}
 use Rattle.contents.specs.Content.{zero_row, id_in, row_place, row_checks_in, held_order}
-use Rattle.contents.specs.Content.{writer_order, writer_fault, written_of, number_of, value_of}
+use Rattle.contents.specs.Content.{writer_order, writer_fault, written_of}
 use Rattle.contents.specs.InRange.{InRange}
 use Rattle.contents.specs.declared.Contents.{Contents}
-use Rattle.contents.specs.declared.Written.{Written}
-use Rattle.contents.specs.declared.Written.TheVariants.{Bytes, Refused}
+use Rattle.files.specs.Verdict.{Verdict, Accepted, Refused, number_of, value_of}
 
 -- ---- the first check that applies
 
@@ -112,13 +111,13 @@ module _ (c : Contents) (c-in : InRange c) where
 
 -- ---- the answer
 
-apart : (n a p : ℕ) → Refused a p ≡ Bytes n → ⊥
+apart : (n a p : ℕ) → Refused a p ≡ Accepted n → ⊥
 apart n a p e = let z : ◌≡◌ {A = ℕ} 0 1 = cc in omega arith
 
 module _ (c : Contents) (room : ℕ) where
   -- the answer where nothing refuses
-  abbrev done : Written
-  done = Bytes (row_place c c.head.rows)
+  abbrev done : Verdict
+  done = Accepted (row_place c c.head.rows)
 
   tells : Tells Refused done number_of value_of
   tells = record { given = refl; numbers = λ a p. refl; places = λ a p. refl; differs = apart (row_place c c.head.rows) }
@@ -127,9 +126,9 @@ module _ (c : Contents) (room : ℕ) where
   unfolding written_of
   unwritten_of = checks.refused-of Refused done number_of value_of tells (writer_fault c room)
 
-  pub written-of : (n : ℕ) → written_of c room ≡ Bytes n → Passes (writer_order c room)
+  pub written-of : (n : ℕ) → written_of c room ≡ Accepted n → Passes (writer_order c room)
   unfolding written_of
-  written-of n h = (checks.accepted-of Refused done (writer_fault c room) (Bytes n) (apart n) h).0
+  written-of n h = (checks.accepted-of Refused done (writer_fault c room) (Accepted n) (apart n) h).0
 
   pub writer-numbers : numbers_in 1 last_number (writer_order c room) ≡ true
   unfolding writer_order row_checks_in row_checks

@@ -18,13 +18,12 @@ use Rattle.records.specs.Buffer.{put}
 use Rattle.records.proofs.Buffer.{put-taken}
 use Rattle.files.specs.Form.{rows_from}
 use Rattle.files.specs.Order.{interval_order}
-use Rattle.files.specs.Order as file
-use Rattle.files.specs.declared.Verdict.TheVariants.{Accepted}
+use Rattle.files.specs.Verdict as file
+use Rattle.files.specs.Verdict.{Accepted}
 use Rattle.files.proofs.Answer.{interval-numbers}
 use Rattle.contents.specs.Content.{contents_of, reading_of, row_place, contents_bytes, writer_fault, written_of, written_buffer, rewritten_of, rewritten_buffer}
 use Rattle.contents.specs.InRange.{InRange}
 use Rattle.contents.specs.declared.Contents.{Contents}
-use Rattle.contents.specs.declared.Written.TheVariants.{Bytes}
 use Rattle.contents.proofs.Rows.{contents-length}
 use Rattle.contents.proofs.Refusal.{passed-writer, in-range-writable}
 use Rattle.contents.proofs.Said.{head_of, file-again, file-in-range, file-said}
@@ -34,7 +33,7 @@ module _ (c : Contents) (c-in : InRange c) (out : List ℕ) (room : row_place c 
   no-check : writer_fault c (length out) ≡ none
   no-check = passed-writer c (length out) (in-range-writable c c-in (length out) room)
 
-  pub contents-written : written_of c (length out) ≡ Bytes (row_place c c.head.rows)
+  pub contents-written : written_of c (length out) ≡ Accepted (row_place c c.head.rows)
   unfolding written_of
   contents-written = rw no-check
 
@@ -61,7 +60,7 @@ module _ (s : List ℕ) (accepted : file.number_of (reading_of s).verdict ≡ 0)
   long = (head_of s passes).fits
 
   module _ (out : List ℕ) (room : length s ≤ length out) where
-    pub file-rewritten : written_of (reading_of s).contents (length out) ≡ Bytes (length s)
+    pub file-rewritten : written_of (reading_of s).contents (length out) ≡ Accepted (length s)
     file-rewritten = rw (file-said s passes, long) (contents-written (contents_of s) (file-in-range s passes bytes) out (omega (arith, long)))
 
     pub file-buffer : written_buffer (reading_of s).contents out ≡ put out 0 s
@@ -72,7 +71,7 @@ module _ (s : List ℕ) (accepted : file.number_of (reading_of s).verdict ≡ 0)
     pub file-front : take (length s) (written_buffer (reading_of s).contents out) ≡ s
     file-front = rw file-buffer (put-taken out 0 s (omega arith))
 
-    pub file-again-bytes : rewritten_of s (length out) ≡ Bytes (length s)
+    pub file-again-bytes : rewritten_of s (length out) ≡ Accepted (length s)
     unfolding rewritten_of
     file-again-bytes = rw passes file-rewritten
 

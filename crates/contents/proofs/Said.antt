@@ -31,11 +31,11 @@ use Rattle.files.specs.Range.{terms_ok, row_ok}
 use Rattle.files.specs.Order.{head_checks, own_order, interval_order}
 use Rattle.files.specs.declared.Row.{Row}
 use Rattle.files.specs.declared.Terms.{Terms}
-use Rattle.files.specs.declared.Verdict.TheVariants.{Accepted}
+use Rattle.files.specs.Verdict.{Accepted}
 use Rattle.files.proofs.Passed.{HeadPassed, head_passed, Passed, rows-passed}
 use Rattle.contents.specs.Content.{zero_row, contents_of, reading_of, fields_in, contents_bytes, id_in, held_order}
 use Rattle.contents.specs.InRange.{InRange}
-use Rattle.contents.specs.declared.Reading.{Reading}
+use Rattle.contents.specs.Content.{Reading}
 use Rattle.contents.proofs.Walk.{file_row}
 use Rattle.contents.proofs.Record.{row-said, rows_few}
 use Rattle.contents.proofs.Headed.{head-again}

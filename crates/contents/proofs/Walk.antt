@@ -30,7 +30,7 @@ use Rattle.files.specs.declared.Form.{Form}
 use Rattle.files.specs.declared.Head.{Head}
 use Rattle.files.specs.declared.Row.{Row}
 use Rattle.files.specs.declared.Terms.{Terms}
-use Rattle.files.specs.declared.Verdict.TheVariants.{Accepted, Refused}
+use Rattle.files.specs.Verdict.{Accepted, Refused}
 use Rattle.files.proofs.Walked.{start-told}
 use Rattle.contents.specs.Content.{zero_row, contents_of, fields_in, row_place, with_rows, id_in, row_checks_in, held_order}
 use Rattle.contents.specs.declared.Contents.{Contents}

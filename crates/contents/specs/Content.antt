@@ -10,14 +10,12 @@ use Rattle.files.specs.Layout.{letter_r, row_widths, row_size, head_at, row_at, 
 use Rattle.files.specs.Form.{ruling, form_of, start_of, rows_from, row_start, head_bytes}
 use Rattle.files.specs.Range.{head_ok, terms_ok}
 use Rattle.files.specs.Order.{row_checks, interval_fault, verdict}
+use Rattle.files.specs.Verdict.{Verdict, Accepted, Refused}
 use Rattle.files.specs.declared.Form.{Form}
 use Rattle.files.specs.declared.Head.{Head}
 use Rattle.files.specs.declared.Row.{Row}
 use Rattle.files.specs.declared.Terms.{Terms}
 use Rattle.contents.specs.declared.Contents.{Contents}
-use Rattle.contents.specs.declared.Reading.{Reading}
-use Rattle.contents.specs.declared.Written.{Written}
-use Rattle.contents.specs.declared.Written.TheVariants.{Bytes, Refused}
 
 -- the row and the contents that are all zero
 abbrev pub zero_row : Row
@@ -63,6 +61,11 @@ contents_of s =
       head = head_at s;
       rows = table 256 (λ i. cond (ltb i (row_count s)) (row_at s (row_start s i)) zero_row);
     }
+
+-- what a reader answers: a verdict, and contents beside it
+pub record Reading : Type 0 where
+  pub verdict : Verdict
+  pub contents : Contents
 
 -- the reader's answer, on any bytes: the file's verdict, and zero contents beside a refusal
 unfoldable pub reading_of : List ℕ → Reading
@@ -116,18 +119,9 @@ writer_order c room =
 abbrev pub writer_fault : Contents → ℕ → Refusal
 writer_fault c room = first_refusal (writer_order c room)
 
--- the writer's answer: how many bytes it wrote, or the refusal's number and place
-unfoldable pub written_of : Contents → ℕ → Written
-written_of c room = answer_by Refused (Bytes (row_place c c.head.rows)) (writer_fault c room)
-
--- the paper's number and value of that answer: 0 and the count of bytes, or the refusal's number and its place
-abbrev pub number_of : Written → ℕ
-number_of (Bytes count) = 0
-number_of (Refused number place) = number
-
-abbrev pub value_of : Written → ℕ
-value_of (Bytes count) = count
-value_of (Refused number place) = place
+-- the writer's answer: accepted, with how many bytes it wrote, or the refusal's number and place
+unfoldable pub written_of : Contents → ℕ → Verdict
+written_of c room = answer_by Refused (Accepted (row_place c c.head.rows)) (writer_fault c room)
 
 -- the writer's buffer afterwards: the file at its front, every byte past it as before; a refusal changes nothing
 unfoldable pub written_buffer : Contents → List ℕ → List ℕ
@@ -136,7 +130,7 @@ written_buffer c out =
     cond (writer_fault c (length out)).applies out made
 
 -- a file read, and what it says written: the reader's refusal if there is one, else the writer's answer; the buffer likewise
-unfoldable pub rewritten_of : List ℕ → ℕ → Written
+unfoldable pub rewritten_of : List ℕ → ℕ → Verdict
 rewritten_of s room = answer_by Refused (written_of (reading_of s).contents room) (interval_fault s)
 
 unfoldable pub rewritten_buffer : List ℕ → List ℕ → List ℕ

@@ -2,7 +2,7 @@
 // with no contents held.
 #![tactic(auto)]
 
-use files::{Form, Head, Row, Verdict};
+use files::{Form, Head, Refusal, Row};
 
 mod reader;
 mod rewriter;
@@ -20,16 +20,10 @@ pub struct Contents {
     pub rows: [Row; 256],
 }
 
-// The answer of a reader of contents: the file's verdict, and beside a refusal contents that are all zero.
+// The answer of a reader of contents: the file's verdict, and beside a refusal contents that are all zero (`reading_of` promises them, so
+// no `Result` holds the contents).
 #[derive(Clone, Copy)]
 pub struct Reading {
-    pub verdict: Verdict,
+    pub verdict: Result<usize, Refusal>,
     pub contents: Contents,
-}
-
-// The answer of the writer: so many bytes, or one refusal with its number and its place.
-#[derive(Clone, Copy)]
-pub enum Written {
-    Bytes(usize),
-    Refused(usize, usize),
 }

@@ -3,12 +3,11 @@ ghost use Rattle.std.specs.Prelude.{◌≡◌, ◌≤◌, length};
 ghost use Rattle.columns.specs.Table.{table};
 ghost use Rattle.files.specs.Layout.{row_count};
 ghost use Rattle.files.specs.Form.{row_start};
+ghost use Rattle.files.specs.Verdict.{told};
 ghost use Rattle.contents.specs.Content.{zero_form, zero_row, zero_contents, contents_of, reading_of};
 
 use crate::{Contents, Reading};
-use files::{
-    Form, Head, ROW, Row, Terms, Verdict, form_of, head_at, interval_verdict, row_at, start_of,
-};
+use files::{Form, Head, ROW, Row, Terms, form_of, head_at, interval_verdict, row_at, start_of};
 use units::{Hao, Kwh, Li};
 
 fn zero_row() -> Row
@@ -39,7 +38,7 @@ fn zero_form() -> Form
     };
     Form {
         stated: false,
-        terms: terms,
+        terms,
     }
 }
 
@@ -62,11 +61,7 @@ fn zero_contents() -> Contents
     };
     let form = zero_form();
     let rows = zero_rows();
-    Contents {
-        form: form,
-        head: head,
-        rows: rows,
-    }
+    Contents { form, head, rows }
 }
 
 // What a file says that is as long as its head says.
@@ -79,30 +74,24 @@ fn contents_of(s: &[u8]) -> Contents
     let head = head_at(s);
     let count = head.rows as usize;
     let mut rows = zero_rows();
-    let mut i = 0;
-    while i < count {
+    for i in 0..count {
         rows[i] = row_at(s, start + i * ROW);
-        i += 1;
     }
-    Contents {
-        form: form,
-        head: head,
-        rows: rows,
-    }
+    Contents { form, head, rows }
 }
 
 // Reads the contents of an interval file; any bytes are answered.
 pub fn read(s: &[u8]) -> Reading
-    ensures { result ≡ reading_of s.now }
+    ensures verdict { told result.verdict ≡ (reading_of s.now).verdict }
+    ensures contents { result.contents ≡ (reading_of s.now).contents }
 {
-    let verdict = interval_verdict(s);
-    match verdict {
-        Verdict::Refused(_, _) => Reading {
-            verdict: verdict,
+    match interval_verdict(s) {
+        Err(refusal) => Reading {
+            verdict: Err(refusal),
             contents: zero_contents(),
         },
-        Verdict::Accepted(_) => Reading {
-            verdict: verdict,
+        Ok(n) => Reading {
+            verdict: Ok(n),
             contents: contents_of(s),
         },
     }

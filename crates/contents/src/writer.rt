@@ -6,11 +6,12 @@ ghost use Rattle.records.specs.Record.{record_bytes};
 ghost use Rattle.files.specs.Layout.{row_size, head_fields, letter_r, row_widths, row_fields};
 ghost use Rattle.files.specs.Form.{start_of, head_bytes};
 ghost use Rattle.files.specs.Order.{verdict};
+ghost use Rattle.files.specs.Verdict.{told};
 ghost use Rattle.contents.specs.Content.{contents_bytes, with_rows, row_place, held_order, written_of, written_buffer};
 
-use crate::{Contents, Written};
+use crate::Contents;
 use files::{
-    Form, HEAD, HEAD_WIDTHS, Head, ROW, ROW_WIDTHS, Row, TERMS_WIDTHS, Verdict, head_ok,
+    Fault, Form, HEAD, HEAD_WIDTHS, Head, ROW, ROW_WIDTHS, Refusal, Row, TERMS_WIDTHS, head_ok,
     row_checks, ruling, start_of, terms_fields, terms_ok,
 };
 use records::{put_fields, put_record};
@@ -20,11 +21,11 @@ fn head_fields(h: Head) -> [u64; 5]
     ensures { result ≡ head_fields h }
 {
     [
-        h.day as u64,
-        h.quarter as u64,
-        h.tariff.0 as u64,
-        h.need.0 as u64,
-        h.rows as u64,
+        u64::from(h.day),
+        u64::from(h.quarter),
+        u64::from(h.tariff.0),
+        u64::from(h.need.0),
+        u64::from(h.rows),
     ]
 }
 
@@ -32,63 +33,59 @@ fn row_fields(r: Row) -> [u64; 9]
     ensures { result ≡ row_fields r }
 {
     [
-        r.id as u64,
-        r.kind as u64,
-        r.capacity as u64,
-        r.metered.0 as u64,
-        r.status as u64,
-        r.offered as u64,
-        r.minimum.0 as u64,
+        u64::from(r.id),
+        u64::from(r.kind),
+        u64::from(r.capacity),
+        u64::from(r.metered.0),
+        u64::from(r.status),
+        u64::from(r.offered),
+        u64::from(r.minimum.0),
         r.bid1.0,
         r.bid2.0,
     ]
 }
 
 // 6 and 7, row by row.
-fn rows_verdict(contents: Contents) -> Verdict
+fn rows_verdict(contents: Contents) -> Result<usize, Refusal>
     requires { contents.head.rows ≤ 256 }
-    ensures { result ≡ verdict contents.head.rows (first_refusal (held_order contents)) }
+    ensures { told result ≡ verdict contents.head.rows (first_refusal (held_order contents)) }
 {
     let h = contents.head;
     let form = contents.form;
     let terms = ruling(form);
     let count = h.rows as usize;
     let mut last: u16 = 0;
-    let mut i = 0;
-    while i < count {
+    for i in 0..count {
         let r = contents.rows[i];
-        let f = row_checks(terms, r, last);
-        if f != 0 {
-            return Verdict::Refused(f, i + 1);
+        if let Err(fault) = row_checks(terms, r, last) {
+            return Err(Refusal {
+                fault,
+                place: i + 1,
+            });
         }
         last = r.id;
-        i += 1;
     }
-    Verdict::Accepted(count)
+    Ok(count)
 }
 
 // What the writer will answer: 3, 14, then 6 and 7, then 11 by the room that there is; else how many bytes there will be.
-fn answer_for(contents: Contents, room: usize) -> Written
-    ensures { result ≡ written_of contents room }
+fn answer_for(contents: Contents, room: usize) -> Result<usize, Refusal>
+    ensures { told result ≡ written_of contents room }
 {
     let h = contents.head;
     let form = contents.form;
     if !head_ok(h) {
-        return Written::Refused(3, 0);
+        return Err(Refusal::from(Fault::HeadRange));
     }
     if !terms_ok(ruling(form)) {
-        return Written::Refused(14, 0);
+        return Err(Refusal::from(Fault::TermsRange));
     }
-    match rows_verdict(contents) {
-        Verdict::Refused(number, place) => Written::Refused(number, place),
-        Verdict::Accepted(count) => {
-            let needed = start_of(form.stated) + count * ROW;
-            if room < needed {
-                return Written::Refused(11, 0);
-            }
-            Written::Bytes(needed)
-        }
+    let count = rows_verdict(contents)?;
+    let needed = start_of(form.stated) + count * ROW;
+    if room < needed {
+        return Err(Refusal::from(Fault::ShortBuffer));
     }
+    Ok(needed)
 }
 
 // A row at the place of row i of those that begin at byte `start`.
@@ -123,10 +120,8 @@ fn put_rows(contents: Contents, out: &mut [u8])
     let form = contents.form;
     let start = start_of(form.stated);
     let count = contents.head.rows as usize;
-    let mut i = 0;
-    while i < count {
+    for i in 0..count {
         put_row(out, start, i, contents.rows[i]);
-        i += 1;
     }
 }
 
@@ -142,16 +137,11 @@ fn put_contents(contents: Contents, out: &mut [u8])
 }
 
 // Writes contents as an interval file to the front of a lent buffer, which a refusal leaves as it is.
-pub fn write(contents: Contents, out: &mut [u8]) -> Written
-    ensures value { result ≡ written_of contents (length out.old) }
+pub fn write(contents: Contents, out: &mut [u8]) -> Result<usize, Refusal>
+    ensures value { told result ≡ written_of contents (length out.old) }
     ensures out_after { out.new ≡ written_buffer contents out.old }
 {
-    let answer = answer_for(contents, out.len());
-    match answer {
-        Written::Refused(_, _) => answer,
-        Written::Bytes(_) => {
-            put_contents(contents, out);
-            answer
-        }
-    }
+    let size = answer_for(contents, out.len())?;
+    put_contents(contents, out);
+    Ok(size)
 }

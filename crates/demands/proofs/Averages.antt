@@ -13,7 +13,7 @@ use Rattle.files.specs.Layout.{head_at, row_count}
 use Rattle.files.specs.Form.{terms_of}
 use Rattle.files.specs.Order.{verdict_of}
 use Rattle.files.specs.Counting.{counting_row}
-use Rattle.files.specs.declared.Verdict.TheVariants.{Accepted}
+use Rattle.files.specs.Verdict.{Accepted, number_of}
 use Rattle.files.proofs.Laws.{accepted-sound}
 use Rattle.duties.specs.Average.{usual, average_of, average_at, base_of}
 use Rattle.duties.specs.declared.average.Average.{Average}
@@ -22,7 +22,7 @@ use Rattle.duties.proofs.Reached.{average-under, some-reach, below-above, averag
 use Rattle.statement.specs.Statement.{head_in}
 use Rattle.statement.specs.declared.StatementHead.{StatementHead}
 use Rattle.settle.specs.Statement.{statement_head}
-use Rattle.settle.specs.Answer.{average_in, limit_in, base_in, top_of, answer_of, buffer_after, number_of}
+use Rattle.settle.specs.Answer.{average_in, limit_in, base_in, top_of, answer_of, buffer_after}
 use Rattle.settle.proofs.Accepted.{rows-ranged}
 use Rattle.demands.specs.Promise.{windless_in, Averaged}
 use Rattle.demands.proofs.Demand2.{statement-read-head}

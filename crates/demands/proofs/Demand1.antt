@@ -32,12 +32,11 @@ use Rattle.records.specs.Buffer.{put}
 use Rattle.records.proofs.Buffer.{put-length, put-after, take_put}
 use Rattle.files.specs.Layout.{row_count}
 use Rattle.files.specs.Order.{file_order, file_fault, verdict_of}
-use Rattle.files.specs.declared.Verdict.TheVariants.{Accepted, Refused as Refuses}
-use Rattle.settle.specs.Answer.{statement_of, size_of, room_order, settle_order, answer_of, buffer_after, number_of, value_of}
-use Rattle.settle.specs.declared.Answer.TheVariants.{Settled, Refused}
+use Rattle.files.specs.Verdict.{Accepted, Refused, number_of, value_of}
+use Rattle.settle.specs.Answer.{statement_of, size_of, room_order, settle_order, answer_of, buffer_after}
 use Rattle.settle.proofs.Answered.{files-stop, room-stop, none-stop, settle-numbers, settled-count}
 
-tells : (c : ℕ) → Tells Refused (Settled c) number_of value_of
+tells : (c : ℕ) → Tells Refused (Accepted c) number_of value_of
 tells c =
     record {
       given = refl;
@@ -52,7 +51,7 @@ module _ (s k : List ℕ) (room : ℕ) where
 
   pub zero-free : number_of (answer_of s k room) ≡ 0 → NoneApplies (settle_order s k room)
   unfolding answer_of
-  zero-free = zero-none Refused (Settled count) number_of value_of (tells count) (settle_order s k room) last_number (settle-numbers s k room)
+  zero-free = zero-none Refused (Accepted count) number_of value_of (tells count) (settle_order s k room) last_number (settle-numbers s k room)
 
   pub free-zero : NoneApplies (settle_order s k room) → (number_of (answer_of s k room) ≡ 0) × (value_of (answer_of s k room) ≡ size_of s)
   unfolding answer_of
@@ -60,40 +59,40 @@ module _ (s k : List ℕ) (room : ℕ) where
 
   pub refused-first : (a p : ℕ) → (a ≡ 0 → ⊥) → number_of (answer_of s k room) ≡ a → value_of (answer_of s k room) ≡ p → Earliest (settle_order s k room) a p
   unfolding answer_of
-  refused-first = number-earliest Refused (Settled count) number_of value_of (tells count) (settle_order s k room) last_number (settle-numbers s k room)
+  refused-first = number-earliest Refused (Accepted count) number_of value_of (tells count) (settle_order s k room) last_number (settle-numbers s k room)
 
   pub first-refused : (a p : ℕ) → Earliest (settle_order s k room) a p → (number_of (answer_of s k room) ≡ a) × (value_of (answer_of s k room) ≡ p)
   unfolding answer_of
-  first-refused = earliest-number Refused (Settled count) number_of value_of (tells count) (settle_order s k room) last_number (settle-numbers s k room)
+  first-refused = earliest-number Refused (Accepted count) number_of value_of (tells count) (settle_order s k room) last_number (settle-numbers s k room)
 
   pub answered : ((number_of (answer_of s k room) ≡ 0) × (value_of (answer_of s k room) ≡ size_of s))
       ⊎ ((1 ≤ number_of (answer_of s k room)) × (number_of (answer_of s k room) ≤ last_number))
   answered =
       ⊎_elim (λ (z : number_of (answer_of s k room) ≡ 0). inl (free-zero (zero-free z)))
       (λ (up : 0 < number_of (answer_of s k room)).
-      inr (refused-number Refused (Settled count) number_of value_of (tells count) (settle_order s k room) last_number (settle-numbers s k room)
+      inr (refused-number Refused (Accepted count) number_of value_of (tells count) (settle_order s k room) last_number (settle-numbers s k room)
       (number_of (answer_of s k room)) (value_of (answer_of s k room)) (refused-first _ _ (λ z. omega arith) refl refl)))
       (eq-zero-or-pos (number_of (answer_of s k room)))
 
   -- ---- the files first, then the buffer
 
-  pub files-refused : (a p : ℕ) → verdict_of s k ≡ Refuses a p → answer_of s k room ≡ Refused a p
+  pub files-refused : (a p : ℕ) → verdict_of s k ≡ Refused a p → answer_of s k room ≡ Refused a p
   unfolding answer_of
-  files-refused a p refused = answer-no Refused (Settled count) (first_refusal (settle_order s k room)) a p (files-stop s k room a p refused)
+  files-refused a p refused = answer-no Refused (Accepted count) (first_refusal (settle_order s k room)) a p (files-stop s k room a p refused)
 
   pub short-refused : (n : ℕ) → verdict_of s k ≡ Accepted n → room < size_of s → answer_of s k room ≡ Refused 11 0
   unfolding answer_of
-  short-refused n ok short = answer-no Refused (Settled count) (first_refusal (settle_order s k room)) 11 0 (room-stop s k room n ok short)
+  short-refused n ok short = answer-no Refused (Accepted count) (first_refusal (settle_order s k room)) 11 0 (room-stop s k room n ok short)
 
-  pub accepted-settled : (n : ℕ) → verdict_of s k ≡ Accepted n → size_of s ≤ room → answer_of s k room ≡ Settled (size_of s)
+  pub accepted-settled : (n : ℕ) → verdict_of s k ≡ Accepted n → size_of s ≤ room → answer_of s k room ≡ Accepted (size_of s)
   unfolding answer_of
   accepted-settled n ok enough =
-      answer-yes Refused (Settled count) (first_refusal (settle_order s k room)) (none-stop s k room n ok enough)
+      answer-yes Refused (Accepted count) (first_refusal (settle_order s k room)) (none-stop s k room n ok enough)
 
   pub settled-accepted : number_of (answer_of s k room) ≡ 0 → verdict_of s k ≡ Accepted (row_count s)
   unfolding settle_order verdict_of
   settled-accepted h =
-      answer-yes Refuses (Accepted (row_count s)) (file_fault s k)
+      answer-yes Refused (Accepted (row_count s)) (file_fault s k)
       (ap (λ (r : Refusal). r.applies) (first-none (file_order s k) (append-none (file_order s k) (room_order s room) (zero-free h)).0))
 
   pub settled-room : number_of (answer_of s k room) ≡ 0 → size_of s ≤ room
@@ -102,16 +101,16 @@ module _ (s k : List ℕ) (room : ℕ) where
 
   -- and there is no other refusal
   pub refused-by : (a p : ℕ) → (a ≡ 0 → ⊥) → number_of (answer_of s k room) ≡ a → value_of (answer_of s k room) ≡ p
-      → (verdict_of s k ≡ Refuses a p) ⊎ ((verdict_of s k ≡ Accepted (row_count s)) × (room < size_of s) × (11 ≡ a) × (0 ≡ p))
+      → (verdict_of s k ≡ Refused a p) ⊎ ((verdict_of s k ≡ Accepted (row_count s)) × (room < size_of s) × (11 ≡ a) × (0 ≡ p))
   unfolding settle_order verdict_of
   refused-by a p z n v =
       ⊎_elim
-      (λ (e : Earliest (file_order s k) a p). inl (answer-no Refuses (Accepted (row_count s)) (file_fault s k) a p (earliest-first (file_order s k) a p e)))
+      (λ (e : Earliest (file_order s k) a p). inl (answer-no Refused (Accepted (row_count s)) (file_fault s k) a p (earliest-first (file_order s k) a p e)))
       (λ (w : NoneApplies (file_order s k) × Earliest (room_order s room) a p).
       let free = ap (λ (r : Refusal). r.applies) (first-none (file_order s k) w.0) in
       let only : w.1.at ≡ 0 = omega (arith, w.1.inside) in
       inr (
-        answer-yes Refuses (Accepted (row_count s)) (file_fault s k) free,
+        answer-yes Refused (Accepted (row_count s)) (file_fault s k) free,
         ltb-true room (size_of s) (rw only at w.1.applies),
         rw only at w.1.number,
         rw only at w.1.place,
@@ -129,7 +128,7 @@ module _ (s k out : List ℕ) where
   refusal-keeps h =
       let first = first_refusal (settle_order s k (length out)) in
       ⊎_elim (λ (e : first.applies ≡ true). rw e)
-      (λ (e : first.applies ≡ false). absurd (h (ap number_of (answer-yes Refused (Settled size) first e)))) (test-or first.applies)
+      (λ (e : first.applies ≡ false). absurd (h (ap number_of (answer-yes Refused (Accepted size) first e)))) (test-or first.applies)
 
   module _ (h : number_of (answer_of s k (length out)) ≡ 0) where
     pub settled-buffer : buffer_after s k out ≡ put out 0 (statement_of s k)

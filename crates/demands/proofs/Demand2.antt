@@ -26,12 +26,12 @@ use Rattle.files.specs.Terms.{terms01}
 use Rattle.files.specs.Form.{terms_at, states, terms_of, ruling, form_of}
 use Rattle.files.specs.Order.{verdict_of}
 use Rattle.files.specs.Counting.{counting_row}
-use Rattle.files.specs.declared.Verdict.TheVariants.{Accepted}
+use Rattle.files.specs.Verdict.{Accepted, number_of}
 use Rattle.statement.specs.Statement.{letter_l, line_widths, head_size, extra_of, top_bytes, has_terms, extra_in, head_in, terms_in, body_in}
 use Rattle.statement.proofs.Laws.{top-length, top-terms, top_read, terms-read}
 use Rattle.settle.specs.Settlement.{Figures}
 use Rattle.settle.specs.Statement.{statement_head, line_of, statement_bytes}
-use Rattle.settle.specs.Answer.{figures_of, top_of, line_in, statement_of, answer_of, buffer_after, number_of}
+use Rattle.settle.specs.Answer.{figures_of, top_of, line_in, statement_of, answer_of, buffer_after}
 use Rattle.settle.proofs.Answered.{line-full}
 use Rattle.demands.specs.Promise.{Bytes, figures_at}
 use Rattle.demands.proofs.Fitting.{accepted-long, accepted-terms-fit, accepted-head-fits, accepted-figure-fits, id-fits}

@@ -37,7 +37,7 @@ use Rattle.columns.specs.Sum.{whole}
 use Rattle.files.specs.Layout.{head_at, row_count}
 use Rattle.files.specs.Order.{verdict_of}
 use Rattle.files.specs.Counting.{counting_row}
-use Rattle.files.specs.declared.Verdict.TheVariants.{Accepted}
+use Rattle.files.specs.Verdict.{Accepted, number_of}
 use Rattle.levy.specs.Rounds.{Standing, payers, final, paid, payments}
 use Rattle.levy.specs.Capped.{has_closed, inside, outside, payers_inside, caps_inside, left_by, Capped}
 use Rattle.levy.proofs.Step.{final-sound}
@@ -50,7 +50,7 @@ use Rattle.duties.specs.Duties.{Duties, Level}
 use Rattle.duties.proofs.Laws.{duties-level}
 use Rattle.settle.specs.Settlement.{Figures, levied, figures}
 use Rattle.settle.specs.Within.{Turn}
-use Rattle.settle.specs.Answer.{limit_in, base_in, duties_in, figures_of, answer_of, buffer_after, number_of}
+use Rattle.settle.specs.Answer.{limit_in, base_in, duties_in, figures_of, answer_of, buffer_after}
 use Rattle.demands.specs.Promise.{figures_at, capped, CappedPayer, OpenPayer, AllCapped, capped_caps, left_over, open_energy, kept, Demand3}
 use Rattle.settle.proofs.Accepted.{first-inside}
 use Rattle.settle.proofs.Sizes.{Long, figures-long}

@@ -14,7 +14,7 @@ use Rattle.files.specs.Layout.{row_widths, head_at, row_at, row_count}
 use Rattle.files.specs.Form.{terms_widths, terms_fields, terms_of, row_start}
 use Rattle.files.specs.Order.{verdict_of}
 use Rattle.files.specs.Counting.{counting_row}
-use Rattle.files.specs.declared.Verdict.TheVariants.{Accepted}
+use Rattle.files.specs.Verdict.{Accepted}
 use Rattle.files.proofs.Ranges.{HeadRanges}
 use Rattle.files.proofs.Laws.{accepted-head, accepted-sound, counting-id}
 use Rattle.columns.proofs.Sum.{bit_le}

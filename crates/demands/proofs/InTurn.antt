@@ -22,7 +22,8 @@ use Rattle.levy.proofs.Payment.{paid-alike}
 use Rattle.levy.proofs.Cut.{cut-alike, returned-alike}
 use Rattle.settle.specs.Settlement.{first_turn, bands_of, Figures, levied, figures}
 use Rattle.settle.specs.Within.{Turn}
-use Rattle.settle.specs.Answer.{limit_in, base_in, duties_in, figures_of, answer_of, buffer_after, number_of}
+use Rattle.files.specs.Verdict.{number_of}
+use Rattle.settle.specs.Answer.{limit_in, base_in, duties_in, figures_of, answer_of, buffer_after}
 use Rattle.demands.specs.Promise.{figures_at, Alike, InTurn}
 use Rattle.settle.proofs.Accepted.{first-inside}
 use Rattle.settle.proofs.Sizes.{figures-long}

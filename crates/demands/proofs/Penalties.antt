@@ -23,7 +23,7 @@ use Rattle.files.specs.Order.{verdict_of}
 use Rattle.files.specs.Counting.{counting_row}
 use Rattle.files.specs.declared.Row.{Row}
 use Rattle.files.specs.declared.Terms.{Terms}
-use Rattle.files.specs.declared.Verdict.TheVariants.{Accepted}
+use Rattle.files.specs.Verdict.{Accepted, number_of}
 use Rattle.files.proofs.Ranges.{RowRanges}
 use Rattle.duties.specs.Duty.{thermal, reduced, width1, width2, meter_energy1, meter_energy2, credit1, credit2}
 use Rattle.duties.specs.Duties.{Duties, Level, duties_of}
@@ -38,7 +38,7 @@ use Rattle.share.proofs.Laws.{share-more, shares_at}
 use Rattle.levy.specs.Rounds.{to_cut, cuts}
 use Rattle.settle.specs.Settlement.{first_turn, bands_of, compensations_of, penalties_of, Figures, levied, figures}
 use Rattle.settle.specs.Within.{Turn}
-use Rattle.settle.specs.Answer.{limit_in, base_in, duties_in, figures_of, answer_of, buffer_after, number_of}
+use Rattle.settle.specs.Answer.{limit_in, base_in, duties_in, figures_of, answer_of, buffer_after}
 use Rattle.demands.specs.Promise.{figures_at, owed_by, Penalties, credited_with, SameButPenalties, MorePenalty, LessCut}
 use Rattle.settle.proofs.Accepted.{first-inside, rows-ranged}
 use Rattle.demands.proofs.Demand1.{settled-accepted}

@@ -16,7 +16,7 @@ use Rattle.files.specs.Order.{verdict_of}
 use Rattle.files.specs.Counting.{counting_row}
 use Rattle.files.specs.declared.Row.{Row}
 use Rattle.files.specs.declared.Terms.{Terms}
-use Rattle.files.specs.declared.Verdict.TheVariants.{Accepted}
+use Rattle.files.specs.Verdict.{Accepted, number_of}
 use Rattle.files.proofs.Ranges.{Offers, RowRanges}
 use Rattle.files.proofs.Laws.{accepted-sound}
 use Rattle.duties.specs.Duty.{thermal, normal, width1, width2, meter_energy1, meter_energy2, energy1, energy2}
@@ -27,7 +27,7 @@ use Rattle.merit.specs.Call.{calls}
 use Rattle.merit.specs.Price.{price}
 use Rattle.merit.proofs.Laws.{calls-le, Delivered, price-reached, price-least, price-zero}
 use Rattle.settle.specs.Settlement.{first_turn, bands_of, figures}
-use Rattle.settle.specs.Answer.{limit_in, base_in, duties_in, figures_of, answer_of, buffer_after, number_of}
+use Rattle.settle.specs.Answer.{limit_in, base_in, duties_in, figures_of, answer_of, buffer_after}
 use Rattle.demands.specs.Promise.{figures_at, Delivers, SetBy, Prices}
 use Rattle.settle.proofs.Accepted.{rows-ranged}
 use Rattle.demands.proofs.Demand1.{settled-accepted}

@@ -20,7 +20,8 @@ use Rattle.files.specs.Layout.{head_at, row_count}
 use Rattle.share.specs.Share.{turn}
 use Rattle.share.proofs.Order.{turn-late, turn-early, turn-lt}
 use Rattle.settle.specs.Settlement.{first_turn, figures}
-use Rattle.settle.specs.Answer.{duties_in, figures_of, answer_of, buffer_after, number_of}
+use Rattle.files.specs.Verdict.{number_of}
+use Rattle.settle.specs.Answer.{duties_in, figures_of, answer_of, buffer_after}
 use Rattle.settle.proofs.Accepted.{first-is, first-inside}
 use Rattle.demands.specs.Promise.{figures_at, goes_first, figures_by_lower_id}
 use Rattle.demands.proofs.Demand2.{statement-figures}

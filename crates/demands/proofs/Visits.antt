@@ -10,7 +10,8 @@ use Rattle.columns.specs.Sum.{whole}
 use Rattle.duties.specs.Duties.{Duties}
 use Rattle.levy.proofs.Visits.{visits-told, visits-most, visits-least, visits-quiet}
 use Rattle.settle.specs.Settlement.{levied, figures}
-use Rattle.settle.specs.Answer.{figures_of, answer_of, buffer_after, number_of}
+use Rattle.files.specs.Verdict.{number_of}
+use Rattle.settle.specs.Answer.{figures_of, answer_of, buffer_after}
 use Rattle.demands.specs.Promise.{figures_at, Visits}
 use Rattle.demands.proofs.Demand2.{statement-figures}
 

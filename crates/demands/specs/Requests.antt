@@ -22,7 +22,8 @@ use Rattle.levy.specs.Rounds.{final, visits}
 use Rattle.statement.specs.Statement.{line_start, head_in, terms_in, body_in}
 use Rattle.statement.specs.Line as line
 use Rattle.settle.specs.Settlement.{first_turn}
-use Rattle.settle.specs.Answer.{size_of, answer_of, buffer_after, number_of, value_of}
+use Rattle.files.specs.Verdict.{number_of, value_of}
+use Rattle.settle.specs.Answer.{size_of, answer_of, buffer_after}
 use Rattle.demands.specs.Table.{Entry, entry, interval_x, two_bands}
 
 -- the fields of a thermal row that offers down to 8,000 kWh, by its id, metered energy, status and bids; of one that does not offer;

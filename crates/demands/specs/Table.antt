@@ -10,7 +10,8 @@ use Rattle.duties.specs.Duty.{thermal_weight}
 use Rattle.records.specs.Sheet.{cell}
 use Rattle.statement.specs.Statement.{head_in}
 use Rattle.statement.specs.Line as line
-use Rattle.settle.specs.Answer.{answer_of, buffer_after, number_of, value_of}
+use Rattle.files.specs.Verdict.{number_of, value_of}
+use Rattle.settle.specs.Answer.{answer_of, buffer_after}
 
 -- interval X at a tariff, byte by byte: a head and three rows of 100 MW
 unfoldable pub interval_x : ℕ → List ℕ

@@ -20,7 +20,7 @@ use Rattle.duties.proofs.baseline.Reads as baseline
 use Rattle.duties.proofs.weighing.thermal_weight.Reads as thermal-weight
 use Rattle.duties.proofs.weighing.weight.Reads as weight
 use Rattle.duties.proofs.weighing.cap.Reads as cap
-use Rattle.duties.proofs.weighing.Corrected.wide.Reads as wide
+use Rattle.duties.proofs.weighing.U64FromCorrected.from.Reads as wide
 
 pub usual-duty-unique : OneResult usual-duty.Learnt
 usual-duty-unique κs a x y e f p q = p ∙ sym q

@@ -2,13 +2,14 @@
 ghost use Rattle.std.specs.Prelude.{◌≡◌, ◌+◌, ◌^◌, ◌<◌};
 ghost use Rattle.duties.specs.Average.{stirs, joined, average_at, Low};
 
-use crate::{THERMAL, baseline};
+use crate::baseline;
 use columns::counted;
-use files::{Row, Terms};
+use files::{Kind, Row, Terms};
 use units::Kwh;
 
 // Whether the average rules, and the sums that it is made of: output and capacity of the thermal rows. While these are made, it rules
-// as soon as one of the rows is thermal.
+// as soon as one of the rows is thermal. The flag stands beside the sums, and no `Option` of sums, as `average_of` and the theorems on
+// averaged statements have it.
 #[derive(Clone, Copy)]
 pub struct Average {
     pub rules: bool,
@@ -27,7 +28,8 @@ pub const USUAL: Average = Average {
 pub fn stirs(terms: Terms, row: Row) -> bool
     ensures { result ≡ stirs terms row }
 {
-    baseline(terms, row.capacity).when(row.kind == THERMAL).0 < row.metered.0
+    let thermal = row.kind == Kind::Thermal as u8;
+    baseline(terms, row.capacity).when(thermal) < row.metered
 }
 
 // The sums with a row more: one that is thermal counts, of whatever status.
@@ -35,8 +37,8 @@ pub fn joined(sums: Average, row: Row) -> Average
     requires { (sums.energy.0 + row.metered.0 < 2 ^ 32) × (sums.capacity + row.capacity < 2 ^ 32) }
     ensures { result ≡ joined sums row }
 {
-    let thermal = row.kind == THERMAL;
-    let energy = sums.energy.plus(row.metered.when(thermal));
+    let thermal = row.kind == Kind::Thermal as u8;
+    let energy = sums.energy + row.metered.when(thermal);
     let capacity = sums.capacity + counted(thermal, row.capacity as u32);
     Average {
         rules: sums.rules | thermal,
@@ -50,5 +52,5 @@ pub fn average_at(ruling: Average, capacity: u16) -> Kwh
     requires { Low ruling }
     ensures { result.0 ≡ average_at ruling capacity }
 {
-    Kwh::from_wide(capacity as u64 * ruling.energy.wide() / ruling.capacity as u64)
+    Kwh::from((u64::from(capacity) * u64::from(ruling.energy) / u64::from(ruling.capacity)) as u32)
 }

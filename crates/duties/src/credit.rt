@@ -4,15 +4,14 @@ ghost use Rattle.duties.specs.Duty.{liable, credit1, credit2};
 
 use crate::bands::{width1, width2};
 use crate::delivery::{energy_in1, energy_in2};
-use crate::{REDUCED, THERMAL};
-use files::Row;
+use files::{Kind, Row, Status};
 use units::Kwh;
 
 // Only a thermal row reduced for reasons of its own owes for what it did not deliver.
 fn liable(row: Row) -> bool
     ensures { result ≡ liable row }
 {
-    (row.kind == THERMAL) & (row.status == REDUCED)
+    (row.kind == Kind::Thermal as u8) & (row.status == Status::Reduced as u8)
 }
 
 // By the meter in tier 1; for a row that owes nothing, all that it offers there, since no call is above it.

@@ -24,14 +24,6 @@ pub use credit::{credit1, credit2};
 pub use delivery::{energy_in1, energy_in2, energy1, energy2};
 pub use weighing::{Corrected, cap, pays, thermal_weight, weight};
 
-// The kind whose baseline matters; wind and solar are the others.
-const THERMAL: u8 = 1;
-
-const NORMAL: u8 = 0;
-
-// Reduced for reasons of its own.
-const REDUCED: u8 = 2;
-
 // Where tier 1 ends and tier 2 begins, in percent of full load.
 const FOOT: u8 = 40;
 
@@ -62,8 +54,6 @@ fn duty_of(limit: Kwh, base: Kwh, tariff: Hao, row: Row) -> Duty
     requires { Ranged row × (base.0 ≤ load row.capacity 60) }
     ensures { result ≡ duty_of limit.0 base.0 tariff.0 row }
 {
-    let bid1 = row.bid1;
-    let bid2 = row.bid2;
     Duty {
         width1: width1(limit, row),
         width2: width2(row),
@@ -73,8 +63,8 @@ fn duty_of(limit: Kwh, base: Kwh, tariff: Hao, row: Row) -> Duty
         credit2: credit2(base, row),
         weight: weight(base, row),
         cap: cap(base, tariff, row),
-        bid1: bid1,
-        bid2: bid2,
+        bid1: row.bid1,
+        bid2: row.bid2,
     }
 }
 

@@ -4,9 +4,8 @@ ghost use Rattle.units.specs.Load.{load};
 ghost use Rattle.duties.specs.Duty.{payer, thermal_weight, weight, cap};
 ghost use Rattle.duties.specs.Ranged.{Ranged};
 
-use crate::{NORMAL, THERMAL};
 use columns::counted as when;
-use files::Row;
+use files::{Kind, Row, Status};
 use units::{Fen, Hao, Kwh, load};
 
 // Corrected energy, by which payers share: no measure that anything is priced in, and converted to none.
@@ -20,16 +19,16 @@ impl Corrected {
     {
         Corrected(when(t, self.0) + when(!t, other.0))
     }
-
-    // Into a line of the sheet.
-    pub fn wide(self) -> u64
-        ensures { result ≡ self.0 }
-    {
-        self.0 as u64
-    }
 }
 
-const ACCIDENT: u8 = 3;
+// Into a line of the sheet.
+impl From<Corrected> for u64 {
+    ghost from_gives = { λ weight x. x ≡ weight.0 };
+
+    fn from(weight: Corrected) -> u64 {
+        u64::from(weight.0)
+    }
+}
 
 const SIXTY: u8 = 60;
 
@@ -39,9 +38,9 @@ const SEVENTY: u8 = 70;
 pub fn pays(base: Kwh, row: Row) -> bool
     ensures { result ≡ payer base.0 row }
 {
-    let thermal = row.kind == THERMAL;
-    let ran = (base.0 <= row.metered.0) & (row.status != ACCIDENT);
-    (thermal & ran) | (!thermal & (row.status == NORMAL))
+    let thermal = row.kind == Kind::Thermal as u8;
+    let ran = (base <= row.metered) & (row.status != Status::Accident as u8);
+    (thermal & ran) | (!thermal & (row.status == Status::Normal as u8))
 }
 
 // The energy that counts: what a payer's meter says, nothing of a row that does not pay.
@@ -68,7 +67,10 @@ pub fn weight(base: Kwh, row: Row) -> Corrected
     ensures { result.0 ≡ weight base.0 row }
 {
     let energy = counted(base, row);
-    thermal_weight(base, row.capacity, energy).or(row.kind == THERMAL, Corrected(energy.0))
+    thermal_weight(base, row.capacity, energy).or(
+        row.kind == Kind::Thermal as u8,
+        Corrected(energy.0),
+    )
 }
 
 // The cap of a row, 0 for one that does not pay. A farm's is that of a unit with twice the energy, so that one division serves both kinds.
@@ -77,6 +79,6 @@ pub fn cap(base: Kwh, tariff: Hao, row: Row) -> Fen
     ensures { result.0 ≡ cap base.0 tariff.0 row }
 {
     let energy = counted(base, row);
-    let farm = energy.when(row.kind != THERMAL);
+    let farm = energy.when(row.kind != Kind::Thermal as u8);
     Kwh(energy.0 + farm.0).thermal_cap(tariff)
 }

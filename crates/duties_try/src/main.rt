@@ -40,11 +40,11 @@ fn show(x: u64) {
 }
 
 fn show_energy(x: Kwh) {
-    show(x.column() as u64);
+    show(x.into());
 }
 
 fn show_test(b: bool) {
-    show(columns::one_if(b) as u64);
+    show(u64::from(b));
 }
 
 fn end_line() {
@@ -55,7 +55,7 @@ fn end_line() {
 fn show_weight(base: Kwh, energy: Kwh)
     requires { (energy.0 ≤ 2 ^ 30) × (base.0 ≤ load 100 60) }
 {
-    show(duties::thermal_weight(base, 100, energy).wide());
+    show(duties::thermal_weight(base, 100, energy).into());
 }
 
 fn show_weights(base: Kwh)
@@ -94,7 +94,7 @@ fn show_duty(d: Duty) {
     show_energy(d.width2);
     show_energy(d.energy1);
     show_energy(d.energy2);
-    show(d.weight.wide());
+    show(d.weight.into());
     show(d.cap.0);
     show(d.bid1.0);
     show(d.bid2.0);
@@ -178,7 +178,7 @@ fn show_joined(row: Row)
 {
     let sums = duties::joined(TWO, row);
     show_energy(sums.energy);
-    show(sums.capacity as u64);
+    show(u64::from(sums.capacity));
     end_line();
 }
 

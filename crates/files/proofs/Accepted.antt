@@ -28,7 +28,7 @@ use Rattle.files.specs.Range.{head_ok, row_ok}
 use Rattle.files.specs.Walk.{Rows, Own}
 use Rattle.files.specs.Order.{their_order, interval_order, correction_starts, correction_order, same_time, corrects}
 use Rattle.files.specs.Order.{name_checks, beside_order, present_order, file_order, file_fault, verdict_of}
-use Rattle.files.specs.declared.Verdict.TheVariants.{Accepted}
+use Rattle.files.specs.Verdict.{Accepted}
 use Rattle.files.proofs.Answer.{accepted-of}
 use Rattle.files.proofs.Passed.{rows-passed, rows-sound}
 use Rattle.files.proofs.Named.{own-head, own-rows, passed-own, starts-long, starts-ok}

@@ -18,9 +18,9 @@ use Rattle.files.specs.Layout.{row_count, correction_count}
 use Rattle.files.specs.Form.{terms_of}
 use Rattle.files.specs.Order.{front_checks, head_checks, row_checks, row_checks_at, row_checks_of, rows_order, own_order, their_order}
 use Rattle.files.specs.Order.{interval_order, correction_order, name_checks}
-use Rattle.files.specs.Order.{beside_order, present_order, file_order, verdict, verdict_of, number_of, value_of}
+use Rattle.files.specs.Order.{beside_order, present_order, file_order, verdict, verdict_of}
 use Rattle.files.specs.declared.Terms.{Terms}
-use Rattle.files.specs.declared.Verdict.TheVariants.{Accepted, Refused}
+use Rattle.files.specs.Verdict.{Accepted, Refused, number_of, value_of}
 
 apart : (n a p : ℕ) → Refused a p ≡ Accepted n → ⊥
 apart n a p e = let z : ◌≡◌ {A = ℕ} 0 1 = cc in omega arith

@@ -43,7 +43,7 @@ use Rattle.files.specs.Walk.{own_id, has_id, find_id, in_interval, in_correction
 use Rattle.files.specs.Order.{alike, corrects, verdict_of}
 use Rattle.files.specs.Counting.{part, named, counting_bytes, source_of, counting_row}
 use Rattle.files.specs.declared.Row.{Row}
-use Rattle.files.specs.declared.Verdict.TheVariants.{Accepted, Refused}
+use Rattle.files.specs.Verdict.{Accepted, Refused}
 use Rattle.files.proofs.Accepted.{accepted-passes, accepted-own, accepted-head-ok, accepted-row-ok, accepted-rows, accepted-corrected}
 use Rattle.files.proofs.Found.{find-has}
 use Rattle.files.proofs.Sourced.{none-there, counting-none}

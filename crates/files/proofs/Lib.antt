@@ -5,6 +5,7 @@ pub mod Found
 pub mod Named
 pub mod Ranges
 pub mod Accepted
+pub mod Told
 pub mod Sourced
 pub mod Laws
 pub mod Unique

@@ -1,18 +1,18 @@
 -- Checks 8 to 10 as the code makes them: a correction by itself, its time, and its rows beside the interval's.
 --   Beside                     how far the walk over both files has come; beside_none, -next, -stops, -ends: its steps
 --   under-beside               what the walk has passed in the interval lies below the correction's next id
---   starts-short, starts-told, no-match, match-told      tests on what was read
+--   starts-short, starts-told      tests on what was read
 --   bad-start, bad-row, good-rows, bad-time, good-time   8 by head and length, 8 by a row, 9, then 10
 --   own-refused, alone, paired      1 to 7 and 14 first; then nothing more without a correction, else 8 to 10
 --   own-accepted, own-long, own-whole, own_at      an interval that passed 1 to 7 and 14: what it gives the code
 use mathlib.Core.Path.{◌≡◌, refl, sym, ap, ◌∙◌}
-use Prim.Native.Nat.{ℕ, ◌+◌, ◌*◌, ◌≤◌, ◌<◌}
+use Prim.Native.Nat.{ℕ, ◌+◌, ◌≤◌, ◌<◌}
 use mathlib.Core.Bool.{Bool, true, false, not, cond, ◌&&◌}
 use mathlib.Core.List.{List, []}
 use native.Mathlib.Omega.{arith}
 use lib.Dec.{eqb, leb}
 use lib.ListN.{length}
-use borrow.Author.Tests.{not-true, not-false, eq-eqb, ne_eqb, eqb-true, lt-ltb, le-ltb, le-leb, lt-leb}
+use borrow.Author.Tests.{not-true, not-false, eq-eqb, ne_eqb, eqb-true, le-leb, lt-leb}
 use Rattle.columns.specs.Checks.{Refusal, refusal, first_refusal, placed, row_by_row, renumbered}
 use Rattle.columns.proofs.First.{left-true, right-true}
 use Rattle.columns.proofs.Checks.{Passes, append-first, append-next, append-passes, passes-placed, answer-no, answer-yes}
@@ -25,12 +25,11 @@ use Rattle.files.specs.declared.Form.{Form}
 use Rattle.files.specs.Range.{correction_head_ok}
 use Rattle.files.specs.Walk.{id_of, Rows, Own, Theirs, Under, Sought}
 use Rattle.files.specs.Order.{head_checks, rows_order, own_order, their_order, interval_order, interval_fault, correction_starts, correction_order, same_time}
-use Rattle.files.specs.Order.{alike, corrects, name_checks, beside_order, present_order, file_order, verdict, verdict_of}
+use Rattle.files.specs.Order.{corrects, name_checks, beside_order, present_order, file_order, verdict, verdict_of}
 use Rattle.files.specs.declared.CorrectionHead.{CorrectionHead}
 use Rattle.files.specs.declared.Row.{Row}
 use Rattle.files.specs.declared.Terms.{Terms}
-use Rattle.files.specs.declared.Verdict.{Verdict}
-use Rattle.files.specs.declared.Verdict.TheVariants.{Accepted, Refused}
+use Rattle.files.specs.Verdict.{Verdict, Accepted, Refused}
 use Rattle.files.proofs.Answer.{accepted-of, refused-of}
 use Rattle.files.proofs.Passed.{HeadPassed, from-least, head_passed, rows-sound}
 use Rattle.files.proofs.Found.{matches, corrects-sought}
@@ -78,13 +77,6 @@ pub beside-ends : (s k : List ℕ) (start n m i j : ℕ) → Beside s k start n 
 beside-ends s k start n m i j b l =
     let e : j ≡ m = omega (arith, b.short) in
     sym (answer-yes Refused (Accepted n) _ (rw e at b.passes))
-
-pub no-match : (s : List ℕ) (start n i : ℕ) (r : Row) → n ≤ i → false ≡ matches s start n i r
-no-match s start n i r l = rw (le-ltb i n l)
-
-pub match-told : (s : List ℕ) (start n i : ℕ) (r q : Row) (t : Bool) → i < n → q ≡ row_at s (start + i * row_size) → t ≡ alike q r
-    → t ≡ matches s start n i r
-match-told s start n i r q t l e h = rw (lt-ltb i n l, ← e) h
 
 -- ---- 9, then 10
 

@@ -5,7 +5,6 @@
 --   row-passed     a row with no refusal: its mark, its ranges, its id above the one before
 --   rows-passed    the same of each of n rows
 --   rows-sound     n rows with no refusal, all inside the file, are `Rows`
---   row_in         row i of `Rows` lies inside the file
 use mathlib.Core.Path.{◌≡◌}
 use mathlib.Core.Logic.{⊎_elim}
 use Prim.Native.Nat.{ℕ, zero, suc, ◌+◌, ◌*◌, ◌≤◌, ◌<◌}
@@ -104,6 +103,3 @@ module _ (t : Terms) (s : List ℕ) (start size n : ℕ) (h : Passes (rows_order
 
   pub rows-sound : row_size ≤ size → start + n * size ≤ length s → Rows s start size n
   rows-sound w le = record { wide = w; inside = λ i l. row_inside s start size n i le l; rising = rows-rise }
-
-pub row_in : (s : List ℕ) (start size n i : ℕ) → Rows s start size n → i < n → start + i * size + row_size ≤ length s
-row_in s start size n i r l = omega (arith, r.inside i l, r.wide)

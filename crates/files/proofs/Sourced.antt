@@ -1,5 +1,5 @@
 -- The row that counts, found by a walk: for one id, and for all rows side by side.
---   none-there, not_there, is-there, part-is      a count, a row's id and a row's bytes, as the code reads them
+--   none-there, part-is      a count and a row's bytes, as the code reads them
 --   theirs-of, own-of, under_none                 what a walk over an accepted pair asks for at its start
 --   named-theirs, named-own, named_none           the bytes of an id's row
 --   Sourced                                       how far the column of sources has come; sourced-none, -next, -ends: its steps
@@ -8,14 +8,14 @@
 use mathlib.Core.Path.{◌≡◌, refl, sym, ◌∙◌}
 use mathlib.Core.Logic.{◌⊎◌, inl, inr, ⊎_elim}
 use Prim.Native.Nat.{ℕ, ◌+◌, ◌-◌, ◌*◌, ◌≤◌, ◌<◌}
-use mathlib.Core.Bool.{Bool, true, false, not, cond, ◌&&◌}
+use mathlib.Core.Bool.{Bool, true, false, not, cond}
 use mathlib.Core.List.{List, [], ◌∷◌}
 use native.Mathlib.Nat.{add-zero}
 use native.Mathlib.Omega.{arith}
 use lib.Dec.{eqb, ltb}
 use lib.ListN.{length, take, drop, set, length-drop, take-append-drop}
 use lib.Seq.{length-take-le}
-use borrow.Author.Tests.{lt-ltb, le-ltb, ltb-true, not-false}
+use borrow.Author.Tests.{lt-ltb, ltb-true, not-false}
 use Rattle.columns.specs.Table.{table}
 use Rattle.records.specs.Buffer.{put}
 use Rattle.columns.proofs.Table.{table-length, table-next}
@@ -28,8 +28,7 @@ use Rattle.files.specs.Form.{terms_size, rows_from, row_start}
 use Rattle.files.specs.Walk.{id_of, own_id, find_id, in_correction, Rows, Under, Sought}
 use Rattle.files.specs.Order.{file_fault, verdict_of}
 use Rattle.files.specs.Counting.{part, named, counting_bytes, source_of, counting_row, Shows}
-use Rattle.files.specs.declared.Verdict.{Verdict}
-use Rattle.files.specs.declared.Verdict.TheVariants.{Accepted, Refused}
+use Rattle.files.specs.Verdict.{Verdict, Accepted, Refused}
 use Rattle.files.proofs.Answer.{refused-of}
 use Rattle.files.proofs.Passed.{from-most}
 use Rattle.files.proofs.Found.{has, found-yes, found-no}
@@ -37,12 +36,6 @@ use Rattle.files.proofs.Accepted.{accepted-passes, accepted-count, accepted-few,
 
 pub none-there : (k : List ℕ) (m : ℕ) → Rows k correction_head_size row_size m → length k < correction_head_size → 0 ≡ m
 none-there k m r l = ⊎_elim (λ (p : 0 < m). absurd (omega (arith, r.inside 0 p))) (λ (p : m ≤ 0). omega arith) (lt-or-le 0 m)
-
-pub not_there : (n i : ℕ) (t : Bool) → n ≤ i → false ≡ (ltb i n && t)
-not_there n i t l = rw (le-ltb i n l)
-
-pub is-there : (n i id f x : ℕ) → i < n → f ≡ x → eqb f id ≡ (ltb i n && eqb x id)
-is-there n i id f x l e = rw (lt-ltb i n l, e)
 
 pub part-is : (s : List ℕ) (at size : ℕ) → take (at + size - at) (drop at s) ≡ part size s at
 part-is s at size = let e : at + size - at ≡ size = omega arith in rw e
@@ -65,12 +58,6 @@ module _ (s : List ℕ) (start size n r id : ℕ) (b : Bool) (told : b ≡ has s
 
   pub has-told : not b ≡ false → r < n
   has-told e = has-below (not-false b e)
-
-  pub has-small : n ≤ 256 → b ≡ true → r < 256
-  has-small few e = omega (arith, has-below e)
-
-  pub has_in : Rows s start size n → b ≡ true → start + r * size + size ≤ length s
-  has_in rows e = rows.inside r (has-below e)
 
 -- the search's answer, by a test of the row where the walk stopped
 module _ (s : List ℕ) (start size n id r : ℕ) (b : Bool) (rows : Rows s start size n) (w : Sought s start size n id r)

@@ -7,6 +7,7 @@ use native.Mathlib.Omega.{arith}
 use Rattle.columns.proofs.Sum.{lt-or-le}
 use Rattle.columns.proofs.Unique.{LeavesOne, OneResult}
 use Rattle.files.specs.Walk.{Sought}
+use Rattle.files.proofs.Told.{told-one, fault-one}
 use Rattle.files.proofs.read.head_at.Reads as head_at
 use Rattle.files.proofs.read.row_at.Reads as row_at
 use Rattle.files.proofs.read.correction_head_at.Reads as correction-head-at
@@ -18,19 +19,27 @@ use Rattle.files.proofs.forms.rows_from.Reads as rows-from
 use Rattle.files.proofs.forms.ruling.Reads as ruling
 use Rattle.files.proofs.forms.terms_fields.Reads as terms-fields
 use Rattle.files.proofs.range.terms_ok.Reads as terms-ok
-use Rattle.files.proofs.refusal.front_fault.Reads as front-fault
+use Rattle.files.proofs.checks.front_fault.Reads as front-fault
 use Rattle.files.proofs.range.head_ok.Reads as head_ok
 use Rattle.files.proofs.range.correction_head_ok.Reads as correction-head-ok
 use Rattle.files.proofs.range.row_ok.Reads as row_ok
 use Rattle.files.proofs.range.row_checks.Reads as row-checks
-use Rattle.files.proofs.refusal.interval_verdict.Reads as interval
-use Rattle.files.proofs.refusal.check.Reads as check
+use Rattle.files.proofs.checks.interval_verdict.Reads as interval
+use Rattle.files.proofs.checks.check.Reads as check
 use Rattle.files.proofs.counts.counting.Reads as counting
 use Rattle.files.proofs.counts.sources.Reads as sources
 use Rattle.files.proofs.counts.counting_row.Reads as counting-row
-use Rattle.files.proofs.refusal.row_count.Reads as row_count
-use Rattle.files.proofs.refusal.correction_count.Reads as correction-count
-use Rattle.files.proofs.refusal.seek.Reads as seek
+use Rattle.files.proofs.checks.row_count.Reads as row_count
+use Rattle.files.proofs.checks.correction_count.Reads as correction-count
+use Rattle.files.proofs.runs.Run.seek.Reads as seek
+use Rattle.files.proofs.faults.Fault.number.Reads as number
+use Rattle.files.proofs.faults.RefusalFromFault.from.Reads as refusal-from
+
+pub number-unique : OneResult number.Learnt
+number-unique κs a x y e f p q = p.0 ∙ sym q.0
+
+pub refusal-from-unique : OneResult refusal-from.Learnt
+refusal-from-unique κs a x y e f p q = p ∙ sym q
 
 pub head-at-unique : OneResult head_at.Learnt
 head-at-unique κs a x y e f p q = p ∙ sym q
@@ -66,7 +75,7 @@ pub terms-ok-unique : OneResult terms-ok.Learnt
 terms-ok-unique κs a x y e f p q = p ∙ sym q
 
 pub front-fault-unique : OneResult front-fault.Learnt
-front-fault-unique κs a x y e f p q = p ∙ sym q
+front-fault-unique κs a x y e f p q = fault-one x y (p ∙ sym q)
 
 pub head-ok-unique : OneResult head_ok.Learnt
 head-ok-unique κs a x y e f p q = p ∙ sym q
@@ -78,13 +87,13 @@ pub row-ok-unique : OneResult row_ok.Learnt
 row-ok-unique κs a x y e f p q = p ∙ sym q
 
 pub row-checks-unique : OneResult row-checks.Learnt
-row-checks-unique κs a x y e f p q = p ∙ sym q
+row-checks-unique κs a x y e f p q = fault-one x y (p ∙ sym q)
 
 pub interval-unique : OneResult interval.Learnt
-interval-unique κs a x y e f p q = p ∙ sym q
+interval-unique κs a x y e f p q = told-one x y (p ∙ sym q)
 
 pub check-unique : OneResult check.Learnt
-check-unique κs a x y e f p q = p ∙ sym q
+check-unique κs a x y e f p q = told-one x y (p ∙ sym q)
 
 pub counting-unique : LeavesOne counting.Learnt (λ κs x y e f. x.now ≡ y.now)
 counting-unique κs a x y e f p q = p ∙ sym q

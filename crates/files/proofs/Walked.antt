@@ -33,8 +33,7 @@ use Rattle.files.specs.declared.Form.{Form}
 use Rattle.files.specs.declared.Head.{Head}
 use Rattle.files.specs.declared.Row.{Row}
 use Rattle.files.specs.declared.Terms.{Terms}
-use Rattle.files.specs.declared.Verdict.{Verdict}
-use Rattle.files.specs.declared.Verdict.TheVariants.{Accepted, Refused}
+use Rattle.files.specs.Verdict.{Verdict, Accepted, Refused}
 use Rattle.files.proofs.Passed.{row_inside, head_passed}
 
 pub unranged : (s : List ℕ) (h : Head) (b : Bool) → h ≡ head_at s → b ≡ head_ok h → not b ≡ true → not (head_ok (head_at s)) ≡ true

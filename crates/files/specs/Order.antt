@@ -11,8 +11,7 @@ use Rattle.files.specs.Range.{head_ok, terms_ok, correction_head_ok, row_ok}
 use Rattle.files.specs.Walk.{id_of, in_interval}
 use Rattle.files.specs.declared.Row.{Row}
 use Rattle.files.specs.declared.Terms.{Terms}
-use Rattle.files.specs.declared.Verdict.{Verdict}
-use Rattle.files.specs.declared.Verdict.TheVariants.{Accepted, Refused}
+use Rattle.files.specs.Verdict.{Verdict, Accepted, Refused}
 
 -- a head by itself, before 4: 1, 2, once more 1 by the head of the file's own mark, 3, and 14 for the terms that it states
 unfoldable pub front_checks : List ℕ → List Check
@@ -108,12 +107,3 @@ verdict n f = answer_by Refused (Accepted n) f
 
 unfoldable pub verdict_of : List ℕ → List ℕ → Verdict
 verdict_of s k = verdict (row_count s) (file_fault s k)
-
--- number and value of an answer: 0 and the count, or the refusal's number and its place
-abbrev pub number_of : Verdict → ℕ
-number_of (Accepted n) = 0
-number_of (Refused number place) = number
-
-abbrev pub value_of : Verdict → ℕ
-value_of (Accepted n) = n
-value_of (Refused number place) = place

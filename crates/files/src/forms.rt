@@ -4,7 +4,7 @@ ghost use Rattle.files.specs.Layout.{head_size};
 ghost use Rattle.files.specs.Form.{terms_size, terms_fields, terms_at, known, states, ruling, form_of, start_of, rows_from};
 
 use crate::{Form, HEAD, TERMS, TERMS_01, TERMS_WIDTHS, Terms};
-use records::{get_record, marked};
+use records::{marked, record_of};
 use units::Li;
 
 // Whether a file's mark is one of the two.
@@ -46,14 +46,13 @@ fn terms_at(s: &[u8]) -> Terms
     requires { head_size + terms_size ≤ length s.now }
     ensures { result ≡ terms_at s.now }
 {
-    let mut x = [0u64; 5];
-    get_record(s, HEAD - 2, &TERMS_WIDTHS, &mut x);
+    let [percent, lowest1, highest1, lowest2, highest2] = record_of(s, HEAD - 2, &TERMS_WIDTHS);
     Terms {
-        percent: x[0] as u8,
-        lowest1: Li(x[1]),
-        highest1: Li(x[2]),
-        lowest2: Li(x[3]),
-        highest2: Li(x[4]),
+        percent: percent as u8,
+        lowest1: Li(lowest1),
+        highest1: Li(highest1),
+        lowest2: Li(lowest2),
+        highest2: Li(highest2),
     }
 }
 
@@ -62,7 +61,7 @@ pub fn terms_fields(t: Terms) -> [u64; 5]
     ensures { result ≡ terms_fields t }
 {
     [
-        t.percent as u64,
+        u64::from(t.percent),
         t.lowest1.0,
         t.highest1.0,
         t.lowest2.0,

@@ -3,17 +3,22 @@
 
 use units::{Hao, Kwh, Li};
 
+mod checks;
 mod counts;
+mod faults;
 mod forms;
+mod kinds;
 mod range;
 mod read;
-mod refusal;
+mod runs;
 
+pub use checks::{check, front_fault, interval_verdict};
 pub use counts::{counting, counting_row, sources};
+pub use faults::{Fault, Refusal};
 pub use forms::{form_of, ruling, start_of, terms_fields};
+pub use kinds::{Kind, Status};
 pub use range::{correction_head_ok, head_ok, row_checks, row_ok, terms_ok};
 pub use read::{correction_head_at, head_at, id_at, row_at};
-pub use refusal::{check, front_fault, interval_verdict};
 
 // The widths of the fields that all heads of an interval share, of the terms that a head may state, of a row and of a correction's head,
 // and how many bytes each takes, with its mark where it has one.
@@ -43,7 +48,7 @@ pub struct Head {
     pub rows: u16,
 }
 
-// A row, without its mark.
+// A row, without its mark. Kind, status and offered are bytes and no enums: `row_at` reads whatever stands there, for `row_ok` to refuse.
 #[derive(Clone, Copy)]
 pub struct Row {
     pub id: u16,
@@ -76,7 +81,8 @@ pub const TERMS_01: Terms = Terms {
     highest2: Li(750),
 };
 
-// How an interval file is laid out and by which terms: a head PG states its terms, a head PH states none and means document 01's.
+// How an interval file is laid out and by which terms: a head PG states its terms, a head PH states none and means document 01's. The flag
+// stands beside the terms, and no `Option` of terms: a form may hold terms that it does not state (`ruling`, `InRange`).
 #[derive(Clone, Copy)]
 pub struct Form {
     pub stated: bool,
@@ -89,11 +95,4 @@ pub struct CorrectionHead {
     pub day: u32,
     pub quarter: u8,
     pub rows: u16,
-}
-
-// The answer to an interval file and its correction: so many rows, or one refusal with its number and its place.
-#[derive(Clone, Copy)]
-pub enum Verdict {
-    Accepted(usize),
-    Refused(usize, usize),
 }

@@ -3,9 +3,10 @@ ghost use Rattle.std.specs.Prelude.{◌≡◌};
 ghost use Rattle.columns.specs.Test.{within, first_of};
 ghost use Rattle.files.specs.Range.{head_ok, terms_ok, correction_head_ok, status_ok, not_offering, offering, row_ok};
 ghost use Rattle.files.specs.Order.{row_checks};
+ghost use Rattle.files.specs.Verdict.{fault_in};
 
-use crate::{CorrectionHead, Head, Row, Terms};
-use units::{load, most};
+use crate::{CorrectionHead, Fault, Head, Kind, Row, Status, Terms};
+use units::{Kwh, Li, load, most};
 
 const LAST_DAY: u32 = 36524;
 
@@ -13,7 +14,7 @@ const LAST_QUARTER: u8 = 95;
 
 const HIGHEST_TARIFF: u64 = 10000;
 
-const HIGHEST_NEED: u32 = 64000000;
+const HIGHEST_NEED: Kwh = Kwh(64000000);
 
 const MOST_ROWS: u16 = 256;
 
@@ -21,15 +22,11 @@ const LOWEST_PERCENT: u64 = 41;
 
 const HIGHEST_PERCENT: u64 = 50;
 
-const HIGHEST_LIMIT: u64 = 1000;
+const LOWEST_LIMIT: Li = Li(1);
+
+const HIGHEST_LIMIT: Li = Li(1000);
 
 const LARGEST_CAPACITY: u64 = 2000;
-
-const THERMAL: u8 = 1;
-
-const SOLAR: u64 = 3;
-
-const ACCIDENT: u8 = 3;
 
 fn within(lo: u64, hi: u64, x: u64) -> bool
     ensures { result ≡ within lo hi x }
@@ -42,8 +39,8 @@ pub fn head_ok(h: Head) -> bool
 {
     (h.day <= LAST_DAY)
         & (h.quarter <= LAST_QUARTER)
-        & within(1, HIGHEST_TARIFF, h.tariff.0 as u64)
-        & (h.need.0 <= HIGHEST_NEED)
+        & within(1, HIGHEST_TARIFF, u64::from(h.tariff.0))
+        & (h.need <= HIGHEST_NEED)
         & (h.rows <= MOST_ROWS)
 }
 
@@ -51,38 +48,42 @@ pub fn head_ok(h: Head) -> bool
 pub fn terms_ok(t: Terms) -> bool
     ensures { result ≡ terms_ok t }
 {
-    within(LOWEST_PERCENT, HIGHEST_PERCENT, t.percent as u64)
-        & (1 <= t.lowest1.0)
-        & (t.lowest1.0 < t.highest1.0)
-        & (t.highest1.0 <= t.lowest2.0)
-        & (t.lowest2.0 < t.highest2.0)
-        & (t.highest2.0 <= HIGHEST_LIMIT)
+    within(LOWEST_PERCENT, HIGHEST_PERCENT, u64::from(t.percent))
+        & (LOWEST_LIMIT <= t.lowest1)
+        & (t.lowest1 < t.highest1)
+        & (t.highest1 <= t.lowest2)
+        & (t.lowest2 < t.highest2)
+        & (t.highest2 <= HIGHEST_LIMIT)
 }
 
 pub fn correction_head_ok(h: CorrectionHead) -> bool
     ensures { result ≡ correction_head_ok h }
 {
-    (h.day <= LAST_DAY) & (h.quarter <= LAST_QUARTER) & within(1, MOST_ROWS as u64, h.rows as u64)
+    (h.day <= LAST_DAY)
+        & (h.quarter <= LAST_QUARTER)
+        & within(1, u64::from(MOST_ROWS), u64::from(h.rows))
 }
 
 fn status_ok(r: Row) -> bool
     ensures { result ≡ status_ok r }
 {
-    (r.status <= ACCIDENT) & ((r.kind == THERMAL) | ((r.status == 0) | (r.status == ACCIDENT)))
+    (r.status <= Status::Accident as u8)
+        & ((r.kind == Kind::Thermal as u8)
+            | ((r.status == Status::Normal as u8) | (r.status == Status::Accident as u8)))
 }
 
 fn not_offering(r: Row) -> bool
     ensures { result ≡ not_offering r }
 {
-    (r.offered == 0) & (r.minimum.0 == 0) & (r.bid1.0 == 0) & (r.bid2.0 == 0)
+    (r.offered == 0) & (r.minimum == Kwh(0)) & (r.bid1 == Li(0)) & (r.bid2 == Li(0))
 }
 
 fn offering(terms: Terms, r: Row) -> bool
     ensures { result ≡ offering terms r }
 {
     (r.offered == 1)
-        & (r.kind == THERMAL)
-        & (r.minimum.0 <= load(r.capacity, terms.percent).0)
+        & (r.kind == Kind::Thermal as u8)
+        & (r.minimum <= load(r.capacity, terms.percent))
         & within(terms.lowest1.0, terms.highest1.0, r.bid1.0)
         & within(terms.lowest2.0, terms.highest2.0, r.bid2.0)
 }
@@ -91,23 +92,22 @@ pub fn row_ok(terms: Terms, r: Row) -> bool
     ensures { result ≡ row_ok terms r }
 {
     (1 <= r.id)
-        & within(1, SOLAR, r.kind as u64)
-        & within(1, LARGEST_CAPACITY, r.capacity as u64)
-        & (r.metered.0 <= most(r.capacity).0)
+        & within(Kind::Thermal as u64, Kind::Solar as u64, u64::from(r.kind))
+        & within(1, LARGEST_CAPACITY, u64::from(r.capacity))
+        & (r.metered <= most(r.capacity))
         & status_ok(r)
         & (not_offering(r) | offering(terms, r))
 }
 
 // 6 and 7 for a row whose mark is right: its ranges, and its id against the id before it.
-pub fn row_checks(terms: Terms, r: Row, last: u16) -> usize
-    ensures { result ≡ first_of (row_checks terms r last) }
+pub fn row_checks(terms: Terms, r: Row, last: u16) -> Result<(), Fault>
+    ensures { fault_in result ≡ first_of (row_checks terms r last) }
 {
-    let ok = row_ok(terms, r);
-    if !ok {
-        return 6;
+    if !row_ok(terms, r) {
+        return Err(Fault::RowRange);
     }
     if r.id <= last {
-        return 7;
+        return Err(Fault::RowOrder);
     }
-    0
+    Ok(())
 }

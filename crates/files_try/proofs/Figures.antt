@@ -12,8 +12,8 @@ use Rattle.records.specs.Record.{fields_at, record_at}
 use Rattle.files.specs.Layout.{head_at, row_at}
 use Rattle.files.specs.Form.{terms_at, known, states, terms_of, rows_from}
 use Rattle.files.specs.Range.{head_tests, head_ok, terms_tests, terms_ok, status_ok, idle_tests, not_offering, offer_tests, offering, row_tests, row_ok}
-use Rattle.files.specs.Order.{front_checks, head_checks, row_checks, row_checks_at, row_checks_of, interval_order, file_order, verdict_of, number_of}
-use Rattle.files.specs.declared.Verdict.{Verdict}
+use Rattle.files.specs.Order.{front_checks, head_checks, row_checks, row_checks_at, row_checks_of, interval_order, file_order, verdict_of}
+use Rattle.files.specs.Verdict.{Verdict, number_of}
 use Rattle.files_try.specs.Tried.{answer_of, stated, stated_answer}
 
 pub record Figures : Type 0 where

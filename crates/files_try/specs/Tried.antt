@@ -1,7 +1,8 @@
 -- An interval file of one thermal row that offers, with a capacity and a tier 1 bid to try (01, Checked figures); and one that states its
 -- terms, with two bytes to change and a length (02, request 6).
 use Rattle.std.specs.Prelude.{ℕ, ◌+◌, ◌/◌, ◌%◌, List, [], ◌∷◌, take, set}
-use Rattle.files.specs.Order.{verdict_of, number_of}
+use Rattle.files.specs.Order.{verdict_of}
+use Rattle.files.specs.Verdict.{number_of}
 
 -- tariff 1300, need 3,000; id 1, thermal, metered 9,000, minimum 0, tier 2 bid 400
 abbrev pub tried : ℕ → ℕ → List ℕ

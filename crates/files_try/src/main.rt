@@ -3,10 +3,10 @@
 #![tactic(auto)]
 
 ghost use Rattle.std.specs.Prelude.{◌≡◌, ◌<◌, ◌≤◌};
-ghost use Rattle.files.specs.Order.{number_of};
+ghost use Rattle.files.specs.Verdict.{number_of, told};
 ghost use Rattle.files_try.specs.Tried.{tried, answer_of, stated, stated_answer};
 
-use files::Verdict;
+use files::Refusal;
 
 // The bytes of an interval file of one row.
 fn trial(capacity: u16, bid1: u16) -> [u8; 36]
@@ -52,12 +52,13 @@ fn trial(capacity: u16, bid1: u16) -> [u8; 36]
     ]
 }
 
-fn number(v: Verdict) -> usize
-    ensures { result ≡ number_of v }
+// The number of an answer.
+fn number(answer: Result<usize, Refusal>) -> usize
+    ensures { result ≡ number_of (told answer) }
 {
-    match v {
-        Verdict::Accepted(_) => 0,
-        Verdict::Refused(k, _) => k,
+    match answer {
+        Ok(_) => 0,
+        Err(refusal) => refusal.fault.number(),
     }
 }
 

@@ -53,10 +53,10 @@ pub counted-unique : OneResult counted-reads.Learnt
 counted-unique κs a x y e f p q = p.0 ∙ sym q.0
 
 pub list-payers-unique : LeavesOne list-payers-reads.Learnt
-    (λ κs x y e f. (x ≡ y) × Below x (λ j. at e.1.1.0.now j ≡ at f.1.1.0.now j))
+    (λ κs x y e f. (x ≡ y) × Below x (λ j. at e.1.0.now j ≡ at f.1.0.now j))
 list-payers-unique κs a x y e f p q = (
   p.many ∙ sym q.many,
-  λ j l. let s = found _ _ _ _ j p l in sym (ap (at f.1.1.0.now) (sym s.place) ∙ q.places _ s.inside s.passes),
+  λ j l. let s = found _ _ _ _ j p l in sym (ap (at f.1.0.now) (sym s.place) ∙ q.places _ s.inside s.passes),
 )
 
 pub count-visits-unique : OneResult count-visits-reads.Learnt

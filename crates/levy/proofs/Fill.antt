@@ -1,38 +1,33 @@
 -- Loops that fill a column, position by position, with numbers of 32 bits: what holds after i of n positions.
 --     Fill                          the loops' invariant: f stands at every position passed, and each number is small
---     fill_none, fill_on            before the loop, one position more
+--     fill_on                       one position more
 --     fill-small                    after it every number is one of 32 bits
 --     fill_is                       a filled copy is what was copied
 --     small_at                      a number of such a column
---     open-on, open-end             the column of open weights
---     part-fits, paid-part, paid-cap    one payment
+--     open_at, open-end             the column of open weights
 --     made_at, paid-on, paid-end    the column of caps that becomes that of payments
 --     whole-small                   the sum of such a column fits 64 bits
 use Prim.Native.Nat.{ℕ, ◌+◌, ◌^◌, ◌≤◌, ◌<◌}
-use mathlib.Core.Path.{◌≡◌, sym, ◌∙◌}
+use mathlib.Core.Path.{◌≡◌, ◌∙◌}
 use mathlib.Core.Logic.{⊎_elim}
 use mathlib.Core.Bool.{cond}
-use mathlib.Core.List.{List, ◌++◌}
+use mathlib.Core.List.{List}
 use native.Mathlib.Omega.{arith}
 use lib.Dec.{eqb}
-use lib.ListN.{length, take, drop, set, get_or-eq_default}
-use lib.Seq.{get_or-take, length-take-le, get_or-set_other, get_or-set_same, ext_get_or}
+use lib.ListN.{length, set, get_or-eq_default}
+use lib.Seq.{get_or-set_other, get_or-set_same, ext_get_or}
 use borrow.Author.Count.{below_more}
-use borrow.Author.Tests.{eq-eqb, ne_eqb}
 use Rattle.columns.specs.Sum.{whole}
 use Rattle.columns.specs.Table.{at, table, Below}
 use Rattle.columns.proofs.Sum.{lt-or-le, sum_bound}
 use Rattle.columns.proofs.Table.{table_is}
-use Rattle.columns.proofs.Fill.{Reached, reached-none, reached-next, reached-now, reached-front}
+use Rattle.columns.proofs.Fill.{Reached, reached-next, reached-now}
 use Rattle.levy.specs.Rounds.{open_weights}
-use Rattle.levy.specs.Asked.{Small, Still, paid_from, Made}
+use Rattle.levy.specs.Asked.{Small, paid_from, Made}
 
 pub record Fill (f : ℕ → ℕ) (start out : List ℕ) (i : ℕ) : Type 0 where
   pub reached : Reached 0 f start out i
   pub small : Below i (λ k. at out k < 2 ^ 32)
-
-pub fill_none : (f : ℕ → ℕ) (start : List ℕ) → Fill f start start 0
-fill_none f start = record { reached = reached-none 0 f start; small = λ k l. absurd (omega arith) }
 
 module _ (f : ℕ → ℕ) (start out : List ℕ) (i : ℕ) (fill : Fill f start out i) (n : ℕ) (long : length start ≡ n) where
   pub fill_on : i < n → (v : ℕ) → v ≡ f i → v < 2 ^ 32 → Fill f start (set out i v) (i + 1)
@@ -60,45 +55,14 @@ pub small_at : (xs : List ℕ) → Small xs → (i : ℕ) → at xs i < 2 ^ 32
 small_at xs low i = low i
 
 -- the weight of a position that has not closed
-unfoldable pub open_at : List ℕ → List ℕ → ℕ → ℕ
+abbrev pub open_at : List ℕ → List ℕ → ℕ → ℕ
 open_at weights marks i = cond (eqb (at marks i) 0) (at weights i) 0
 
-pub open-on : (n : ℕ) (weights marks start out : List ℕ) (i : ℕ) → Fill (open_at weights marks) start out i → n ≤ 256 → length start ≡ 256
-    → i < n → (v : ℕ) → v ≡ cond (eqb (at marks i) 0) (at weights i) 0 → v < 2 ^ 32 → Fill (open_at weights marks) start (set out i v) (i + 1)
-open-on n weights marks start out i fill few long l v e low =
-    fill_on (open_at weights marks) start out i fill 256 long (omega arith) v (unfold open_at in e) low
-
-pub open-end : (n : ℕ) (weights marks start out : List ℕ) (i : ℕ) → Fill (open_at weights marks) start out i → n ≤ i → n ≤ 256
-    → length weights ≡ 256 → length start ≡ 256 → Still n weights marks out
-unfolding open_weights open_at
-open-end n weights marks start out i fill q few long room =
-    record {
-      is =
-          table_is 0 (take n out) (length (take n weights)) (λ k. cond (eqb (at (take n marks) k) 0) (at (take n weights) k) 0)
-          (front ∙ sym wide)
-          (λ k l. rw (get_or-take n out k 0 (omega (arith, wide)), get_or-take n weights k 0 (omega (arith, wide)), get_or-take n marks k 0 (omega (arith, wide)))
-          (fill.reached.done k (omega (arith, wide))));
-      small = λ k. ⊎_elim (λ (l : k < n). rw (get_or-take n out k 0 l) (fill.small k (omega arith)))
-          (λ (m : n ≤ k). let e : at (take n out) k ≡ 0 = get_or-eq_default (take n out) 0 (omega (arith, front)) in omega arith)
-          (lt-or-le k n);
-      long = fill.reached.room ∙ room;
-    }
-  where
-    wide : length (take n weights) ≡ n
-    wide = length-take-le n weights (omega arith)
-
-    front : length (take n out) ≡ n
-    front = length-take-le n out (omega (arith, fill.reached.room))
-
--- what the one who closed pays, and what the others do
-pub part-fits : (m a b : ℕ) → cond (eqb m 0) a b < 2 ^ 32 → m ≡ 0 → a < 2 ^ 32
-part-fits m a b h e = rw (eq-eqb m 0 e) at h
-
-pub paid-part : (m a b : ℕ) → m ≡ 0 → a ≡ cond (eqb m 0) a b
-paid-part m a b e = rw (eq-eqb m 0 e)
-
-pub paid-cap : (m a b : ℕ) → (m ≡ 0 → ⊥) → b ≡ cond (eqb m 0) a b
-paid-cap m a b e = rw (ne_eqb m 0 e)
+pub open-end : (weights marks start out : List ℕ) (i : ℕ) → Fill (open_at weights marks) start out i → length start ≤ i
+    → length start ≡ length weights → out ≡ open_weights weights marks
+unfolding open_weights
+open-end weights marks start out i fill q long =
+    table_is 0 out (length weights) (open_at weights marks) (fill.reached.room ∙ long) (λ k l. fill.reached.done k (omega arith))
 
 -- caps become payments, position by position: what stands at the next one is still its cap
 module _ (caps₀ marks parts caps : List ℕ) (i : ℕ) (made : Made caps₀ marks parts) (fill : Fill (paid_from caps₀ marks parts) caps₀ caps i)
@@ -109,14 +73,13 @@ module _ (caps₀ marks parts caps : List ℕ) (i : ℕ) (made : Made caps₀ ma
 
   pub paid-on : (v : ℕ) → v ≡ cond (eqb (at marks i) 0) (at parts i) (at caps i) → Fill (paid_from caps₀ marks parts) caps₀ (set caps i v) (i + 1)
   paid-on v e =
-      fill_on (paid_from caps₀ marks parts) caps₀ caps i fill 256 made.caps_long (omega (arith, made.few)) v
+      fill_on (paid_from caps₀ marks parts) caps₀ caps i fill (length parts) made.caps_long l v
       (unfold paid_from in rw (← reached-now 0 (paid_from caps₀ marks parts) caps₀ caps i fill.reached) e) (rw e made_at)
 
-pub paid-end : (caps₀ marks parts caps : List ℕ) (i : ℕ) → Fill (paid_from caps₀ marks parts) caps₀ caps i → i ≤ length parts → length parts ≤ i
-    → caps ≡ table (length parts) (paid_from caps₀ marks parts) ++ drop (length parts) caps₀
-paid-end caps₀ marks parts caps i fill l m =
-    let e : i ≡ length parts = omega arith in
-    rw (← e) (reached-front 0 (paid_from caps₀ marks parts) caps₀ caps i fill.reached)
+pub paid-end : (caps₀ marks parts caps : List ℕ) (i : ℕ) → Fill (paid_from caps₀ marks parts) caps₀ caps i → length caps₀ ≤ i
+    → length caps₀ ≡ length parts → caps ≡ table (length parts) (paid_from caps₀ marks parts)
+paid-end caps₀ marks parts caps i fill q long =
+    table_is 0 caps (length parts) (paid_from caps₀ marks parts) (fill.reached.room ∙ long) (λ k l. fill.reached.done k (omega arith))
 
 pub whole-small : (xs : List ℕ) → length xs ≤ 256 → Small xs → whole xs < 2 ^ 64
 unfolding whole

@@ -6,7 +6,6 @@ pub mod Visits
 pub mod Payment
 pub mod Cut
 pub mod Unique
-pub mod Listed
 pub mod Turn
 pub mod Fill
 pub mod Making

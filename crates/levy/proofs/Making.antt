@@ -1,23 +1,24 @@
 -- From shares to payments, cuts and what is returned: each need of the code that makes them, and what the callers of payments have.
---     spread-split, spread-made, spread-out     the money left, shared and paid: what the sharing asks, what the making asks, the column
+--     spread-split                              the money left: what its sharing asks
 --     pay-spread, payments-made                 payments: what the sharing of the money left asks, the column
---     part-split, part-long, part_small, part-made     an amount over sums: what the sharing and the copying ask, the column
---     front-room                                the room lent for columns of n
+--     part-split, part-long, part_small         an amount over sums: what the sharing and the copying ask
 --     shortfall-final                           the shortfall that the code answers, of the last standing
 --     payable                                   what the makers of payments ask, from the answer of the rounds
 use Prim.Native.Nat.{ℕ, ◌≤◌, ◌<◌}
 use mathlib.Core.Path.{◌≡◌, ap, sym, ◌∙◌}
-use mathlib.Core.List.{List, ◌++◌}
+use mathlib.Core.Bool.{cond}
+use mathlib.Core.List.{List}
 use native.Mathlib.Omega.{arith}
-use lib.ListN.{length, take, drop}
-use lib.Seq.{get_or-take, length-take-le}
-use Rattle.columns.specs.Table.{table}
-use Rattle.columns.proofs.Table.{table_same, front_long}
+use lib.Dec.{eqb}
+use lib.ListN.{length, take}
+use lib.Seq.{length-take-le}
+use Rattle.columns.specs.Table.{at, table}
+use Rattle.columns.proofs.Table.{table-length, table_same}
 use Rattle.share.specs.Share.{shares}
 use Rattle.share.specs.Split.{Splittable}
 use Rattle.share.proofs.Laws.{shares_at, shares-length, share-le-weight}
-use Rattle.levy.specs.Rounds.{final, paid, payments, shortfall}
-use Rattle.levy.specs.Asked.{standing_of, Small, Levyable, Finished, Short, Still, Payable, Spread, paid_from, Made, Room, Apportionable}
+use Rattle.levy.specs.Rounds.{final, open_weights, paid, payments, shortfall}
+use Rattle.levy.specs.Asked.{standing_of, Small, Levyable, Finished, Short, Payable, Spread, paid_from, Room, Apportionable}
 use Rattle.levy.specs.declared.Rest.{Rest}
 use Rattle.levy.proofs.Payment.{paid-le-cap}
 use Rattle.levy.proofs.Fill.{whole-small}
@@ -27,62 +28,47 @@ module _ (money : ℕ) (still caps marks : List ℕ) (first : ℕ) (parts₀ : L
   spread-split =
       record { short = asked.few; room = asked.parts_long; fits = whole-small still asked.few asked.small; inside = asked.turn }
 
-  module _ (parts : List ℕ) (parts_are : parts ≡ shares money still first) where
-    long : length parts ≡ length still
-    long = ap length parts_are ∙ shares-length money still first
-
-    pub spread-made : Made caps marks parts
-    spread-made =
-        record {
-          few = omega (arith, long, asked.few);
-          caps_long = asked.caps_long;
-          fits = λ i l. rw parts_are (asked.fits i (omega (arith, long)));
-        }
-
-    pub spread-out : (made : List ℕ) → made ≡ table (length parts) (paid_from caps marks parts) ++ drop (length parts) caps
-        → made ≡ table (length still) (paid_from caps marks (shares money still first)) ++ drop (length still) caps
-    spread-out made is = is ∙ (λ j. table (long j) (paid_from caps marks (parts_are j)) ++ drop (long j) caps)
-
 module _ (n : ℕ) (weights caps marks : List ℕ) (rest : Rest) (first : ℕ) (asked : Payable n weights caps marks rest first)
-    (still : List ℕ) (open-are : Still n weights marks still) where
-  wide : length (take n weights) ≡ n
-  wide = length-take-le n weights (omega (arith, asked.few, asked.weights_long))
+    (still : List ℕ) (open-are : still ≡ open_weights (take n weights) (take n marks)) where
+  abbrev ws : List ℕ
+  ws = take n weights
 
-  front : length (take n still) ≡ n
-  front = length-take-le n still (omega (arith, asked.few, open-are.long))
+  abbrev cs : List ℕ
+  cs = take n caps
 
-  paid-same : (i : ℕ) → i < n
-      → paid_from caps marks (shares rest.money.0 (take n still) first) i ≡ paid (take n weights) (take n caps) (standing_of n marks rest) first i
+  abbrev ms : List ℕ
+  ms = take n marks
+
+  wide : length still ≡ n
+  unfolding open_weights
+  wide =
+      ap length open-are ∙ table-length (length ws) (λ i. cond (eqb (at ms i) 0) (at ws i) 0)
+      ∙ length-take-le n weights (omega (arith, asked.few, asked.weights_long))
+
+  paid-same : (i : ℕ) → paid_from cs ms (shares rest.money.0 still first) i ≡ paid ws cs (standing_of n marks rest) first i
   unfolding paid_from paid
-  paid-same i l =
-      rw (get_or-take n marks i 0 l, get_or-take n caps i 0 l, shares_at rest.money.0 (take n still) first i, open-are.is)
+  paid-same i = rw (shares_at rest.money.0 still first i, open-are)
 
-  pub pay-spread : (parts : List ℕ) → length parts ≡ 256 → Spread rest.money.0 (take n still) caps marks first (take n parts)
-  pay-spread parts room =
+  pub pay-spread : Small still → (parts : List ℕ) → length parts ≡ n → Spread rest.money.0 still (take n caps) (take n marks) first parts
+  pay-spread small parts room =
       record {
-        few = omega (arith, front, asked.few);
-        small = open-are.small;
-        parts_long = omega (arith, front, length-take-le n parts (omega (arith, asked.few)));
-        caps_long = asked.caps_long;
-        turn = rw front asked.turn;
-        fits = λ i l. rw (paid-same i (omega (arith, front))) (asked.fits i);
+        few = omega (arith, wide, asked.few);
+        small = small;
+        parts_long = room ∙ sym wide;
+        caps_long = length-take-le n caps (omega (arith, asked.few, asked.caps_long)) ∙ sym wide;
+        marks_long = length-take-le n marks (omega (arith, asked.few, asked.marks_long)) ∙ sym wide;
+        turn = rw wide asked.turn;
+        fits = λ i l. rw (paid-same i) (asked.fits i);
       }
 
-  pays : table n (paid_from caps marks (shares rest.money.0 (take n still) first))
-      ≡ payments (take n weights) (take n caps) (standing_of n marks rest) first
+  pub payments-made : (made : List ℕ) → made ≡ table (length still) (paid_from (take n caps) (take n marks) (shares rest.money.0 still first))
+      → made ≡ payments (take n weights) (take n caps) (standing_of n marks rest) first
   unfolding payments
-  pays =
-      table_same n (paid_from caps marks (shares rest.money.0 (take n still) first)) (paid (take n weights) (take n caps) (standing_of n marks rest) first)
-      paid-same
-      ∙ ap (λ (m : ℕ). table m (paid (take n weights) (take n caps) (standing_of n marks rest) first)) (sym wide)
-
-  pub payments-made : (made : List ℕ)
-      → made ≡ table (length (take n still)) (paid_from caps marks (shares rest.money.0 (take n still) first)) ++ drop (length (take n still)) caps
-      → made ≡ payments (take n weights) (take n caps) (standing_of n marks rest) first ++ drop n caps
   payments-made made is =
       is
-      ∙ ap (λ (m : ℕ). table m (paid_from caps marks (shares rest.money.0 (take n still) first)) ++ drop m caps) front
-      ∙ ap (λ (xs : List ℕ). xs ++ drop n caps) pays
+      ∙ table_same (length still) (paid_from cs ms (shares rest.money.0 still first)) (paid ws cs (standing_of n marks rest) first) (λ i l. paid-same i)
+      ∙ ap (λ (m : ℕ). table m (paid ws cs (standing_of n marks rest) first))
+      (wide ∙ sym (length-take-le n weights (omega (arith, asked.few, asked.weights_long))))
 
 module _ (amount : ℕ) (sums : List ℕ) (first : ℕ) (out : List ℕ) (asked : Apportionable amount sums first out)
     (weights : List ℕ) (same : weights ≡ sums) where
@@ -105,14 +91,6 @@ module _ (amount : ℕ) (sums : List ℕ) (first : ℕ) (out : List ℕ) (asked 
     part_small low i =
         rw (parts_are, shares_at amount weights turn i)
         (omega (arith, low i, share-le-weight amount weights turn i (rw same asked.covered)))
-
-  pub part-made : (parts : List ℕ) → parts ≡ shares amount weights first → (made : List ℕ) → made ≡ parts
-      → made ≡ shares amount sums first
-  part-made parts parts_are made is = is ∙ parts_are ∙ ap (λ (xs : List ℕ). shares amount xs first) same
-
--- the first n of two whole arrays
-pub front-room : (n : ℕ) (xs ys : List ℕ) → n ≤ 256 → length xs ≡ 256 → length ys ≡ 256 → Room n (take n xs) (take n ys)
-front-room n xs ys few long more = record { one_long = sym (front_long xs n 256 long few); two_long = sym (front_long ys n 256 more few) }
 
 -- once the rounds have ended nobody pays above its cap, so each payment fits
 pub payable : (total n : ℕ) (weights caps marks₀ marks : List ℕ) (rest : Rest) → Levyable n weights caps marks₀ total

@@ -1,4 +1,4 @@
--- The loop of one round, over the list of open payers: what holds before its place j, in the words of the arrays that the code holds.
+-- The loop of one round, over the list of open payers: what holds before its place j, in the words of the columns that the code holds.
 -- Who is not open does not close, so the loop has done all positions up to the next open one, or all n.
 --     Turn             what holds once the positions below i are done
 --     Pass             the loop's invariant: Turn at the next open position
@@ -17,8 +17,8 @@ use native.Mathlib.Nat.{le_refl}
 use native.Mathlib.Numerals.{add-one}
 use native.Mathlib.Omega.{arith}
 use lib.Dec.{leb, ltb, eqb}
-use lib.ListN.{length, take, drop, set}
-use lib.Seq.{get_or-set_other, get_or-take, length-take-le, drop-set-lt}
+use lib.ListN.{length, set}
+use lib.Seq.{get_or-set_other}
 use borrow.Author.Tests.{eqb-true}
 use Rattle.columns.specs.Lists.{Lists}
 use Rattle.columns.specs.Sum.{bit, sum_to, count_to, sum_where}
@@ -31,23 +31,20 @@ use Rattle.columns.proofs.Fill.{Reached, reached-none, reached-next, reached-sam
 use Rattle.columns.proofs.Mask.{where_next, where-bound, count-parts}
 use Rattle.columns.proofs.Rank.{test-or}
 use Rattle.levy.specs.Rounds.{Standing, is_open, closes, next}
-use Rattle.levy.specs.Asked.{standing, Round, Shut}
+use Rattle.levy.specs.Asked.{standing_now, Round, Shut}
 use Rattle.levy.proofs.Step.{closed_is, open-parts}
 use Rattle.columns.proofs.Listed.{lists-none, lists-quiet, lists-next}
 
-module _ (n : ℕ) (weights caps marks₀ : List ℕ) (money weight rounds : ℕ) (list₀ : List ℕ) where
-  abbrev ws : List ℕ
-  ws = take n weights
-
-  abbrev cs : List ℕ
-  cs = take n caps
+module _ (ws cs marks₀ : List ℕ) (money weight rounds : ℕ) (list₀ : List ℕ) where
+  abbrev n : ℕ
+  n = length ws
 
   abbrev st : Standing
-  st = standing n marks₀ money weight rounds
+  st = standing_now marks₀ money weight rounds
 
   -- who is open, who closes, who stays open, and everybody's mark after the round
   abbrev was : ℕ → Bool
-  was = is_open ws (take n marks₀)
+  was = is_open ws marks₀
 
   abbrev hit : ℕ → Bool
   hit = closes ws cs st
@@ -56,7 +53,7 @@ module _ (n : ℕ) (weights caps marks₀ : List ℕ) (money weight rounds : ℕ
   stays = is_open ws (next ws cs st).marks
 
   abbrev mark : ℕ → ℕ
-  mark i = cond (hit i) (suc rounds) (at (take n marks₀) i)
+  mark i = cond (hit i) (suc rounds) (at marks₀ i)
 
   -- p and g are the caps and the weights that have closed, k is how many stay, j how many were open
   pub record Turn (marks list : List ℕ) (p g k j i : ℕ) : Type 0 where
@@ -64,7 +61,6 @@ module _ (n : ℕ) (weights caps marks₀ : List ℕ) (money weight rounds : ℕ
     pub caps_are : p ≡ sum_where i hit (at cs)
     pub weights_are : g ≡ sum_where i hit (at ws)
     pub reached : Reached 0 mark marks₀ marks i
-    pub past : drop n marks ≡ drop n marks₀
     pub kept : Lists i stays list k
     pub passed : j ≡ count_to i was
     pub coming : (q : ℕ) → j ≤ q → at list q ≡ at list₀ q
@@ -74,13 +70,10 @@ module _ (n : ℕ) (weights caps marks₀ : List ℕ) (money weight rounds : ℕ
     pub turn : Turn marks list p g k j i
     pub ahead : ((i < n) × (was i ≡ true)) ⊎ (i ≡ n)
 
-  module _ (m : ℕ) (asked : Round n weights caps marks₀ money weight rounds list₀ m) where
-    wide : length ws ≡ n
-    wide = length-take-le n weights (omega (arith, asked.held.weights_long, asked.held.few))
-
+  module _ (m : ℕ) (asked : Round ws cs marks₀ money weight list₀ m) where
     -- who is open stays so or closes
     parts : (i : ℕ) → i < n → bit (was i) ≡ bit (stays i) + bit (hit i)
-    parts i l = open-parts ws cs st bit refl i (omega (arith, wide))
+    parts i l = open-parts ws cs st bit refl i l
 
     pub place_in : (j : ℕ) → j < m → j < 256
     place_in j l = omega (arith, asked.listed.many, count-le n was, asked.held.few)
@@ -94,7 +87,6 @@ module _ (n : ℕ) (weights caps marks₀ : List ℕ) (money weight rounds : ℕ
           caps_are = unfold sum_where sum_to in refl;
           weights_are = unfold sum_where sum_to in refl;
           reached = reached-none 0 mark marks₀;
-          past = refl;
           kept = lists-none stays list₀ asked.listed.long;
           passed = unfold count_to sum_to in refl;
           coming = λ q l. refl;
@@ -109,9 +101,7 @@ module _ (n : ℕ) (weights caps marks₀ : List ℕ) (money weight rounds : ℕ
             caps_are = omega (arith, turn.caps_are, where_next i hit (at cs), none (at cs i));
             weights_are = omega (arith, turn.weights_are, where_next i hit (at ws), none (at ws i));
             reached =
-                reached-same 0 mark marks₀ marks i turn.reached (omega (arith, asked.held.few, asked.held.marks_long))
-                (rw (quiet, get_or-take n marks₀ i 0 l));
-            past = turn.past;
+                reached-same 0 mark marks₀ marks i turn.reached (omega (arith, asked.held.marks_long)) (rw quiet);
             kept = lists-quiet stays list k i turn.kept (no (stays i) (omega (arith, parts i l, ap bit off)));
             passed = omega (arith, turn.passed, count_next i was, ap bit off);
             coming = turn.coming;
@@ -141,14 +131,12 @@ module _ (n : ℕ) (weights caps marks₀ : List ℕ) (money weight rounds : ℕ
 
     module _ (marks list : List ℕ) (p g k j : ℕ) (pass : Pass marks list p g k j) where
       pub pass-end : m ≤ j
-          → Shut n weights caps marks₀ st marks list (record { caps = record { 0 = p }; weights = g; left = k })
+          → Shut ws cs st marks list (record { caps = record { 0 = p }; weights = g; left = k })
       pass-end q =
           record {
             marks_are = marks_are;
-            past = turn.past;
-            long = long;
-            caps_are = turn.caps_are ∙ ap (λ (o : ℕ). sum_where o hit (at cs)) (sym wide) ∙ sym (closed_is ws cs st cs);
-            weights_are = turn.weights_are ∙ ap (λ (o : ℕ). sum_where o hit (at ws)) (sym wide) ∙ sym (closed_is ws cs st ws);
+            caps_are = turn.caps_are ∙ sym (closed_is ws cs st cs);
+            weights_are = turn.weights_are ∙ sym (closed_is ws cs st ws);
             listed = rw marks_are turn.kept;
           }
         where
@@ -162,14 +150,8 @@ module _ (n : ℕ) (weights caps marks₀ : List ℕ) (money weight rounds : ℕ
           turn : Turn marks list p g k j n
           turn = subst (Turn marks list p g k j) ended pass.turn
 
-          long : length marks ≡ 256
-          long = turn.reached.room ∙ asked.held.marks_long
-
-          marks_are : take n marks ≡ (next ws cs st).marks
-          marks_are =
-              unfold next in table_is 0 (take n marks) (length ws) mark
-              (omega (arith, wide, length-take-le n marks (omega (arith, long, asked.held.few))))
-              (λ k l. get_or-take n marks k 0 (omega (arith, wide)) ∙ turn.reached.done k (omega (arith, wide)))
+          marks_are : marks ≡ (next ws cs st).marks
+          marks_are = unfold next in table_is 0 marks n mark (turn.reached.room ∙ asked.held.marks_long) turn.reached.done
 
       pub caps-fit : (r : ℕ) → r < 2 ^ 32 → p + r < 2 ^ 64
       caps-fit r small =
@@ -213,20 +195,19 @@ module _ (n : ℕ) (weights caps marks₀ : List ℕ) (money weight rounds : ℕ
         on : was x ≡ true
         on = rw here next-open.1
 
-        pub products : (at caps x * weight < 2 ^ 63) × (money * at weights x < 2 ^ 63)
+        pub products : (at cs x * weight < 2 ^ 63) × (money * at ws x < 2 ^ 63)
         products = (
-          product 44000000 140800000000 (2 ^ 63) (omega (arith, asked.held.low x, get_or-take n caps x 0 inside)) asked.heavy tt,
-          product 6400000000 550000000 (2 ^ 63) asked.held.rich (omega (arith, asked.held.light x, get_or-take n weights x 0 inside)) tt,
+          product 44000000 140800000000 (2 ^ 63) (asked.held.low x) asked.heavy tt,
+          product 6400000000 550000000 (2 ^ 63) asked.held.rich (asked.held.light x) tt,
         )
 
         -- the test on what the code reads is the test of the definition
-        hit-is : leb (at caps x * weight) (money * at weights x) ≡ hit x
+        hit-is : leb (at cs x * weight) (money * at ws x) ≡ hit x
         unfolding closes
-        hit-is = rw (on, get_or-take n weights x 0 inside, get_or-take n caps x 0 inside)
+        hit-is = rw on
 
-        unmarked : at (take n marks₀) x ≡ 0
-        unmarked =
-            eqb-true (at (take n marks₀) x) 0 (left-true (eqb (at (take n marks₀) x) 0) (ltb 0 (at ws x)) on)
+        unmarked : at marks₀ x ≡ 0
+        unmarked = eqb-true (at marks₀ x) 0 (left-true (eqb (at marks₀ x) 0) (ltb 0 (at ws x)) on)
 
         -- no more stay than were open
         fewer : k ≤ j
@@ -245,17 +226,17 @@ module _ (n : ℕ) (weights caps marks₀ : List ℕ) (money weight rounds : ℕ
         kept-fits b le = omega (arith, kept_in)
 
         sum_step : (xs : List ℕ) (t : Bool) → t ≡ hit x → (r : ℕ) → r ≡ cond t (at xs x) 0 → (sum : ℕ)
-            → sum ≡ sum_where x hit (at (take n xs)) → sum + r ≡ sum_where (x + 1) hit (at (take n xs))
+            → sum ≡ sum_where x hit (at xs) → sum + r ≡ sum_where (x + 1) hit (at xs)
         sum_step xs t e r r-is sum sum_is_lem =
-            let new : cond (hit x) (at (take n xs) x) 0 ≡ r = rw (← e, get_or-take n xs x 0 inside) (sym r-is) in
-            omega (arith, where_next x hit (at (take n xs)))
+            let new : cond (hit x) (at xs x) 0 ≡ r = rw (← e) (sym r-is) in
+            omega (arith, where_next x hit (at xs))
 
         one : (t : Bool) → bit (not t) + bit t ≡ 1
         one true = refl
         one false = refl
 
-        pub pass-next : (t : Bool) → t ≡ leb (at caps x * weight) (money * at weights x)
-            → (r : ℕ) → r ≡ cond t (at caps x) 0 → (s : ℕ) → s ≡ cond t (at weights x) 0
+        pub pass-next : (t : Bool) → t ≡ leb (at cs x * weight) (money * at ws x)
+            → (r : ℕ) → r ≡ cond t (at cs x) 0 → (s : ℕ) → s ≡ cond t (at ws x) 0
             → (v : ℕ) → v ≡ cond t (rounds + 1) 0 → (b : ℕ) → b ≡ bit (not t)
             → Pass (set marks x v) (set list k (at list j)) (p + r) (g + s) (k + b) (j + 1)
         pass-next t is r r-is s s-is v v-is b b-is =
@@ -263,13 +244,12 @@ module _ (n : ℕ) (weights caps marks₀ : List ℕ) (money weight rounds : ℕ
             advance (set marks x v) (set list k (at list j)) (p + r) (g + s) (k + b) (j + 1) (n - (x + 1)) (x + 1) (omega (arith, inside))
             (record {
               within = omega (arith, inside);
-              caps_are = sum_step caps t e r r-is p turn.caps_are;
-              weights_are = sum_step weights t e s s-is g turn.weights_are;
+              caps_are = sum_step cs t e r r-is p turn.caps_are;
+              weights_are = sum_step ws t e s s-is g turn.weights_are;
               reached =
                   reached-next 0 mark marks₀ marks x v turn.reached
-                  (omega (arith, inside, turn.reached.room, asked.held.marks_long, asked.held.few))
+                  (omega (arith, inside, turn.reached.room, asked.held.marks_long))
                   (rw (← e, unmarked, ← (add-one rounds)) v-is);
-              past = drop-set-lt n marks x v inside ∙ turn.past;
               kept = rw (← x-is) (lists-next stays list k x turn.kept (omega (arith, inside, asked.held.few)) b
                   (omega (arith, b-is, one t, parts x inside, ap bit e, ap bit on)));
               passed = omega (arith, turn.passed, count_next x was, ap bit on);

@@ -1,11 +1,12 @@
--- What the functions of the rounds ask of their callers, and what they answer. Their columns of n positions stand in arrays of
--- 256; the numbers are those of the ranges, with room for what later requests need.
+-- What the functions of the rounds ask of their callers, and what they answer. The columns of n positions that other crates lend
+-- stand in arrays of 256; within the crate a column is a slice. The numbers are those of the ranges, with room for what later
+-- requests need.
 use Rattle.std.specs.Prelude.{ℕ, ◌+◌, ◌-◌, ◌^◌, ◌≤◌, ◌<◌, ◌≡◌, cond, List, eqb, length, take, drop, replicate}
 use Rattle.columns.specs.Lists.{Lists}
 use Rattle.columns.specs.Sum.{whole, sum_where}
 use Rattle.columns.specs.Table.{at}
 use Rattle.share.specs.Share.{shares}
-use Rattle.levy.specs.Rounds.{Standing, is_open, opens, closed, next, run, final, visits, open_weights, paid, shortfall, to_cut, to_return}
+use Rattle.levy.specs.Rounds.{Standing, is_open, opens, closed, next, run, final, visits, paid, shortfall, to_cut, to_return}
 use Rattle.levy.specs.declared.Closed.{Closed}
 use Rattle.levy.specs.declared.Rest.{Rest}
 use Rattle.levy.specs.declared.Left.{Left}
@@ -37,51 +38,57 @@ pub record Levyable (n : ℕ) (weights caps marks : List ℕ) (total : ℕ) : Ty
   pub held : Held n weights caps marks total
   pub blank : (i : ℕ) → at marks i ≡ 0
 
+-- how things stand, from a column of marks and the numbers beside it
+abbrev pub standing_now : List ℕ → ℕ → ℕ → ℕ → Standing
+standing_now marks money weight rounds =
+    record { marks = marks; money = money; weight = weight; rounds = rounds }
+
+-- the columns that the rounds go over, small enough as those of `Held`
+pub record InRange (weights caps marks : List ℕ) (money : ℕ) : Type 0 where
+  pub few : length weights ≤ 256
+  pub caps_long : length caps ≡ length weights
+  pub marks_long : length marks ≡ length weights
+  pub light : (i : ℕ) → at weights i ≤ 550000000
+  pub low : (i : ℕ) → at caps i ≤ 44000000
+  pub rich : money ≤ 6400000000
+
 -- an array begins with the open payers, m of them in order
-abbrev pub Listed : ℕ → List ℕ → List ℕ → List ℕ → ℕ → Type 0
-Listed n weights marks list m = Lists n (is_open (take n weights) (take n marks)) list m
+abbrev pub Listed : List ℕ → List ℕ → List ℕ → ℕ → Type 0
+Listed weights marks list m = Lists (length weights) (is_open weights marks) list m
 
 -- asked by one round
-pub record Round (n : ℕ) (weights caps marks : List ℕ) (money weight rounds : ℕ) (list : List ℕ) (m : ℕ) : Type 0 where
-  pub held : Held n weights caps marks money
+pub record Round (weights caps marks : List ℕ) (money weight : ℕ) (list : List ℕ) (m : ℕ) : Type 0 where
+  pub held : InRange weights caps marks money
   pub heavy : weight ≤ 140800000000
-  pub early : rounds ≤ 256
-  pub listed : Listed n weights marks list m
+  pub listed : Listed weights marks list m
 
 -- answered by one round: who closes has its mark, who is left open is listed, and nothing else changes
-pub record Shut (n : ℕ) (weights caps marks : List ℕ) (st : Standing) (after list : List ℕ) (r : Closed) : Type 0 where
-  pub marks_are : take n after ≡ (next (take n weights) (take n caps) st).marks
-  pub past : drop n after ≡ drop n marks
-  pub long : length after ≡ 256
-  pub caps_are : r.caps.0 ≡ closed (take n weights) (take n caps) st (take n caps)
-  pub weights_are : r.weights ≡ closed (take n weights) (take n caps) st (take n weights)
-  pub listed : Listed n weights after list r.left
+pub record Shut (weights caps : List ℕ) (st : Standing) (after list : List ℕ) (r : Closed) : Type 0 where
+  pub marks_are : after ≡ (next weights caps st).marks
+  pub caps_are : r.caps.0 ≡ closed weights caps st caps
+  pub weights_are : r.weights ≡ closed weights caps st weights
+  pub listed : Listed weights after list r.left
 
 -- asked where redistribution begins, and again at each round: the weight is that of those who have not closed, marks are
 -- numbers of past rounds, only payers of weight above 0 have closed, and there are rounds enough for the open ones, who are listed
-pub record Ready (n : ℕ) (weights caps marks : List ℕ) (money weight rounds : ℕ) (list : List ℕ) (m : ℕ) : Type 0 where
-  pub held : Held n weights caps marks money
-  pub weight_is : weight ≡ sum_where (length (take n weights)) (λ i. eqb (at (take n marks) i) 0) (at (take n weights))
-  pub marks_le : (i : ℕ) → at (take n marks) i ≤ rounds
-  pub payers : (i : ℕ) → 0 < at (take n marks) i → 0 < at (take n weights) i
+pub record Ready (weights caps marks : List ℕ) (money weight rounds : ℕ) (list : List ℕ) (m : ℕ) : Type 0 where
+  pub held : InRange weights caps marks money
+  pub weight_is : weight ≡ sum_where (length weights) (λ i. eqb (at marks i) 0) (at weights)
+  pub marks_le : (i : ℕ) → at marks i ≤ rounds
+  pub payers : (i : ℕ) → 0 < at marks i → 0 < at weights i
   pub early : rounds + m ≤ 256
-  pub listed : Listed n weights marks list m
+  pub listed : Listed weights marks list m
 
 -- answered by redistribution from any standing: however many rounds are allowed, if they are enough
-pub record Ended (n : ℕ) (weights caps marks : List ℕ) (st : Standing) (after rest : List ℕ) : Type 0 where
-  pub is :
-      (f : ℕ) → opens (take n weights) (take n marks) ≤ f
-      → run f (take n weights) (take n caps) st ≡ standing n after (at rest 0) (at rest 1) (at rest 2)
-  pub past : drop n after ≡ drop n marks
-  pub long : length after ≡ 256
-  pub early : at rest 2 ≤ 256
+pub record Ended (weights caps : List ℕ) (st : Standing) (after : List ℕ) (money weight rounds : ℕ) : Type 0 where
+  pub is : (f : ℕ) → opens weights st.marks ≤ f → run f weights caps st ≡ standing_now after money weight rounds
+  pub early : rounds ≤ 256
 
 -- asked where visits are counted: every mark is one of so many rounds
-pub record Countable (n : ℕ) (weights marks : List ℕ) (rounds : ℕ) : Type 0 where
-  pub few : n ≤ 256
-  pub weights_long : length weights ≡ 256
-  pub marks_long : length marks ≡ 256
-  pub marks_le : (i : ℕ) → at (take n marks) i ≤ rounds
+pub record Countable (weights marks : List ℕ) (rounds : ℕ) : Type 0 where
+  pub few : length weights ≤ 256
+  pub marks_long : length marks ≡ length weights
+  pub marks_le : (i : ℕ) → at marks i ≤ rounds
   pub early : rounds ≤ 256
 
 -- answered by the rounds: how things stand after the last one, how often payers were looked at, and 0 past the n positions
@@ -100,12 +107,6 @@ pub record Covered (penalties short : ℕ) (r : Left) : Type 0 where
   pub cut : r.cut.0 ≡ to_cut penalties short
   pub returned : r.returned.0 ≡ to_return penalties short
 
--- answered by the column of open weights
-pub record Still (n : ℕ) (weights marks still : List ℕ) : Type 0 where
-  pub is : take n still ≡ open_weights (take n weights) (take n marks)
-  pub small : Small (take n still)
-  pub long : length still ≡ 256
-
 -- asked by the payments: each fits its field
 pub record Payable (n : ℕ) (weights caps marks : List ℕ) (r : Rest) (first : ℕ) : Type 0 where
   pub few : n ≤ 256
@@ -121,8 +122,8 @@ paid_from caps marks parts i = cond (eqb (at marks i) 0) (at parts i) (at caps i
 
 -- asked where shares and caps become payments
 pub record Made (caps marks parts : List ℕ) : Type 0 where
-  pub few : length parts ≤ 256
-  pub caps_long : length caps ≡ 256
+  pub caps_long : length caps ≡ length parts
+  pub marks_long : length marks ≡ length parts
   pub fits : (i : ℕ) → i < length parts → paid_from caps marks parts i < 2 ^ 32
 
 -- asked where the money left is shared over the open weights: the payments that come of it fit
@@ -130,7 +131,8 @@ pub record Spread (money : ℕ) (still caps marks : List ℕ) (first : ℕ) (par
   pub few : length still ≤ 256
   pub small : Small still
   pub parts_long : length parts ≡ length still
-  pub caps_long : length caps ≡ 256
+  pub caps_long : length caps ≡ length still
+  pub marks_long : length marks ≡ length still
   pub turn : 0 < length still → first < length still
   pub fits : (i : ℕ) → i < length still → paid_from caps marks (shares money still first) i < 2 ^ 32
 

@@ -5,17 +5,16 @@ ghost use Rattle.share.specs.Share.{shares};
 ghost use Rattle.levy.specs.Asked.{Small, Room, Covered, Apportionable};
 
 use crate::Left;
-use columns::wide;
 use units::Fen;
 
 // Penalties fill a shortfall before anybody is cut; what is not needed goes back.
 pub fn cover(penalties: Fen, shortfall: Fen) -> Left
     ensures { Covered penalties.0 shortfall.0 result }
 {
-    let used = penalties.smaller(shortfall);
+    let used = penalties.min(shortfall);
     Left {
-        cut: shortfall.less(used),
-        returned: penalties.less(used),
+        cut: shortfall - used,
+        returned: penalties - used,
     }
 }
 
@@ -24,11 +23,8 @@ fn widen(from: &[u32], to: &mut [u64])
     requires { length to.old ≡ length from.now }
     ensures { (to.new ≡ from.now) × Small to.new }
 {
-    let n = to.len();
-    let mut i = 0;
-    while i < n {
-        to[i] = wide(from[i]);
-        i += 1;
+    for (i, place) in to.iter_mut().enumerate() {
+        *place = u64::from(from[i]);
     }
 }
 
@@ -37,11 +33,8 @@ fn narrow(from: &[u64], to: &mut [u32])
     requires { (length to.old ≡ length from.now) × Small from.now }
     ensures { to.new ≡ from.now }
 {
-    let n = to.len();
-    let mut i = 0;
-    while i < n {
-        to[i] = from[i] as u32;
-        i += 1;
+    for (i, place) in to.iter_mut().enumerate() {
+        *place = from[i] as u32;
     }
 }
 

@@ -2,7 +2,7 @@
 // written as numbers; rounds, visits, shortfall and payments are proved and printed. P6 to P11 are no matter of rounds and stand elsewhere.
 #![tactic(auto)]
 
-ghost use Rattle.std.specs.Prelude.{◌≡◌, ◌++◌, ◌≤◌, take, drop, replicate};
+ghost use Rattle.std.specs.Prelude.{◌≡◌, [], ◌∷◌, ◌++◌, take, drop, replicate};
 ghost use Rattle.levy_try.specs.Shown.{Case, Worked, outcome, paid_in};
 
 use units::Fen;
@@ -12,31 +12,31 @@ fn show(x: u64) {
     io::write_all(1, b" ");
 }
 
-fn show_figure(x: u32) {
-    show(x as u64);
-}
-
 fn end_line() {
     io::write_all(1, b"\n");
 }
 
-// The first n figures of a column on a line of their own.
-fn show_line(n: usize, column: &[u32; 256])
-    requires { n ≤ 256 }
-{
-    let mut i = 0;
-    while i < n {
-        show_figure(column[i]);
-        i += 1;
+// The figures of a column on a line of their own.
+fn show_line(column: &[u32]) {
+    for figure in column {
+        show(u64::from(*figure));
     }
     end_line();
 }
 
-// Rounds, visits and shortfall on a line of their own.
-fn show_outcome(told: [u64; 3]) {
-    show(told[0]);
-    show(told[1]);
-    show(told[2]);
+// What a case comes to: how many rounds, how often payers were looked at, and what nobody is left to pay.
+#[derive(Clone, Copy)]
+struct Outcome {
+    rounds: u16,
+    visits: u32,
+    shortfall: Fen,
+}
+
+// An outcome on a line of its own.
+fn show_outcome(told: Outcome) {
+    show(u64::from(told.rounds));
+    show(u64::from(told.visits));
+    show(told.shortfall.0);
     end_line();
 }
 
@@ -48,23 +48,27 @@ fn blank() -> [u32; 256]
 }
 
 // All the rounds of a case, then what everybody pays, in the place of the caps.
-fn shown(total: Fen, n: usize, weights: &[u32; 256], caps: &mut [u32; 256]) -> [u64; 3]
+fn shown(total: Fen, n: usize, weights: &[u32; 256], caps: &mut [u32; 256]) -> Outcome
     requires { Case total.0 n weights.now caps.old }
-    ensures { (result ≡ outcome total.0 (take n weights.now) (take n caps.old))
+    ensures { (result.rounds ∷ result.visits ∷ result.shortfall.0 ∷ [] ≡ outcome total.0 (take n weights.now) (take n caps.old))
         × (caps.new ≡ paid_in total.0 (take n weights.now) (take n caps.old) ++ drop n caps.old) }
 {
     let mut marks = blank();
     let rest = levy::rounds(total, n, weights, caps, &mut marks);
-    let short = levy::shortfall(rest);
+    let shortfall = levy::shortfall(rest);
     levy::payments(n, rest, weights, &marks, 0, caps);
-    let told = [rest.rounds as u64, rest.visits as u64, short.0];
+    let told = Outcome {
+        rounds: rest.rounds,
+        visits: rest.visits,
+        shortfall,
+    };
     show_outcome(told);
-    show_line(n, caps);
+    show_line(&caps[..n]);
     told
 }
 
 // Interval X under the caps that a tariff gives rows 2 and 3, and what 01 says of it.
-fn interval(cap2: u32, cap3: u32, rounds: u64, visits: u64, shortfall: u64, paid2: u32, paid3: u32)
+fn interval(cap2: u32, cap3: u32, rounds: u16, visits: u32, shortfall: u64, paid2: u32, paid3: u32)
     requires { Worked cap2 cap3 rounds visits shortfall paid2 paid3 }
 {
     let mut weights = [0u32; 256];
@@ -74,9 +78,9 @@ fn interval(cap2: u32, cap3: u32, rounds: u64, visits: u64, shortfall: u64, paid
     caps[1] = cap2;
     caps[2] = cap3;
     let told = shown(Fen(90000), 3, &weights, &mut caps);
-    check::expect(told[0] == rounds);
-    check::expect(told[1] == visits);
-    check::expect(told[2] == shortfall);
+    check::expect(told.rounds == rounds);
+    check::expect(told.visits == visits);
+    check::expect(told.shortfall.0 == shortfall);
     check::expect(caps[1] == paid2);
     check::expect(caps[2] == paid3);
 }
@@ -96,8 +100,8 @@ fn many() {
     caps[3] = 2290;
     caps[4] = 2100;
     let told = shown(Fen(10000), 5, &weights, &mut caps);
-    check::expect(told[0] == 4);
-    check::expect(told[1] == 15);
+    check::expect(told.rounds == 4);
+    check::expect(told.visits == 15);
     check::expect(caps[2] == 2308);
 }
 

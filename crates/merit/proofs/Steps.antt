@@ -1,20 +1,21 @@
 -- What the small steps of the code come to, each lemma in the shape of one need.
-use Prim.Native.Nat.{ℕ, ◌+◌, ◌-◌, ◌*◌, ◌≤◌, ◌<◌, min, max}
+use Prim.Native.Nat.{ℕ, suc, ◌+◌, ◌*◌, ◌≤◌, ◌<◌, min, max}
 use mathlib.Core.Path.{◌≡◌, refl, ap, sym, ◌∙◌}
-use mathlib.Core.Bool.{Bool, true, cond, ◌&&◌}
-use mathlib.Core.List.{List}
+use mathlib.Core.Logic.{◌⊎◌, ⊎_elim}
+use mathlib.Core.Bool.{Bool, cond}
+use mathlib.Core.List.{List, [], ◌∷◌}
+use native.Mathlib.Numerals.{add-one}
 use native.Mathlib.Omega.{arith}
 use mir.Syntax.{w32}
-use mir.Val.{Fits}
+use mir.Val.{Fits, bool_byte}
 use lib.Dec.{ltb, eqb}
-use lib.ListN.{length, set, take}
-use borrow.Author.Tests.{ltb-true}
-use Rattle.columns.proofs.First.{left-true, right-true}
+use lib.ListN.{length, set, drop, length-drop, drop_of_length-le}
+use lib.Seq.{drop-cons}
 use Rattle.columns.specs.Sum.{bit, sum_to, whole, count_to, max_to, max_where}
 use Rattle.columns.specs.Table.{at, table}
-use Rattle.columns.proofs.Sum.{sum-next, sum_bound, bit_le, count_next, count_same, max-where-next}
-use Rattle.columns.proofs.Listed.{cond-bit}
-use Rattle.columns.proofs.Table.{table-list, table-length, table_at, front_long}
+use Rattle.columns.proofs.Sum.{lt-or-le, sum-next, sum_bound, bit_le, count_next, count_same, max-where-next}
+use Rattle.columns.proofs.Listed.{one-is}
+use Rattle.columns.proofs.Table.{table-length, table_at}
 use Rattle.columns.proofs.Fill.{Reached, reached-none, reached-next, reached-all}
 use Rattle.columns.proofs.Whole.{whole-table}
 use Rattle.share.specs.Share.{shares}
@@ -23,13 +24,9 @@ use Rattle.share.proofs.Laws.{shares-are-weights, shares-alone}
 use Rattle.merit.specs.OneTier.{under, equal, below, group_in}
 use Rattle.merit.specs.Price.{delivers, price}
 use Rattle.merit.specs.Ready.{Columns}
-use Rattle.merit.specs.Walk.{past, Margin, cheap_in, Room, parts_in, bands_in, Counts, alone, delivered_bid}
+use Rattle.merit.specs.Walk.{past, cheap_in, Room, parts_in, bands_in, Counts, alone}
 use Rattle.merit.proofs.Keyed.{cond-le}
 use Rattle.merit.proofs.OneTier.{below-zero}
-
-pub delivered-is : (i : ℕ) (bs cs es : List ℕ) (x : ℕ) → x ≡ cond (delivers (at cs i) (at es i)) (at bs i) 0 → x ≡ delivered_bid i bs cs es
-unfolding delivered_bid
-delivered-is i bs cs es x e = e
 
 -- the highest bid among the first n rows that deliver
 unfoldable pub highest : List ℕ → List ℕ → List ℕ → ℕ → ℕ
@@ -40,34 +37,23 @@ module _ (bs cs es : List ℕ) where
   unfolding highest max_where max_to
   highest-none = refl
 
-  pub highest-more : (i top bid r : ℕ) → top ≡ highest bs cs es i → bid ≡ delivered_bid i bs cs es → r ≡ max top bid
+  pub highest-more : (i top bid r : ℕ) → top ≡ highest bs cs es i → bid ≡ cond (delivers (at cs i) (at es i)) (at bs i) 0 → r ≡ max top bid
       → r ≡ highest bs cs es (i + 1)
-  unfolding highest delivered_bid
+  unfolding highest
   highest-more i top bid r e f g = rw (g, e, f) (sym (max-where-next i (λ j. delivers (at cs j) (at es j)) (at bs)))
 
   pub highest-all : (i top r : ℕ) → top ≡ highest bs cs es i → i ≤ length bs → length bs ≤ i → r ≡ top → r ≡ price bs cs es
   unfolding highest price
   highest-all i top r e l m f = let s : i ≡ length bs = omega arith in f ∙ rw (← s) e
 
-pub part-called : (ps cs : List ℕ) (i v y s x : ℕ) → v ≡ at ps i → y ≡ at cs i → s ≡ y + v → x ≡ s → set cs i x ≡ set cs i (at cs i + at ps i)
-part-called ps cs i v y s x e f g h = ap (set cs i) (omega arith)
-
-pub copied_next : (s start now : List ℕ) (i : ℕ) → Reached 0 (at s) start now i → length start ≡ length s → i < length s
-    → Reached 0 (at s) start (set now i (at s i)) (i + 1)
-copied_next s start now i r e l = reached-next 0 (at s) start now i (at s i) r (omega (arith, r.room)) refl
-
-pub copied_all : (s start now : List ℕ) (i : ℕ) → Reached 0 (at s) start now i → length start ≡ length s → length s ≤ i → now ≡ s
-copied_all s start now i r e l =
-    reached-all 0 (at s) start now i r (omega (arith, r.room)) ∙ ap (λ (n : ℕ). table n (at s)) e ∙ sym (table-list 0 s)
-
 -- the loop over a group of one band
 module _ (left : ℕ) (g start now : List ℕ) (i : ℕ) (r : Reached 0 (alone left g) start now i) (room : length start ≡ length g) where
-  pub alone-next : (v x : ℕ) → i < length g → v ≡ cond (ltb 0 (at g i)) left 0 → x ≡ v
+  pub alone-next : (v x : ℕ) → i < length start → v ≡ cond (ltb 0 (at g i)) left 0 → x ≡ v
       → Reached 0 (alone left g) start (set now i x) (i + 1)
   unfolding alone
   alone-next v x l e f = reached-next 0 (alone left g) start now i x r (omega (arith, r.room)) (f ∙ e)
 
-  pub alone-all : length g ≤ i → now ≡ table (length g) (alone left g)
+  pub alone-all : length start ≤ i → now ≡ table (length g) (alone left g)
   alone-all l =
       reached-all 0 (alone left g) start now i r (omega (arith, r.room)) ∙ ap (λ (n : ℕ). table n (alone left g)) room
 
@@ -83,11 +69,6 @@ module _ (ws bs : List ℕ) (k i x : ℕ) where
   unfolding equal
   member_is e = e
 
--- the guess is inside the range
-pub guessed : (lo hi : ℕ) → ltb lo 1024 && ltb 1024 hi ≡ true → (lo < 1024) × (1024 < hi)
-guessed lo hi e =
-    (ltb-true lo 1024 (left-true (ltb lo 1024) (ltb 1024 hi) e), ltb-true 1024 hi (right-true (ltb lo 1024) (ltb 1024 hi) e))
-
 -- lower bids than lo do not pass the need, lower ones than hi do
 pub record Bracket (need : ℕ) (ws bs : List ℕ) (lo hi : ℕ) : Type 0 where
   pub apart : lo < hi
@@ -95,24 +76,9 @@ pub record Bracket (need : ℕ) (ws bs : List ℕ) (lo hi : ℕ) : Type 0 where
   pub reached : below ws bs lo ≤ need
   pub passed : need < below ws bs hi
 
-module _ (need : ℕ) (ws bs : List ℕ) where
-  pub margin-past : (s : ℕ) → s ≡ below ws bs 65536 → s ≤ need → Margin need ws bs 65536
-  margin-past s e l = record { reached = omega arith; inside = omega arith; passed = λ m. absurd (omega arith) }
-
-  pub bracket-none : (s : ℕ) → s ≡ below ws bs 65536 → need < s → Bracket need ws bs 0 65536
-  bracket-none s e l = record { apart = omega arith; inside = omega arith; reached = omega (arith, below-zero ws bs); passed = omega arith }
-
-  module _ (lo hi : ℕ) (b : Bracket need ws bs lo hi) where
-    pub bracket-low : (mid s : ℕ) → mid < hi → s ≡ below ws bs mid → s ≤ need → Bracket need ws bs mid hi
-    bracket-low mid s l e h = record { apart = l; inside = b.inside; reached = omega arith; passed = b.passed }
-
-    pub bracket-high : (mid s : ℕ) → lo < mid → mid < hi → s ≡ below ws bs mid → need < s → Bracket need ws bs lo mid
-    bracket-high mid s l m e h = record { apart = l; inside = omega (arith, b.inside); reached = b.reached; passed = omega arith }
-
-    pub margin-last : hi - lo ≤ 1 → Margin need ws bs lo
-    margin-last l =
-        let e : hi ≡ lo + 1 = omega (arith, b.apart) in
-        record { reached = b.reached; inside = omega (arith, b.apart, b.inside); passed = λ m. rw (← e) b.passed }
+pub bracket-none : (need : ℕ) (ws bs : List ℕ) (s : ℕ) → s ≡ below ws bs 65536 → need < s → Bracket need ws bs 0 65536
+bracket-none need ws bs s e l =
+    record { apart = omega arith; inside = omega arith; reached = omega (arith, below-zero ws bs); passed = omega arith }
 
 -- of the first i numbers of f the sum is known
 pub record Summed (f : ℕ → ℕ) (n sum i : ℕ) : Type 0 where
@@ -133,6 +99,43 @@ module _ (f : ℕ → ℕ) (n : ℕ) where
     pub summed-all : n ≤ i → sum ≡ sum_to n f
     summed-all l = let s : i ≡ n = omega (arith, r.within) in rw (← s) r.sum_is
 
+-- a loop over two columns side by side: i rows are passed, and the rest of each is left
+pub record Paired (ws bs : List ℕ) (i : ℕ) (us vs : List ℕ) : Type 0 where
+  pub widths_left : us ≡ drop i ws
+  pub bids_left : vs ≡ drop i bs
+
+-- the first of what is left of a column
+first_left : (xs : List ℕ) (i x : ℕ) (us ys : List ℕ) → us ≡ drop i xs → us ≡ x ∷ ys
+    → (i < length xs) × (x ≡ at xs i) × (ys ≡ drop (i + 1) xs)
+first_left xs i x us ys e f = ⊎_elim inside outside (lt-or-le i (length xs))
+  where
+    inside : i < length xs → (i < length xs) × (x ≡ at xs i) × (ys ≡ drop (i + 1) xs)
+    inside l = let g : drop i xs ≡ at xs i ∷ drop (suc i) xs = drop-cons xs i 0 l in (l, cc, rw add-one (cc))
+
+    outside : length xs ≤ i → (i < length xs) × (x ≡ at xs i) × (ys ≡ drop (i + 1) xs)
+    outside l = let g : drop i xs ≡ [] = drop_of_length-le xs l in let z : ⊥ = cc in absurd z
+
+module _ (ws bs us vs : List ℕ) where
+  pub paired-none : us ≡ ws → vs ≡ bs → Paired ws bs 0 us vs
+  paired-none e f = record { widths_left = e; bids_left = f }
+
+  module _ (i : ℕ) (fit : Columns ws bs) (p : Paired ws bs i us vs) where
+    pub paired-next : (k sum : ℕ) → Summed (under ws bs k) (length ws) sum i → (j w b v s : ℕ) (ys zs : List ℕ) → j ≡ i + 1 → us ≡ w ∷ ys
+        → vs ≡ b ∷ zs → v ≡ cond (ltb b k) w 0 → s ≡ sum + v → Summed (under ws bs k) (length ws) s j × Paired ws bs j ys zs
+    paired-next k sum r j w b v s ys zs n e f g h =
+        let one = first_left ws i w us ys p.widths_left e in
+        let two = first_left bs i b vs zs p.bids_left f in
+        let here : v ≡ cond (ltb (at bs i) k) (at ws i) 0 = g ∙ rw (one.1, two.1) refl in
+        rw n (
+          summed-next (under ws bs k) (length ws) sum i r v s one.0 (cheaper-is ws bs k i v here) (width_small ws bs fit (ltb (at bs i) k) i v here) h,
+          record { widths_left = one.2; bids_left = two.2 },
+        )
+
+    pub paired-end : (length us ≡ 0) ⊎ (length vs ≡ 0) → length ws ≤ i
+    paired-end h =
+        ⊎_elim (λ (z : length us ≡ 0). omega (arith, ap length p.widths_left, length-drop i ws))
+        (λ (z : length vs ≡ 0). omega (arith, ap length p.bids_left, length-drop i bs, fit.long)) h
+
 -- f stands in the first i positions, and their sum is known
 pub record Grouped (f : ℕ → ℕ) (n : ℕ) (start now : List ℕ) (sum i : ℕ) : Type 0 where
   pub reached : Reached 0 f start now i
@@ -143,18 +146,18 @@ module _ (f : ℕ → ℕ) (n : ℕ) (start : List ℕ) where
   grouped-none = record { reached = reached-none 0 f start; summed = summed-none f n }
 
   module _ (now : List ℕ) (sum i : ℕ) (r : Grouped f n start now sum i) (room : length start ≡ n) where
-    pub grouped-next : (v x s : ℕ) → i < n → v ≡ f i → v ≤ 250000 → x ≡ v → s ≡ sum + v → Grouped f n start (set now i x) s (i + 1)
+    pub grouped-next : (v x s : ℕ) → i < length start → v ≡ f i → v ≤ 250000 → x ≡ v → s ≡ sum + v → Grouped f n start (set now i x) s (i + 1)
     grouped-next v x s l e h w t =
         record {
           reached = reached-next 0 f start now i x r.reached (omega (arith, r.reached.room)) (w ∙ e);
-          summed = summed-next f n sum i r.summed v s l e h t;
+          summed = summed-next f n sum i r.summed v s (omega arith) e h t;
         }
 
-    pub grouped-all : n ≤ i → now ≡ table n f
+    pub grouped-all : length start ≤ i → now ≡ table n f
     grouped-all l = reached-all 0 f start now i r.reached (omega (arith, r.reached.room)) ∙ ap (λ (m : ℕ). table m f) room
 
-    pub grouped-whole : n ≤ i → sum ≡ whole now
-    grouped-whole l = summed-all f n sum i r.summed l ∙ sym (ap whole (grouped-all l) ∙ whole-table n f)
+    pub grouped-whole : length start ≤ i → sum ≡ whole now
+    grouped-whole l = summed-all f n sum i r.summed (omega arith) ∙ sym (ap whole (grouped-all l) ∙ whole-table n f)
 
 -- f stands in the first i positions, their sum is known, and how many are above 0
 pub record Banded (f : ℕ → ℕ) (n : ℕ) (start now : List ℕ) (sum bands i : ℕ) : Type 0 where
@@ -168,17 +171,17 @@ module _ (f : ℕ → ℕ) (n : ℕ) (start : List ℕ) where
   banded-none = record { grouped = grouped-none f n start; bands_are = refl; few = omega arith }
 
   module _ (now : List ℕ) (sum bands i : ℕ) (r : Banded f n start now sum bands i) (room : length start ≡ n) where
-    pub banded-next : (v x s c : ℕ) → i < n → v ≡ f i → v ≤ 250000 → x ≡ v → s ≡ sum + v → c ≡ cond (ltb 0 v) 1 0
+    pub banded-next : (v x s c : ℕ) → i < length start → v ≡ f i → v ≤ 250000 → x ≡ v → s ≡ sum + v → c ≡ bool_byte (ltb 0 v)
         → Banded f n start (set now i x) s (bands + c) (i + 1)
     banded-next v x s c l e h w t b =
-        let here : c ≡ bit (ltb 0 (f i)) = b ∙ cond-bit (ltb 0 v) ∙ ap (λ (y : ℕ). bit (ltb 0 y)) e in
+        let here : c ≡ bit (ltb 0 (f i)) = b ∙ (one-is (ltb 0 v)).0 ∙ ap (λ (y : ℕ). bit (ltb 0 y)) e in
         record {
           grouped = grouped-next f n start now sum i r.grouped room v x s l e h w t;
           bands_are = omega (arith, r.bands_are, here, count_next i (λ j. ltb 0 (f j)));
           few = omega (arith, r.few, here, bit_le (ltb 0 (f i)));
         }
 
-    pub banded-counts : n ≤ i → Counts now sum bands
+    pub banded-counts : length start ≤ i → Counts now sum bands
     unfolding bands_in
     banded-counts l = record { sum_is = grouped-whole f n start now sum i r.grouped room l; bands_are = are }
       where
@@ -187,33 +190,33 @@ module _ (f : ℕ → ℕ) (n : ℕ) (start : List ℕ) where
 
         are : bands ≡ bands_in now
         are =
-            let s : i ≡ n = omega (arith, r.grouped.summed.within) in
+            let s : i ≡ n = omega (arith, room, r.grouped.summed.within) in
             let long : length now ≡ n = ap length is ∙ table-length n f in
             r.bands_are
             ∙ rw (s, long)
             (count_same n (λ j. ltb 0 (f j)) (λ j. ltb 0 (at now j))
             (λ j m. ap (ltb 0) (sym (ap (λ (l : List ℕ). at l j) is ∙ table_at 0 n f j m))))
 
-  pub banded-fits : (now : List ℕ) (sum bands i v x : ℕ) → Banded f n start now sum bands i → n ≤ 256 → x ≡ cond (ltb 0 v) 1 0
+  pub banded-fits : (now : List ℕ) (sum bands i v x : ℕ) → Banded f n start now sum bands i → n ≤ 256 → x ≡ bool_byte (ltb 0 v)
       → Fits w32 (bands + x)
   banded-fits now sum bands i v x r h b =
-      omega (arith, r.few, r.grouped.summed.within, b ∙ cond-bit (ltb 0 v), bit_le (ltb 0 v))
+      omega (arith, r.few, r.grouped.summed.within, b ∙ (one-is (ltb 0 v)).0, bit_le (ltb 0 v))
 
 -- what the loops over the bands of a bid end with; the code holds the bid in 32 bits as k
-module _ (ws bs : List ℕ) (k bid : ℕ) (is : k ≡ bid) (start now : List ℕ) (sum i : ℕ) (end : length ws ≤ i) where
-  pub below-told : Summed (under ws bs k) (length ws) sum i → sum ≡ below ws bs bid
+module _ (ws bs : List ℕ) (k bid : ℕ) (is : k ≡ bid) (sum i : ℕ) where
+  pub below-told : length ws ≤ i → Summed (under ws bs k) (length ws) sum i → sum ≡ below ws bs bid
   unfolding below
-  below-told r = rw (← is) (summed-all (under ws bs k) (length ws) sum i r end)
+  below-told end r = rw (← is) (summed-all (under ws bs k) (length ws) sum i r end)
 
-  module _ (r : Grouped (under ws bs k) (length ws) start now sum i) (room : length start ≡ length ws) where
+  module _ (start now : List ℕ) (end : length start ≤ i) (r : Grouped (under ws bs k) (length ws) start now sum i) (room : length start ≡ length ws) where
     pub cheap-told : now ≡ cheap_in ws bs bid
     unfolding cheap_in
     cheap-told = rw (← is) (grouped-all (under ws bs k) (length ws) start now sum i r room end)
 
     pub cheap-sum : sum ≡ below ws bs bid
-    cheap-sum = below-told r.summed
+    cheap-sum = below-told (omega arith) r.summed
 
-  module _ (bands : ℕ) (r : Banded (equal ws bs k) (length ws) start now sum bands i) (room : length start ≡ length ws) where
+  module _ (start now : List ℕ) (end : length start ≤ i) (bands : ℕ) (r : Banded (equal ws bs k) (length ws) start now sum bands i) (room : length start ≡ length ws) where
     pub group-told : now ≡ group_in ws bs bid
     unfolding group_in
     group-told = rw (← is) (grouped-all (equal ws bs k) (length ws) start now sum i r.grouped room end)
@@ -251,13 +254,3 @@ module _ (left sum bands : ℕ) (g out : List ℕ) (first : ℕ) (c : Counts g s
       → out ≡ parts_in left g first
   unfolding bands_in alone
   called-alone old s l b e = called-in-part left refl l (e ∙ sym (shares-alone left g first (sym c.bands_are ∙ b) s.inside))
-
-pub parts-of : (left : ℕ) (g h out : List ℕ) (first : ℕ) → out ≡ parts_in left g first → g ≡ h → out ≡ parts_in left h first
-parts-of left g h out first e f = rw (← f) e
-
--- the front of an array of 256 is as long as the columns
-pub front : (ws bs xs : List ℕ) → Columns ws bs → length xs ≡ 256 → length ws ≡ length (take (length ws) xs)
-front ws bs xs c e = front_long xs (length ws) 256 e c.few
-
-pub front-room : (ws bs xs : List ℕ) → Columns ws bs → length xs ≡ 256 → length (take (length ws) xs) ≡ length ws
-front-room ws bs xs c e = sym (front ws bs xs c e)

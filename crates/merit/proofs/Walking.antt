@@ -14,8 +14,6 @@ use mathlib.Core.List.{List}
 use native.Mathlib.Nat.{le_refl}
 use native.Mathlib.Numerals.{add-one}
 use native.Mathlib.Omega.{arith}
-use mir.Syntax.{w64}
-use mir.Val.{Fits}
 use lib.Dec.{ltb, eqb}
 use lib.ListN.{length, set, length-set, get_or-eq_default}
 use lib.Seq.{get_or-set_same, get_or-set_other}
@@ -27,7 +25,7 @@ use Rattle.columns.proofs.Rank.{test-or}
 use Rattle.columns.proofs.Table.{table-length, table_at, table-past, table_is}
 use Rattle.merit.specs.OneTier.{under, below, group_in, called_in, tier_calls}
 use Rattle.merit.specs.Ready.{Ready, TierCalled}
-use Rattle.merit.specs.Walk.{Margin, cheap_in, Room, Begun, past, next_bid, Callable, parts_in}
+use Rattle.merit.specs.Walk.{Margin, cheap_in, Begun, past, next_bid, Callable, parts_in}
 use Rattle.merit.proofs.Keyed.{cond-next, cond-skip, cond-le}
 use Rattle.merit.proofs.Next.{next-above, next-skips}
 use Rattle.merit.proofs.OneTier.{under-past, below_next, below-skip, below-rise, below-le, below_all}
@@ -57,9 +55,6 @@ module _ (start : ℕ) (cs₁ ps : List ℕ) (i left : ℕ) (cs : List ℕ) (w :
   here : at cs i ≡ at cs₁ i
   here = w.is i ∙ rw (le-ltb i i (le_refl i)) (omega arith)
 
-  pub turn-fits : i < length ps → Fits w64 (i + 1)
-  turn-fits l = omega (arith, w.few)
-
   pub callable : i < length ps → Callable left i ps cs
   callable l =
       record {
@@ -69,12 +64,12 @@ module _ (start : ℕ) (cs₁ ps : List ℕ) (i left : ℕ) (cs : List ℕ) (w :
         fits = omega (arith, w.small i, here);
       }
 
-  -- row i is called for its part: r is left then, and the column is ds
-  module _ (r : ℕ) (ds : List ℕ) (e : r ≡ left - at ps i) (f : ds ≡ set cs i (at cs i + at ps i)) (l : i < length ps) where
-    called-room : length ds ≡ length cs₁
-    called-room = ap length f ∙ length-set cs i (at cs i + at ps i) ∙ w.room
+  -- row i is called for its part: r is left then
+  module _ (part r : ℕ) (f : part ≡ at ps i) (e : r ≡ left - part) (l : i < length ps) where
+    called-room : length (set cs i (at cs i + part)) ≡ length cs₁
+    called-room = length-set cs i (at cs i + part) ∙ w.room
 
-    pub turned-next : Turned start cs₁ ps (i + 1) r ds
+    pub turned-next : Turned start cs₁ ps (i + 1) r (set cs i (at cs i + part))
     turned-next =
         record {
           few = w.few;
@@ -84,17 +79,17 @@ module _ (start : ℕ) (cs₁ ps : List ℕ) (i left : ℕ) (cs : List ℕ) (w :
           within = omega arith;
           room = called-room;
           left_is = omega (arith, w.left_is, (callable l).covered, sum-next i (at ps));
-          is = λ j. rw f (is j);
+          is = is;
         }
       where
-        is : (j : ℕ) → at (set cs i (at cs i + at ps i)) j ≡ at cs₁ j + cond (ltb j (i + 1)) (at ps j) 0
+        is : (j : ℕ) → at (set cs i (at cs i + part)) j ≡ at cs₁ j + cond (ltb j (i + 1)) (at ps j) 0
         is j =
             ⊎_elim
             (λ (s : eqb j i ≡ true). let same : j ≡ i = eqb-true j i s in
             rw (same, lt-ltb i (i + 1) (omega arith))
-            (get_or-set_same cs i (at cs i + at ps i) 0 (callable l).call_at ∙ omega (arith, here)))
+            (get_or-set_same cs i (at cs i + part) 0 (callable l).call_at ∙ omega (arith, here)))
             (λ (s : eqb j i ≡ false). let apart : j ≡ i → ⊥ = eqb-false j i s in
-            get_or-set_other cs i j (at cs i + at ps i) 0 apart ∙ w.is j
+            get_or-set_other cs i j (at cs i + part) 0 apart ∙ w.is j
             ∙ ⊎_elim (λ (m : j < i). rw (lt-ltb j i m, lt-ltb j (i + 1) (omega arith)))
             (λ (m : i ≤ j). rw (le-ltb j i m, le-ltb j (i + 1) (omega arith))) (lt-or-le j i)) (test-or (eqb j i))
 
@@ -200,13 +195,7 @@ module _ (start : ℕ) (ws bs : List ℕ) (first k₀ : ℕ) (cs₀ : List ℕ) 
           ⊎_elim (λ (l : j < length ws). table_at 0 (length ws) (under ws bs k₀) j l)
           (λ (l : length ws ≤ j). table-past 0 (length ws) (under ws bs k₀) j l ∙ sym (under-past ws bs k₀ j l)) (lt-or-le j (length ws))
 
-  pub walked-room : (ps : List ℕ) → length ps ≡ length ws → Room ws first ps
-  walked-room ps e = record { room = e; inside = good.inside }
-
   module _ (k left : ℕ) (cs : List ℕ) (w : Walked need ws bs first k left cs) where
-    pub walked-calls : length cs ≡ length cs₀
-    walked-calls = w.room ∙ sym begun-long
-
     pub ended-past : past ≤ k → TierCalled need ws bs first left cs
     ended-past h =
         ended need ws bs first k left cs w (λ j m. absurd (omega (arith, low j)))
@@ -269,16 +258,13 @@ module _ (start : ℕ) (ws bs : List ℕ) (first k₀ : ℕ) (cs₀ : List ℕ) 
           let all : i ≡ length ps = omega (arith, t.within) in
           walked_skip need ws bs first k n left cs h f (all_done i left cs t (ap (λ (m : ℕ). sum_to m (at ps)) all))
 
-      -- the need is met once row i is called for its part: r is left then, and the column is ds
-      module _ (r : ℕ) (ds : List ℕ) (g : r ≡ left - at ps i) (f : ds ≡ set cs i (at cs i + at ps i)) (l : i < length ps) where
-        pub turned-calls : length ds ≡ length cs₀
-        turned-calls = called-room now cs₁ ps i left cs t r ds g f l ∙ w.room ∙ sym begun-long
-
-        pub ended-met : r ≡ 0 → TierCalled need ws bs first r ds
+      -- the need is met once row i is called for its part: r is left then
+      module _ (part r : ℕ) (f : part ≡ at ps i) (g : r ≡ left - part) (l : i < length ps) where
+        pub ended-met : r ≡ 0 → TierCalled need ws bs first r (set cs i (at cs i + part))
         ended-met z =
-            let next : Turned now cs₁ ps (i + 1) r ds = turned-next now cs₁ ps i left cs t r ds g f l in
-            ended-none (k + 1) r ds
-            (all_done (i + 1) r ds next
+            let next : Turned now cs₁ ps (i + 1) r (set cs i (at cs i + part)) = turned-next now cs₁ ps i left cs t part r f g l in
+            ended-none (k + 1) r (set cs i (at cs i + part))
+            (all_done (i + 1) r (set cs i (at cs i + part)) next
             (omega (arith, next.left_is, next.covered, sum-shorter (i + 1) (length ps) (at ps) (omega arith)))) z
 
 -- past every bid there is no walk: the bands that are called in full are all

@@ -1,5 +1,6 @@
 -- What the steps of the walk come to, and those of the search for the price. No promise of a public function speaks of them.
-use Rattle.std.specs.Prelude.{ℕ, zero, suc, ◌+◌, ◌≤◌, ◌<◌, ◌^◌, min, ◌≡◌, cond, List, ltb, length}
+use Rattle.std.specs.Prelude.{ℕ, zero, suc, ◌+◌, ◌≤◌, ◌<◌, ◌^◌, min, ◌≡◌, cond, List, [], ltb, length, filter, Option, MatchOption}
+use Rattle.std.specs.List.{All, Contains}
 use Rattle.columns.specs.Sum.{count_to, whole}
 use Rattle.columns.specs.Table.{at, table}
 use Rattle.share.specs.Share.{shares}
@@ -29,6 +30,14 @@ next_in k bs (suc n) = sooner k (next_in k bs n) (at bs n)
 -- the bid at which the walk goes on: the same among all rows
 unfoldable pub next_bid : ℕ → List ℕ → ℕ
 next_bid k bs = next_in k bs (length bs)
+
+-- the bids above k, row by row
+abbrev pub above : ℕ → List ℕ → List ℕ
+above k bs = filter (λ x. ltb k x) bs
+
+-- the lowest bid above k, if there is one
+abbrev pub Lowest : ℕ → List ℕ → Option ℕ → Type 0
+Lowest k bs r = MatchOption r (above k bs ≡ []) (λ m. Contains (above k bs) m × All (λ x. m ≤ x) (above k bs))
 
 -- the bands that are bid below k: their widths, and 0 for every other row
 unfoldable pub cheap_in : List ℕ → List ℕ → ℕ → List ℕ

@@ -5,14 +5,13 @@
 --     compensation-most     at most 25,000,000 fen for 250,000 kWh in both tiers together at prices up to 1,000 li
 --     not-called            a row that was called in neither tier gets nothing
 --     no-energy             nor does a row that delivered in neither
---     tier-twice            a tier's penalty as the code makes it: what is short by the price, and twice that
 --     tier-penalty-most     a tier's penalty at a call and a price of bounded size
 --     penalty-most          at most 100,000,000 fen for 250,000 kWh called in each tier at prices up to 1,000 li
 --     penalty-none          a row that delivered what it was called for in both tiers owes nothing
 --     penalty-free          the same by the test that the code makes
 --     li-to-fen             P11 of document 01: half a fen goes upward
 --     compensation-unique, penalty-unique     two results that the contract allows are equal
-use Prim.Native.Nat.{ℕ, ◌+◌, ◌-◌, ◌*◌, ◌^◌, ◌≤◌, ◌<◌}
+use Prim.Native.Nat.{ℕ, ◌+◌, ◌-◌, ◌*◌, ◌≤◌, ◌<◌}
 use mathlib.Core.Path.{◌≡◌, refl, ap, sym, ◌∙◌}
 use mathlib.Core.Logic.{⊎_elim}
 use mathlib.Core.List.{[], ◌∷◌}
@@ -22,7 +21,7 @@ use mathlib.Core.Bool.{true, ◌&&◌}
 use lib.Dec.{leb}
 use borrow.Author.Tests.{lt-ltb, le-ltb, leb-true}
 use Rattle.columns.proofs.First.{left-true, right-true}
-use Rattle.units.specs.Measure.{priced, to_fen}
+use Rattle.units.specs.Measure.{to_fen}
 use Rattle.columns.proofs.Unique.{OneResult}
 use Rattle.pay.specs.Pay.{tier_pay, compensation, tier_penalty, penalty}
 use Rattle.pay.proofs.compensation.Reads as reads
@@ -62,13 +61,6 @@ no-energy call1 call2 price1 price2 =
       tier-most 0 price1 call1 0 price1 (le_refl 0) (le_refl price1),
       tier-most 0 price2 call2 0 price2 (le_refl 0) (le_refl price2),
     )
-
--- what is short in a tier, by the price, and twice that
-pub tier-twice : (call delivered price short once : ℕ) → short ≡ call - delivered → once ≡ priced short price → once < 2 ^ 62 - 3 → (twice : ℕ)
-    → twice ≡ once + once → (twice ≡ tier_penalty call delivered price) × (twice + 5 ≤ 2 ^ 63)
-tier-twice call delivered price short once is worth small twice e =
-    let all : once ≡ (call - delivered) * price = worth ∙ ap (λ (x : ℕ). x * price) is in
-    (omega (arith, all), omega (arith, small))
 
 pub tier-penalty-most : (E P call delivered price : ℕ) → call ≤ E → price ≤ P → tier_penalty call delivered price ≤ 2 * (E * P)
 tier-penalty-most E P call delivered price h k =

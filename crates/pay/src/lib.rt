@@ -13,7 +13,7 @@ fn tier_pay(call: Kwh, energy: Kwh, price: Li) -> Li
     requires { price.0 < 2 ^ 31 }
     ensures { (result.0 ≡ tier_pay call.0 energy.0 price.0) × (result.0 + 5 ≤ 2 ^ 63) }
 {
-    if call.0 == 0 {
+    if call == Kwh(0) {
         return Li(0);
     }
     energy.priced(price)
@@ -24,10 +24,11 @@ fn together(in1: Li, in2: Li) -> Fen
     requires { (in1.0 + 5 ≤ 2 ^ 63) × (in2.0 + 5 ≤ 2 ^ 63) }
     ensures { result.0 ≡ to_fen (in1.0 + in2.0) }
 {
-    in1.plus(in2).to_fen()
+    (in1 + in2).to_fen()
 }
 
-// What a row is paid in both tiers.
+// What a row is paid in both tiers. A tier's three numbers are no struct here, nor in `penalty`: what callers are asked and told by name
+// may not change.
 pub fn compensation(
     call1: Kwh,
     call2: Kwh,
@@ -50,7 +51,7 @@ fn tier_penalty(call: Kwh, delivered: Kwh, price: Li) -> Li
     ensures { (result.0 ≡ tier_penalty call.0 delivered.0 price.0) × (result.0 + 5 ≤ 2 ^ 63) }
 {
     let once = call.above(delivered).priced(price);
-    once.plus(once)
+    once + once
 }
 
 // What a row owes for both tiers. Nearly all rows owe nothing and are done with at one test.
@@ -65,7 +66,7 @@ pub fn penalty(
     requires { (price1.0 < 2 ^ 30) × (price2.0 < 2 ^ 30) }
     ensures { result.0 ≡ penalty call1.0 call2.0 delivered1.0 delivered2.0 price1.0 price2.0 }
 {
-    if (call1.0 <= delivered1.0) & (call2.0 <= delivered2.0) {
+    if (call1 <= delivered1) & (call2 <= delivered2) {
         return Fen(0);
     }
     let in1 = tier_penalty(call1, delivered1, price1);

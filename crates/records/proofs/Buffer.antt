@@ -6,6 +6,7 @@
 --   set-put               a store is a run of one
 --   put_step              a turn of a copy loop: one element more of the source
 --   copy-none, -more, -all  a copy loop's start, turn and end
+--   put-mid               a run that a lent part of the buffer is left with
 --   put-inside            within the run stand its elements
 --   put-before, put-after on either side of it stands what stood there
 --   take_put, put-taken   the first elements up to the run's end, and the run alone, taken out again
@@ -21,8 +22,9 @@ use native.Mathlib.Nat.{add-zero, zero-add, add_assoc}
 use native.Mathlib.Numerals.{add-one}
 use native.Mathlib.Omega.{arith}
 use lib.ListN.{length, get_or, take, drop, set, length-append, length-take, length-drop, take-append-drop, get_or-append}
-use lib.Seq.{length-take-le, take-suc, take_at, drop_at, drop-drop, set_split, get_or-take, get_or-drop, get_or-append-add, take_all, drop-length}
-use lib.Seq.{take-append-add, drop-append-add, take-append-le, drop-append-le, take-take}
+use lib.Seq.{length-take-le, take_at, drop_at, drop-drop, set_split, get_or-take, get_or-drop, get_or-append-add, drop-length}
+use lib.Seq.{take-append-add, drop-append-add, take-append-le, drop-append-le, take-take, take-suc, take_all}
+use borrow.Rule.Slice.PartMut.{put_mid}
 use Rattle.records.specs.Buffer.{put}
 
 module _ {A : Type 0} where
@@ -79,6 +81,10 @@ module _ {A : Type 0} where
   pub set-put : (l : List A) (k : ℕ) (x : A) → k < length l → set l k x ≡ put l k (x ∷ [])
   unfolding put
   set-put l k x h = rw (set_split l k x h, add-one k)
+
+  pub put-mid : (l vs : List A) (at n : ℕ) → n ≡ length vs → put_mid at n l vs ≡ put l at vs
+  unfolding put
+  put-mid l vs at n e = rw (e, drop-drop (length vs) at l)
 
   pub put_step : (l : List A) (at : ℕ) (src : List A) (i : ℕ) (d : A) → at + length src ≤ length l → i < length src
       → set (put l at (take i src)) (at + i) (get_or src i d) ≡ put l at (take (i + 1) src)

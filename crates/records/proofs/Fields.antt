@@ -1,45 +1,53 @@
 -- Numbers put into a buffer byte by byte, and a record's fields one after the other. A writing loop keeps what it still owes:
 -- put behind what it has written, that makes the whole.
 --   put_first                  a run put in two: its first element by a store, the others behind it
---   number-none, -more, -all   the loop over a number's bytes: its start, a turn, its end
+--   split-none, -next, -all    the loop over a number's bytes: its start, a turn, its end (record Split)
 --   owed_none, -next, -all     the same of the loop over fields (record Owed); owed-room: the next one has room
-use mathlib.Core.Path.{◌≡◌, refl, sym, ◌∙◌}
+use mathlib.Core.Path.{◌≡◌, refl, sym, ap, ◌∙◌}
 use mathlib.Core.List.{List, [], ◌∷◌, ◌++◌}
 use Prim.Native.Nat.{ℕ, suc, ◌+◌, ◌-◌, ◌/◌, ◌%◌, ◌≤◌, ◌<◌}
 use native.Mathlib.Numerals.{add-one}
 use native.Mathlib.Omega.{arith}
-use lib.ListN.{length, drop, set}
+use lib.ListN.{length, drop, set, length-set}
 use lib.Seq.{drop-cons, drop-length}
+use borrow.Rule.Slice.PartMut.{put_mid}
 use Rattle.columns.specs.Table.{at}
 use Rattle.records.specs.Number.{number_bytes}
 use Rattle.records.specs.Fields.{span, fields_bytes}
 use Rattle.records.specs.Buffer.{put}
 use Rattle.records.proofs.Number.{number-length}
-use Rattle.records.proofs.Buffer.{put-length, put-none, put-put, set-put}
+use Rattle.records.proofs.Buffer.{put-length, put-none, put_whole, put-put, set-put, put-mid}
 
 -- a run put in two: its first element by a store, the others behind it
 pub put_first : (l : List ℕ) (k b : ℕ) (bs : List ℕ) → k < length l → put (set l k b) (k + 1) bs ≡ put l k (b ∷ bs)
 put_first l k b bs h = rw (set-put l k b h) (put-put l k (k + 1) (b ∷ []) bs refl (omega arith))
 
-pub number-none : (l : List ℕ) (k width x : ℕ) → put l (k + 0) (number_bytes (width - 0) x) ≡ put l k (number_bytes width x)
-number-none l k width x =
-    let here : k + 0 ≡ k = omega arith in
+-- the loop over a number's bytes l, as many as its width, before byte i: those from i on are still owed
+pub record Split (width x : ℕ) (l : List ℕ) (left i : ℕ) : Type 0 where
+  pub long : length l ≡ width
+  pub whole : put l i (number_bytes (width - i) left) ≡ number_bytes width x
+
+pub split-none : (width x : ℕ) (l : List ℕ) → length l ≡ width → Split width x l x 0
+split-none width x l e =
     let all : width - 0 ≡ width = omega arith in
-    rw (here, all)
+    record { long = e; whole = rw all (put_whole l (number_bytes width x) (number-length width x ∙ sym e)) }
 
-pub number_more : (l : List ℕ) (k i width left : ℕ) (whole : List ℕ) → put l (k + i) (number_bytes (width - i) left) ≡ whole → i < width → k + i < length l
-    → put (set l (k + i) (left % 256)) (k + (i + 1)) (number_bytes (width - (i + 1)) (left / 256)) ≡ whole
-unfolding number_bytes
-number_more l k i width left whole owed h room =
-    let one : width - i ≡ suc (width - (i + 1)) = omega arith in
-    let next : k + (i + 1) ≡ k + i + 1 = omega arith in
-    rw next (put_first l (k + i) (left % 256) (number_bytes (width - (i + 1)) (left / 256)) room ∙ (rw one at owed))
+module _ (width x : ℕ) (l : List ℕ) (left i : ℕ) (s : Split width x l left i) where
+  pub split-next : i < length l → Split width x (set l i (left % 256)) (left / 256) (i + 1)
+  unfolding number_bytes
+  split-next h =
+      let one : width - i ≡ suc (width - (i + 1)) = omega (arith, s.long) in
+      record {
+        long = length-set l i (left % 256) ∙ s.long;
+        whole = put_first l i (left % 256) (number_bytes (width - (i + 1)) (left / 256)) h ∙ (rw one at s.whole);
+      }
 
-pub number-all : (l : List ℕ) (k i width left : ℕ) (whole : List ℕ) → put l (k + i) (number_bytes (width - i) left) ≡ whole → width ≤ i → l ≡ whole
-unfolding number_bytes
-number-all l k i width left whole owed h =
-    let none : width - i ≡ 0 = omega arith in
-    sym (put-none l (k + i)) ∙ (rw none at owed)
+  split-done : length l ≤ i → l ≡ number_bytes width x
+  unfolding number_bytes
+  split-done h = let none : width - i ≡ 0 = omega (arith, s.long) in sym (put-none l i) ∙ (rw none at s.whole)
+
+  pub split-all : (out : List ℕ) (at n : ℕ) → n ≡ width → length l ≤ i → put_mid at n out l ≡ put out at (number_bytes width x)
+  split-all out at n e h = put-mid out l at n (e ∙ sym s.long) ∙ ap (put out at) (split-done h)
 
 span_more : (ws : List ℕ) (i : ℕ) → i < length ws → span (drop i ws) ≡ at ws i + span (drop (i + 1) ws)
 span_more ws i h = rw (add-one, drop-cons ws i 0)

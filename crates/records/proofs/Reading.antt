@@ -2,23 +2,19 @@
 --   number-next    one byte more in front of a number that was read from position k + 1 on
 --   number_bound   a number of w bytes is below 256 ^ w
 --   number_same    the same bytes make the same number, wherever they stand
---   number-of2, number-of4     the number of two bytes, of four
---   mark-told                  two bytes are a mark's if their number is
+--   number-of2, number-of4     the number of two bytes, of four, as `from_le_bytes` makes it
 --   shift-bound    one byte more keeps below the next power of 256
 --   room           below 256 ^ w with w at most 7, a byte more still fits 64 bits
 use mathlib.Core.Path.{◌≡◌, refl}
 use Prim.Native.Nat.{ℕ, zero, suc, ◌+◌, ◌-◌, ◌*◌, ◌^◌, ◌≤◌, ◌<◌}
 use native.Mathlib.Nat.{pow-suc, pow-le-pow_right, add_assoc, add-zero}
 use native.Mathlib.Omega.{arith}
-use mathlib.Core.Logic.{◌⊎◌, inl, inr}
-use mathlib.Core.Bool.{true, false, ◌&&◌}
-use mathlib.Core.List.{List}
-use lib.Dec.{lit<, eqb}
+use mathlib.Core.List.{List, [], ◌∷◌}
+use mir.Syntax.{w16, w32}
+use Rattle.std.specs.Int.{from_le_bytes}
+use lib.Dec.{lit<}
 use lib.ListN.{get_or}
-use borrow.Author.Tests.{eq-eqb, ne_eqb, eqb-true, eqb-false}
-use Rattle.columns.proofs.Rank.{test-or}
 use Rattle.records.specs.Number.{number_at}
-use Rattle.records.specs.Record.{letter_p}
 
 pub number-next : (s : List ℕ) (at w i v : ℕ) → v ≡ number_at (w - i) s (at + i) → 0 < i → i ≤ w
     → v * 256 + get_or s (at + (i - 1)) 0 ≡ number_at (w - (i - 1)) s (at + (i - 1))
@@ -48,27 +44,17 @@ number_same (suc w) s t a b h =
 pub room : (w v : ℕ) → v < 256 ^ w → w ≤ 7 → v < 2 ^ 56
 room w v h l = omega (arith, pow-le-pow_right {n = 256} (lit< tt) l)
 
-pub number-of2 : (s : List ℕ) (at a b : ℕ) → a ≡ get_or s at 0 → b ≡ get_or s (at + 1) 0 → a + 256 * b ≡ number_at 2 s at
+pub number-of2 : (s : List ℕ) (at n : ℕ) → n ≡ from_le_bytes w16 (get_or s at 0 ∷ get_or s (at + 1) 0 ∷ []) → n ≡ number_at 2 s at
 unfolding number_at
-number-of2 s at a b e f = omega (arith, e, f)
+number-of2 s at n e = omega (arith, e)
 
-pub mark-told : (x y letter a b p l : ℕ) → (a ≡ x) × (a < 256) → (b ≡ y) × (b < 256) → (p ≡ letter_p) × (p < 256) → (l ≡ letter) × (l < 256)
-    → eqb (a + 256 * b) (p + 256 * l) ≡ (eqb x letter_p && eqb y letter)
-mark-told x y letter a b p l f g h k = go (test-or (eqb x letter_p)) (test-or (eqb y letter))
-  where
-    go : (eqb x letter_p ≡ true) ⊎ (eqb x letter_p ≡ false) → (eqb y letter ≡ true) ⊎ (eqb y letter ≡ false)
-        → eqb (a + 256 * b) (p + 256 * l) ≡ (eqb x letter_p && eqb y letter)
-    go (inl s) (inl t) = rw (s, t) (eq-eqb (a + 256 * b) (p + 256 * l) (omega (arith, eqb-true x letter_p s, eqb-true y letter t)))
-    go (inl s) (inr t) = rw (s, t) (ne_eqb (a + 256 * b) (p + 256 * l) (λ e. eqb-false y letter t (omega arith)))
-    go (inr s) t = rw s (ne_eqb (a + 256 * b) (p + 256 * l) (λ e. eqb-false x letter_p s (omega arith)))
-
-pub number-of4 : (s : List ℕ) (at a b c d : ℕ) → a ≡ get_or s at 0 → b ≡ get_or s (at + 1) 0 → c ≡ get_or s (at + 2) 0 → d ≡ get_or s (at + 3) 0
-    → a + 256 * b + 65536 * c + 16777216 * d ≡ number_at 4 s at
+pub number-of4 : (s : List ℕ) (at n : ℕ)
+    → n ≡ from_le_bytes w32 (get_or s at 0 ∷ get_or s (at + 1) 0 ∷ get_or s (at + 2) 0 ∷ get_or s (at + 3) 0 ∷ []) → n ≡ number_at 4 s at
 unfolding number_at
-number-of4 s at a b c d e f g h =
+number-of4 s at n e =
     let third : at + 1 + 1 ≡ at + 2 = omega arith in
     let fourth : at + 2 + 1 ≡ at + 3 = omega arith in
-    rw (third, fourth) (omega (arith, e, f, g, h))
+    rw (third, fourth) (omega (arith, e))
 
 -- how far a reader has come: v is the number in the bytes from position at + i on, to the end of a width of w
 pub record Read (s : List ℕ) (at w v i : ℕ) : Type 0 where

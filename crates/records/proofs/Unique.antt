@@ -1,7 +1,7 @@
 -- Two results that one contract allows are equal, for each public function: theorems of the contract itself (`Learnt`).
+use Prim.Native.Nat.{ℕ}
 use mathlib.Core.Path.{◌≡◌, sym, ◌∙◌}
 use Rattle.columns.proofs.Unique.{LeavesOne, OneResult}
-use Rattle.records.proofs.wide.Reads as wide
 use Rattle.records.proofs.number_at.Reads as number_at
 use Rattle.records.proofs.put_bytes.Reads as put-bytes
 use Rattle.records.proofs.put_number.Reads as put-number
@@ -13,9 +13,6 @@ use Rattle.records.proofs.cells.cell.Reads as cell
 use Rattle.records.proofs.cells.put_cell.Reads as put-cell
 use Rattle.records.proofs.cells.get_column.Reads as get-column
 use Rattle.records.proofs.cells.put_column.Reads as put-column
-
-pub wide-unique : OneResult wide.Learnt
-wide-unique κs a x y e f p q = p.0 ∙ sym q.0
 
 pub number-at-unique : OneResult number_at.Learnt
 number-at-unique κs a x y e f p q = p.0 ∙ sym q.0
@@ -49,3 +46,7 @@ get-column-unique κs a x y e f p q = p ∙ sym q
 
 pub put-column-unique : LeavesOne put-column.Learnt (λ κs x y e f. e.0.now ≡ f.0.now)
 put-column-unique κs a x y e f p q = p ∙ sym q
+
+-- A byte that std widens is one number.
+pub wide-unique : (a x y : ℕ) → x ≡ a → y ≡ a → x ≡ y
+wide-unique a x y p q = p ∙ sym q

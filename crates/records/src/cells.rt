@@ -3,7 +3,6 @@ ghost use Rattle.std.specs.Prelude.{◌≡◌, ◌+◌, ◌≤◌, ◌<◌, ◌^
 ghost use Rattle.records.specs.Sheet.{cell_at, cell, column_of, with_cell, with_column, Lined};
 
 use crate::{Field, number_at, put_number};
-use columns::wide;
 
 // The number in a field's cell of record i.
 pub fn cell(s: &[u8], f: Field, i: usize) -> u64
@@ -26,10 +25,8 @@ pub fn get_column(s: &[u8], f: Field, column: &mut [u32])
     requires { Lined f (length column.old) s.now × (f.width ≤ 4) }
     ensures { column.new ≡ column_of f (length column.old) s.now }
 {
-    let mut i = 0;
-    while i < column.len() {
-        column[i] = cell(s, f, i) as u32;
-        i += 1;
+    for (i, x) in column.iter_mut().enumerate() {
+        *x = cell(s, f, i) as u32;
     }
 }
 
@@ -38,9 +35,7 @@ pub fn put_column(s: &mut [u8], f: Field, column: &[u32])
     requires { Lined f (length column.now) s.old }
     ensures { s.new ≡ with_column f column.now s.old }
 {
-    let mut i = 0;
-    while i < column.len() {
-        put_cell(s, f, i, wide(column[i]));
-        i += 1;
+    for (i, x) in column.iter().enumerate() {
+        put_cell(s, f, i, u64::from(*x));
     }
 }

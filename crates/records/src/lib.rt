@@ -21,59 +21,33 @@ pub struct Field {
     pub width: usize,
 }
 
-// A byte as a number to reckon with.
-pub fn wide(x: u8) -> u64
-    ensures { (result ≡ x) × (result < 256) }
-{
-    x as u64
-}
-
-// The number in two bytes from a position on, lowest byte first.
-fn number_of2(s: &[u8], at: usize) -> u64
-    requires { at + 2 ≤ length s.now }
-    ensures { (result ≡ number_at 2 s.now at) × (result < 256 ^ 2) }
-{
-    wide(s[at]) + 256 * wide(s[at + 1])
-}
-
-// The number in four.
-fn number_of4(s: &[u8], at: usize) -> u64
-    requires { at + 4 ≤ length s.now }
-    ensures { (result ≡ number_at 4 s.now at) × (result < 256 ^ 4) }
-{
-    wide(s[at]) + 256 * wide(s[at + 1]) + 65536 * wide(s[at + 2]) + 16777216 * wide(s[at + 3])
-}
-
-// The number in so many bytes from a position on, lowest byte first; taken from the top byte down. Widths 4 and 2 have code of their
-// own: where a width is known only at run time, the compiler would read a number of any width in a loop over its bytes.
+// The number in so many bytes from a position on, lowest byte first; taken from the top byte down. Widths 4 and 2 are read at once:
+// where a width is known only at run time, the compiler would read a number of any width in a loop over its bytes.
 pub fn number_at(s: &[u8], at: usize, width: usize) -> u64
     requires { (at + width ≤ length s.now) × (width ≤ 8) }
     ensures { (result ≡ number_at width s.now at) × (result < 256 ^ width) }
 {
     if width == 4 {
-        return number_of4(s, at);
+        return u64::from(u32::from_le_bytes([s[at], s[at + 1], s[at + 2], s[at + 3]]));
     }
     if width == 2 {
-        return number_of2(s, at);
+        return u64::from(u16::from_le_bytes([s[at], s[at + 1]]));
     }
     let mut v: u64 = 0;
-    let mut i = width;
-    while 0 < i {
-        i -= 1;
-        v = v * 256 + wide(s[at + i]);
+    for i in (0..width).rev() {
+        v = v * 256 + u64::from(s[at + i]);
     }
     v
 }
 
-// Copies src into out from position at on; nothing else of out changes.
+// Copies src into out from position at on; nothing else of out changes. A loop, of which the compiler makes a memcpy: of copy_from_slice it
+// makes a memmove, and of C's library the archive calls memcpy and memset alone.
 pub fn put_bytes(out: &mut [u8], at: usize, src: &[u8])
     requires { at + length src.now ≤ length out.old }
     ensures { out.new ≡ put out.old at src.now }
 {
-    let mut i = 0;
-    while i < src.len() {
-        out[at + i] = src[i];
-        i += 1;
+    for (i, byte) in src.iter().enumerate() {
+        out[at + i] = *byte;
     }
 }
 
@@ -83,11 +57,9 @@ pub fn put_number(out: &mut [u8], at: usize, width: usize, x: u64)
     ensures { out.new ≡ put out.old at (number_bytes width x) }
 {
     let mut left = x;
-    let mut i = 0;
-    while i < width {
-        out[at + i] = (left % 256) as u8;
+    for byte in &mut out[at..at + width] {
+        *byte = (left % 256) as u8;
         left /= 256;
-        i += 1;
     }
 }
 
@@ -97,12 +69,10 @@ pub fn put_fields(out: &mut [u8], at: usize, widths: &[u8], fields: &[u64])
     ensures { out.new ≡ put out.old at (fields_bytes widths.now fields.now) }
 {
     let mut end = at;
-    let mut i = 0;
-    while i < widths.len() {
-        let width = wide(widths[i]) as usize;
-        put_number(out, end, width, fields[i]);
+    for (width, x) in widths.iter().zip(fields) {
+        let width = usize::from(*width);
+        put_number(out, end, width, *x);
         end += width;
-        i += 1;
     }
 }
 
@@ -111,7 +81,7 @@ pub fn marked(s: &[u8], at: usize, letter: u8) -> bool
     requires { at + 2 ≤ length s.now }
     ensures { result ≡ marked s.now at letter }
 {
-    wide(s[at]) + 256 * wide(s[at + 1]) == wide(b'P') + 256 * wide(letter)
+    u16::from_le_bytes([s[at], s[at + 1]]) == u16::from_le_bytes([b'P', letter])
 }
 
 // The fields of the record whose mark stands at a position, each read in its own width.
@@ -120,13 +90,21 @@ pub fn get_record(s: &[u8], at: usize, widths: &[u8], fields: &mut [u64])
     ensures { (fields.new ≡ record_at widths.now s.now at) × Fits widths.now fields.new }
 {
     let mut end = at + 2;
-    let mut i = 0;
-    while i < widths.len() {
-        let width = wide(widths[i]) as usize;
+    for (i, width) in widths.iter().enumerate() {
+        let width = usize::from(*width);
         fields[i] = number_at(s, end, width);
         end += width;
-        i += 1;
     }
+}
+
+// The same, where the table's length is known: its fields, one for each width.
+pub fn record_of<const N: usize>(s: &[u8], at: usize, widths: &[u8; N]) -> [u64; N]
+    requires { (at + record_size widths.now ≤ length s.now) × (narrow widths.now ≡ true) }
+    ensures { (result ≡ record_at widths.now s.now at) × Fits widths.now result }
+{
+    let mut fields = [0; N];
+    get_record(s, at, widths, &mut fields);
+    fields
 }
 
 // Puts a record from a position on: its mark, then its fields, each in its own width.

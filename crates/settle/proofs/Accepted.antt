@@ -13,7 +13,7 @@ use Rattle.files.specs.Layout.{head_at, row_count}
 use Rattle.files.specs.Form.{terms_of}
 use Rattle.files.specs.Order.{verdict_of}
 use Rattle.files.specs.Counting.{counting_row}
-use Rattle.files.specs.declared.Verdict.TheVariants.{Accepted}
+use Rattle.files.specs.Verdict.{Accepted}
 use Rattle.files.proofs.Ranges.{HeadRanges, RowRanges}
 use Rattle.files.proofs.Laws.{accepted-head, accepted-few, accepted-sound, accepted-ranges, accepted-count}
 use Rattle.duties.proofs.Laws.{baseline-most, duties-level, duties-sized, bids-apart}

@@ -30,8 +30,7 @@ use Rattle.files.specs.Layout.{head_size, row_count}
 use Rattle.files.specs.Form.{form_of, rows_from}
 use Rattle.files.specs.declared.Form.{Form}
 use Rattle.files.specs.Order.{file_order, file_fault, verdict_of}
-use Rattle.files.specs.declared.Verdict.{Verdict}
-use Rattle.files.specs.declared.Verdict.TheVariants as verdicts
+use Rattle.files.specs.Verdict.{Accepted, Refused}
 use Rattle.files.proofs.Answer.{accepted-of, refused-of, file-numbers}
 use Rattle.files.proofs.Laws.{accepted-few, accepted-long, accepted-whole, accepted-count}
 use Rattle.statement.specs.Statement.{letter_l, line_widths, line_start, extra_of, top_bytes}
@@ -41,7 +40,6 @@ use Rattle.statement.proofs.Laws.{top-length, statement-length}
 use Rattle.settle.specs.Statement.{statement_bytes}
 use Rattle.settle.specs.Answer.{top_of, line_in, statement_of, size_of, room_order, settle_order, answer_of, buffer_after}
 use Rattle.settle.specs.Work.{lined, lined_behind}
-use Rattle.settle.specs.declared.Answer.TheVariants.{Settled, Refused}
 
 -- ---- the files first, then the buffer
 
@@ -54,21 +52,21 @@ module _ (s k : List ℕ) (room : ℕ) where
   unfolding settle_order
   settle-numbers = numbers-append 1 last_number (file_order s k) (room_order s room) (file-numbers s k) refl
 
-  pub accepted-free : (n : ℕ) → verdict_of s k ≡ verdicts.Accepted n → ((file_fault s k).applies ≡ false) × (row_count s ≡ n)
+  pub accepted-free : (n : ℕ) → verdict_of s k ≡ Accepted n → ((file_fault s k).applies ≡ false) × (row_count s ≡ n)
   unfolding verdict_of
   accepted-free n ok = accepted-of (row_count s) n (file_fault s k) ok
 
-  pub files-stop : (a p : ℕ) → verdict_of s k ≡ verdicts.Refused a p → first_refusal (settle_order s k room) ≡ refusal true a p
+  pub files-stop : (a p : ℕ) → verdict_of s k ≡ Refused a p → first_refusal (settle_order s k room) ≡ refusal true a p
   unfolding verdict_of settle_order
   files-stop a p refused =
       let is = refused-of (row_count s) a p (file_fault s k) refused in
       append-first (file_order s k) (room_order s room) (ap (λ (r : Refusal). r.applies) is) ∙ is
 
-  pub room-stop : (n : ℕ) → verdict_of s k ≡ verdicts.Accepted n → room < size_of s → first_refusal (settle_order s k room) ≡ refusal true 11 0
+  pub room-stop : (n : ℕ) → verdict_of s k ≡ Accepted n → room < size_of s → first_refusal (settle_order s k room) ≡ refusal true 11 0
   unfolding first_refusal
   room-stop n ok short = buffer-next (accepted-free n ok).0 ∙ rw (lt-ltb room (size_of s) short)
 
-  pub none-stop : (n : ℕ) → verdict_of s k ≡ verdicts.Accepted n → size_of s ≤ room → (first_refusal (settle_order s k room)).applies ≡ false
+  pub none-stop : (n : ℕ) → verdict_of s k ≡ Accepted n → size_of s ≤ room → (first_refusal (settle_order s k room)).applies ≡ false
   unfolding first_refusal
   none-stop n ok enough = ap (λ (r : Refusal). r.applies) (buffer-next (accepted-free n ok).0) ∙ rw (le-ltb room (size_of s) enough) refl
 
@@ -83,9 +81,6 @@ settled-count s k = statement-length (form_of s) (top_of s k) (row_count s) (lin
 
 -- ---- as the code meets them
 
-pub told : (s k : List ℕ) (v w : Verdict) → v ≡ verdict_of s k → v ≡ w → verdict_of s k ≡ w
-told s k v w e f = sym e ∙ f
-
 module _ (s k out : List ℕ) (a p : ℕ) (stop : first_refusal (settle_order s k (length out)) ≡ refusal true a p) where
   refused : Refused a p ≡ answer_of s k (length out)
   unfolding answer_of
@@ -95,9 +90,9 @@ module _ (s k out : List ℕ) (a p : ℕ) (stop : first_refusal (settle_order s 
   unfolding buffer_after
   unchanged = rw stop
 
-module _ (s k out : List ℕ) (v : Verdict) (a p : ℕ) (e : v ≡ verdict_of s k) (f : v ≡ verdicts.Refused a p) where
+module _ (s k out : List ℕ) (a p : ℕ) (e : verdict_of s k ≡ Refused a p) where
   first : first_refusal (settle_order s k (length out)) ≡ refusal true a p
-  first = files-stop s k (length out) a p (told s k v (verdicts.Refused a p) e f)
+  first = files-stop s k (length out) a p e
 
   pub refusal-told : Refused a p ≡ answer_of s k (length out)
   refusal-told = refused s k out a p first
@@ -106,7 +101,7 @@ module _ (s k out : List ℕ) (v : Verdict) (a p : ℕ) (e : v ≡ verdict_of s 
   refusal-left = unchanged s k out a p first
 
 -- the size that the code has is the statement's
-module _ (s k out : List ℕ) (n size : ℕ) (f : Form) (ok : verdict_of s k ≡ verdicts.Accepted n) (form : f ≡ form_of s)
+module _ (s k out : List ℕ) (n size : ℕ) (f : Form) (ok : verdict_of s k ≡ Accepted n) (form : f ≡ form_of s)
     (made : size ≡ extra_of f.stated + line_start n) where
   is : size ≡ size_of s
   is = made ∙ (λ j. extra_of (form j).stated + line_start (sym (accepted-free s k (length out) n ok).1 j))
@@ -120,7 +115,7 @@ module _ (s k out : List ℕ) (n size : ℕ) (f : Form) (ok : verdict_of s k ≡
   none : size ≤ length out → (first_refusal (settle_order s k (length out))).applies ≡ false
   none room = none-stop s k (length out) n ok (rw is at room)
 
-  pub written-told : size ≤ length out → Settled size ≡ answer_of s k (length out)
+  pub written-told : size ≤ length out → Accepted size ≡ answer_of s k (length out)
   unfolding answer_of
   written-told room = rw (none room, is)
 
@@ -128,13 +123,13 @@ module _ (s k out : List ℕ) (n size : ℕ) (f : Form) (ok : verdict_of s k ≡
   unfolding buffer_after
   written-left after room written = rw (none room) written
 
-pub few-rows : (s k : List ℕ) (n : ℕ) → verdict_of s k ≡ verdicts.Accepted n → n ≤ 256
+pub few-rows : (s k : List ℕ) (n : ℕ) → verdict_of s k ≡ Accepted n → n ≤ 256
 few-rows s k n ok = accepted-few s k n ok
 
-pub head-there : (s k : List ℕ) (n : ℕ) → verdict_of s k ≡ verdicts.Accepted n → head_size ≤ length s
+pub head-there : (s k : List ℕ) (n : ℕ) → verdict_of s k ≡ Accepted n → head_size ≤ length s
 head-there s k n ok = accepted-long s k n ok
 
-pub form-there : (s k : List ℕ) (n : ℕ) → verdict_of s k ≡ verdicts.Accepted n → rows_from s ≤ length s
+pub form-there : (s k : List ℕ) (n : ℕ) → verdict_of s k ≡ Accepted n → rows_from s ≤ length s
 form-there s k n ok = accepted-whole s k n ok
 
 -- ---- lines, then the head
@@ -159,7 +154,7 @@ behind s k n f out part extra room e told =
 
 -- the head goes over what stands in front of the lines
 pub head-over : (s k : List ℕ) (n : ℕ) (f : Form) (out : List ℕ) (top : StatementHead) (t after : List ℕ)
-    → extra_of f.stated + line_start n ≤ length out → verdict_of s k ≡ verdicts.Accepted n → f ≡ form_of s → top ≡ top_of s k
+    → extra_of f.stated + line_start n ≤ length out → verdict_of s k ≡ Accepted n → f ≡ form_of s → top ≡ top_of s k
     → t ≡ lined_behind (extra_of f.stated) out n (line_in s k) → after ≡ put t 0 (top_bytes f top) → after ≡ put out 0 (statement_of s k)
 unfolding statement_of statement_bytes
 head-over s k n f out top t after room ok form told lines over =

@@ -6,13 +6,14 @@
 --   paid-count, marks-count, paid-asked, marks-asked, counts-level, levied    payments and closing rounds may be put, and what the stage leaves
 --   shares-asked, shares-lined, shares_left     an amount over the sums of a field, in lent columns
 --   none-shared, front-shareable, share-front, share-there    where there is nothing to share; and in fronts of fresh arrays
+--   sharings-are   the sharings of the parts in the order of the code
 --   divided-none, divided-asked, divided-more, divided-all    one sharing after the other
-use Prim.Native.Nat.{ℕ, ◌+◌, ◌≤◌, ◌<◌}
+use Prim.Native.Nat.{ℕ, zero, suc, ◌+◌, ◌≤◌, ◌<◌}
 use mathlib.Core.Path.{◌≡◌, refl, sym, ap, ◌∙◌}
-use mathlib.Core.List.{List, ◌++◌}
+use mathlib.Core.List.{List, [], ◌∷◌, ◌++◌}
 use native.Mathlib.Numerals.{add-one}
 use native.Mathlib.Omega.{arith}
-use lib.ListN.{length, take, drop, length-append, length-drop}
+use lib.ListN.{length, get_or, take, drop, length-append, length-drop}
 use lib.Seq.{length-take-le, take_at}
 use Rattle.columns.proofs.Table.{table-length}
 use Rattle.records.specs.declared.Field.{Field}
@@ -28,7 +29,9 @@ use Rattle.levy.proofs.Making.{payable}
 use Rattle.levy.proofs.Payment.{payments-length}
 use Rattle.statement.specs.Line as line
 use Rattle.settle.specs.Within.{Turn}
-use Rattle.settle.specs.Work.{Ruled, Leviable, standing_in, LeviedOn, Levied, sharing_of, Shareable, shared_out, divided_to, Divisible}
+use Rattle.settle.specs.Work.{Ruled, Leviable, standing_in, LeviedOn, Levied, part_of, sharing_of, Shareable, shared_out, divided_to, Divisible}
+use Rattle.settle.specs.declared.payers.Part.{Part}
+use Rattle.settle.specs.declared.payers.Part.TheVariants.{Cut, Returned}
 use Rattle.settle.specs.declared.payers.Sharing.{Sharing}
 use Rattle.settle.proofs.Lending.{fresh, front-count}
 
@@ -192,6 +195,12 @@ module _ (n first : ℕ) (what : Sharing) (s : List ℕ) (asked : Shareable n fi
   share-there t e = rw (front-count n asked.few) at e
 
 -- ---- both sharings, one after the other
+
+pub sharings-are : (left : Left) (what : Sharing) (k : ℕ) (other : Part) → k < 2 → what ≡ part_of left (get_or (Cut ∷ Returned ∷ []) k other)
+    → what ≡ sharing_of left k
+sharings-are left what zero other l e = e
+sharings-are left what (suc zero) other l e = e
+sharings-are left what (suc (suc k)) other l e = absurd (omega arith)
 
 module _ (n first : ℕ) (left : Left) (s : List ℕ) where
   pub divided-none : s ≡ divided_to 0 n first left s

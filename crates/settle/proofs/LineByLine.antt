@@ -3,6 +3,7 @@
 --                      its start, what a line asks, a turn, its end
 --   WrittenTo          how far the writing loop has come; written_none, written-inside, written-one-room, written-two-room, written_next,
 --                      written_all: the same of it
+--   counted-turn, counted-end     what a turn over two columns side by side, counted, has before it, and how many turns there are
 --   both, former, latter     two fields of four bytes side by side, and each of them
 --   side_by_side       numbers put into two fields of four bytes as one: they stand in the first, and 0 in the second
 use Prim.Native.Nat.{ℕ, zero, suc, ◌+◌, ◌*◌, ◌/◌, ◌%◌, ◌^◌, ◌≤◌, ◌<◌}
@@ -11,7 +12,21 @@ use mathlib.Core.List.{List, ◌∷◌, ◌++◌}
 use native.Mathlib.Nat.{mul-le-mul_right}
 use native.Mathlib.Numerals.{add-one}
 use native.Mathlib.Omega.{arith}
-use lib.ListN.{length, set}
+use denote.Ref.{Bor}
+use lib.ListN.{length, get_or, set}
+use Rattle.std.proofs.Common.{Iter, None, Some}
+use Rattle.std.specs.List.{zip, enumerate_from}
+use Rattle.std.specs.Iterator.{Yields}
+use Rattle.std.specs.Iterator.Adapters.{enumerate_source, enumerate_count, enumerate_steps, zip_first, zip_second}
+use Rattle.std.specs.Slice.Iter.{iter_rest}
+use Rattle.std.specs.declared.iter.Enumerate.{Enumerate}
+use Rattle.std.specs.declared.iter.Zip.{Zip}
+use Rattle.std.proofs.iter.Yields.{fronts}
+use Rattle.std.proofs.lemmas.Iterator.{YieldsList, zips, YieldsList-from_slice, YieldsList-from_zip}
+use Rattle.std.proofs.lemmas.Iterator.Consumers.{YieldsList-from_enumerate, YieldsList-turn, YieldsList-end}
+use Rattle.std.proofs.lemmas.List.FromFn.{length-enumerate_from, get_or-enumerate_from}
+use Rattle.std.proofs.lemmas.Slice.Zip.{length-zip, get_or-zip}
+use Rattle.std.proofs.lemmas.Option.{get_or_from_slice_get, slice_get-get_or}
 use Rattle.columns.specs.Table.{at}
 use Rattle.columns.proofs.Fill.{Reached, reached-none, reached-next}
 use Rattle.records.specs.Buffer.{put}
@@ -35,27 +50,27 @@ pub read_none : (one two : Field) (s fs gs : List ℕ) → length gs ≡ length 
 read_none one two s fs gs e = record { level = e; first = reached-none 0 (cell one s) fs; second = reached-none 0 (cell two s) gs }
 
 module _ (one two : Field) (s fs₀ gs₀ fs gs : List ℕ) (i : ℕ) (r : ReadTo one two s fs₀ gs₀ fs gs i) where
-  pub read-inside : i < length fs → i < length gs
+  pub read-inside : i < length fs₀ → i < length gs
   read-inside l = omega (arith, r.level, r.first.room, r.second.room)
 
-  pub read-one-room : Ruled (length fs₀) one s → i < length fs → cell_at one i + one.width ≤ length s
-  read-one-room ruled l = read-room one s fs₀ fs i r.first ruled.lined l
+  pub read-one-room : Ruled (length fs₀) one s → i < length fs₀ → cell_at one i + one.width ≤ length s
+  read-one-room ruled l = read-room one s fs₀ fs i r.first ruled.lined (omega (arith, r.first.room))
 
-  pub read-two-room : Ruled (length gs₀) two s → i < length fs → cell_at two i + two.width ≤ length s
+  pub read-two-room : Ruled (length gs₀) two s → i < length fs₀ → cell_at two i + two.width ≤ length s
   read-two-room ruled l = read-room two s gs₀ gs i r.second ruled.lined (read-inside l)
 
-  pub read_next : (x y : ℕ) → i < length fs → x ≡ cell one s i → y ≡ cell two s i → ReadTo one two s fs₀ gs₀ (set fs i x) (set gs i y) (i + 1)
+  pub read_next : (x y : ℕ) → i < length fs₀ → x ≡ cell one s i → y ≡ cell two s i → ReadTo one two s fs₀ gs₀ (set fs i x) (set gs i y) (i + 1)
   read_next x y l e f =
       record {
         level = r.level;
-        first = reached-next 0 (cell one s) fs₀ fs i x r.first l e;
+        first = reached-next 0 (cell one s) fs₀ fs i x r.first (omega (arith, r.first.room)) e;
         second = reached-next 0 (cell two s) gs₀ gs i y r.second (read-inside l) f;
       }
 
-  pub read_one : length fs ≤ i → fs ≡ column_of one (length fs₀) s
-  read_one l = read_all one s fs₀ fs i r.first l
+  pub read_one : length fs₀ ≤ i → fs ≡ column_of one (length fs₀) s
+  read_one l = read_all one s fs₀ fs i r.first (omega (arith, r.first.room))
 
-  pub read-two : length fs ≤ i → gs ≡ column_of two (length gs₀) s
+  pub read-two : length fs₀ ≤ i → gs ≡ column_of two (length gs₀) s
   read-two l = read_all two s gs₀ gs i r.second (omega (arith, r.level, r.first.room, r.second.room))
 
 -- ---- writing
@@ -122,6 +137,45 @@ module _ (one two : Field) (xs ys s₀ s : List ℕ) (i : ℕ) (r : WrittenTo on
                 (put2 ∙ ap (with_cell two i y) (put1 ∙ ap (with_cell one i x) r.is ∙ past)
                 ∙ (λ j. with_cell two i (f j) (with_cells two i ys (with_cell one i (e j) t))));
           }
+
+-- ---- two columns side by side, counted
+
+any-default : (xs : List ℕ) (i d e : ℕ) → i < length xs → get_or xs i d ≡ get_or xs i e
+any-default xs i d e l = get_or_from_slice_get xs i (get_or xs i e) d (slice_get-get_or xs i e l)
+
+module _ (xs ys : List ℕ) (level : length ys ≡ length xs) where
+  beside-long : length (enumerate_from 0 (zip xs ys)) ≡ length xs
+  beside-long = omega (arith, length-enumerate_from 0 (zip xs ys), length-zip xs ys)
+
+  beside : (m : ℕ) (p : ℕ × (ℕ × ℕ)) → m < length (enumerate_from 0 (zip xs ys)) → p ≡ get_or (enumerate_from 0 (zip xs ys)) m p
+      → (m < length xs) × (p.0 ≡ m) × (p.1.0 ≡ at xs m) × (p.1.1 ≡ at ys m)
+  beside m p l is =
+      let inside : m < length xs = omega (arith, beside-long) in
+      let beyond : m < length ys = omega (arith, beside-long) in
+      let e : p ≡ (0 + m, (get_or xs m p.1.0, get_or ys m p.1.1)) =
+      is ∙ get_or-enumerate_from 0 (zip xs ys) m p (omega (arith, length-enumerate_from 0 (zip xs ys)))
+      ∙ ap (λ (q : ℕ × ℕ). (0 + m, q)) (get_or-zip xs ys m p.1 inside beyond) in (
+        inside,
+        omega (arith, ap (λ (q : ℕ × (ℕ × ℕ)). q.0) e),
+        ap (λ (q : ℕ × (ℕ × ℕ)). q.1.0) e ∙ any-default xs m p.1.0 0 inside,
+        ap (λ (q : ℕ × (ℕ × ℕ)). q.1.1) e ∙ any-default ys m p.1.1 0 beyond,
+      )
+
+  module _ (s : Enumerate (Zip (Iter ℕ) (Iter ℕ))) (first : iter_rest (zip_first (enumerate_source s)) ≡ xs)
+      (second : iter_rest (zip_second (enumerate_source s)) ≡ ys) (none : enumerate_count s ≡ 0) where
+    road : YieldsList (enumerate_steps (zips fronts fronts)) (λ p. (p.0, (p.1.0.now, p.1.1.now))) s (enumerate_from 0 (zip xs ys))
+    road = YieldsList-from_enumerate (YieldsList-from_zip (YieldsList-from_slice xs first) (YieldsList-from_slice ys second)) none
+
+    module _ (yielded : List (ℕ × (Bor ℕ × Bor ℕ))) (t u : Enumerate (Zip (Iter ℕ) (Iter ℕ)))
+        (so-far : Yields (enumerate_steps (zips fronts fronts)) s yielded t) where
+      pub counted-turn : (i : ℕ) (x y : Bor ℕ) → enumerate_steps (zips fronts fronts) t (Some (i, (x, y))) u
+          → (length yielded < length xs) × (i ≡ length yielded) × (x.now ≡ at xs (length yielded)) × (y.now ≡ at ys (length yielded))
+      counted-turn i x y step =
+          let turn = YieldsList-turn road yielded t so-far (Some (i, (x, y))) u (i, (x, y)) refl step in
+          beside (length yielded) (i, (x.now, y.now)) turn.0 turn.1
+
+      pub counted-end : enumerate_steps (zips fronts fronts) t None u → length xs ≤ length yielded
+      counted-end step = omega (arith, beside-long, (YieldsList-end road yielded t so-far None u refl step).1)
 
 -- ---- two fields side by side as one
 

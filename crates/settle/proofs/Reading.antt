@@ -1,16 +1,15 @@
 -- The first stage, row by row, as its proof asks for it.
---   Sofar          how far it has come before row i: the lines of the rows passed
---   sofar-none, sofar-more, sofar-all     its start, one row more, its end
---   line-room, sofar-long     the next row's line has room
+--   lined-none, lined-more     no line put, and the next row's behind those of the rows passed
 --   own-sources, found-sources, source-at-row, source-room, source_fits     the sources without a correction and with one, and one of them
 --   Scanning       how far the scan for the average has come before row i
 --   scanning-none, scanning-more, scanning-stop, energy-fits, capacity-fits, scanning-all     its start, one row more, a row that stirs, sums that fit, its end
 --   low-found      an average that rules is that of low sums
---   by-usual, flag-told, read_told      the lines by the average that rules, the flag and the lines by the head's need and tariff
+--   usual-duty     without an average that rules, the duties are the usual ones
+--   flag-told, read_told      the flag and the lines by the head's need and tariff
 --   duty-put       a record of the fields of a row's duties is its line
 --   reads-start, terms-low     what a job says is the file's, and its baseline is below 60 percent
 --   reads_of       a job made of the file's form
---   row-ranged, row_inside, usual-read, averaged-read      of one row: it is in its ranges, and its line is that of its duties
+--   row-ranged, row_inside     of one row: it is in its ranges, and its position is one of 256
 use Prim.Native.Nat.{ℕ, ◌+◌, ◌*◌, ◌^◌, ◌≤◌, ◌<◌}
 use mathlib.Core.Path.{◌≡◌, refl, sym, ap, ◌∙◌}
 use mathlib.Core.Logic.{⊎_elim}
@@ -28,7 +27,7 @@ use Rattle.columns.proofs.Listed.{one-is}
 use Rattle.columns.proofs.Rank.{test-or}
 use Rattle.columns.proofs.Table.{table-length}
 use Rattle.records.proofs.Buffer.{put-length}
-use Rattle.records.proofs.Sheet.{sheet-none, sheet-next, sheet-length}
+use Rattle.records.proofs.Sheet.{sheet-none, sheet-next}
 use Rattle.files.specs.Form.{terms_of, form_of, start_of, rows_from}
 use Rattle.files.specs.Layout.{head_at}
 use Rattle.files.specs.Terms.{baseline}
@@ -37,7 +36,7 @@ use Rattle.files.specs.Counting.{source_of, counting_row}
 use Rattle.files.specs.declared.Form.{Form}
 use Rattle.files.specs.declared.Head.{Head}
 use Rattle.files.specs.declared.Row.{Row}
-use Rattle.files.specs.declared.Verdict.TheVariants.{Accepted}
+use Rattle.files.specs.Verdict.{Accepted}
 use Rattle.files.proofs.Walked.{start-told}
 use Rattle.files.proofs.Laws.{accepted-few, accepted-sound, accepted-ranges, accepted-count, source-at, no_source}
 use Rattle.duties.specs.Average.{stirs, windless, usual, joined, average_of, average_at, base_of, Low}
@@ -50,21 +49,21 @@ use Rattle.duties.proofs.Reached.{low_of}
 use Rattle.duties.proofs.Averages.{not-averaged, Scanned, scanned-none, scanned-more, scanned-stop, scanned-all, scanned-fits}
 use Rattle.levy.proofs.Arrays.{zeros-at}
 use Rattle.statement.specs.Statement.{letter_l, line_widths, head_size, line_start}
-use Rattle.settle.specs.Answer.{average_in, limit_in}
-use Rattle.settle.specs.Work.{lined, duty_line, row_line, Sourced, Reads}
+use Rattle.settle.specs.Answer.{average_in}
+use Rattle.settle.specs.Work.{lined, duty_line, row_line, Sourced, Reads, DutiesBy}
 use Rattle.settle.specs.declared.rows.Job.{Job}
 use Rattle.units.specs.declared.Hao.{Hao}
 
-pub duty-put : (s t : List ℕ) (from id : ℕ) (d : Duty) (w1 w2 e1 e2 w x1 x2 : ℕ) → w1 ≡ d.width1.0 → w2 ≡ d.width2.0
+pub duty-put : (s t : List ℕ) (from id : ℕ) (d : Duty) (named w1 w2 e1 e2 w x1 x2 : ℕ) → named ≡ id → w1 ≡ d.width1.0 → w2 ≡ d.width2.0
     → e1 ≡ d.energy1.0 → e2 ≡ d.energy2.0 → w ≡ d.weight.0 → x1 ≡ d.credit1.0 → x2 ≡ d.credit2.0
     → t ≡ put s from
-    (record_bytes letter_l line_widths (id ∷ w1 ∷ w2 ∷ e1 ∷ e2 ∷ w ∷ d.cap.0 ∷ d.bid2.0 ∷ d.bid1.0 ∷ x1 ∷ x2 ∷ []))
+    (record_bytes letter_l line_widths (named ∷ w1 ∷ w2 ∷ e1 ∷ e2 ∷ w ∷ d.cap.0 ∷ d.bid2.0 ∷ d.bid1.0 ∷ x1 ∷ x2 ∷ []))
     → t ≡ put s from (record_bytes letter_l line_widths (duty_line id d))
-duty-put s t from id d w1 w2 e1 e2 w x1 x2 h1 h2 h3 h4 h5 h6 h7 made =
+duty-put s t from id d named w1 w2 e1 e2 w x1 x2 h0 h1 h2 h3 h4 h5 h6 h7 made =
     made
     ∙ (λ j. put s from
     (record_bytes letter_l line_widths
-    (id ∷ h1 j ∷ h2 j ∷ h3 j ∷ h4 j ∷ h5 j ∷ d.cap.0 ∷ d.bid2.0 ∷ d.bid1.0 ∷ h6 j ∷ h7 j ∷ [])))
+    (h0 j ∷ h1 j ∷ h2 j ∷ h3 j ∷ h4 j ∷ h5 j ∷ d.cap.0 ∷ d.bid2.0 ∷ d.bid1.0 ∷ h6 j ∷ h7 j ∷ [])))
 
 pub reads-start : (j : Job) (s : List ℕ) → Reads j s → j.start ≡ rows_from s
 reads-start j s reads = reads.start
@@ -83,70 +82,27 @@ module _ (n : ℕ) (s k : List ℕ) (i : ℕ) (ok : verdict_of s k ≡ Accepted 
   pub row_inside : i < 256
   row_inside = omega (arith, accepted-few s k n ok)
 
-  module _ (job : Job) (reads : Reads job s) (d : Duty) (sheet t : List ℕ)
-      (putting : t ≡ put sheet (line_start i) (record_bytes letter_l line_widths (duty_line row.id d))) where
-    row_read : (a : Average) → d ≡ duty_of (baseline job.terms row.capacity) (base_of job.terms a row.capacity) job.tariff.0 row
-        → t ≡ put sheet (line_start i) (record_bytes letter_l line_widths (row_line job.tariff.0 a s k i))
-    row_read a made =
-        putting
-        ∙ (λ j. put sheet (line_start i)
-        (record_bytes letter_l line_widths
-        (duty_line (is j).id
-        ((made
-        ∙ (λ m. duty_of (baseline (reads.terms m) (is m).capacity) (base_of (reads.terms m) a (is m).capacity) job.tariff.0 (is m)))
-        j))))
+  -- its line behind those of the rows passed
+  pub lined-more : (job : Job) (reads : Reads job s) (pre : Average → Row → Type 0) (post : Average → Row → Duty → Type 0) (a : Average)
+      → DutiesBy pre post a job → (d : Duty) → post a row d → (out sheet t : List ℕ) → line_start n ≤ length out
+      → sheet ≡ lined out i (row_line job.tariff.0 a s k) → t ≡ put sheet (line_start i) (record_bytes letter_l line_widths (duty_line row.id d))
+      → t ≡ lined out (i + 1) (row_line job.tariff.0 a s k)
+  lined-more job reads pre post a duties d made out sheet t room before putting =
+      let due = duties.is row d row-ranged made
+      ∙ (λ m. duty_of (baseline (reads.terms m) (is m).capacity) (base_of (reads.terms m) a (is m).capacity) job.tariff.0 (is m)) in
+      putting
+      ∙ (λ j. put (before j) (line_start i) (record_bytes letter_l line_widths (duty_line (is j).id (due j))))
+      ∙ sheet-next head_size letter_l line_widths out i (row_line job.tariff.0 a s k) (λ j. refl) (omega arith)
 
-    pub usual-read : d ≡ duty_of (baseline job.terms row.capacity) (baseline job.terms row.capacity) job.tariff.0 row
-        → t ≡ put sheet (line_start i) (record_bytes letter_l line_widths (row_line job.tariff.0 usual s k i))
-    usual-read made = row_read usual made
+pub lined-none : (tariff : ℕ) (a : Average) (s k out : List ℕ) → out ≡ lined out 0 (row_line tariff a s k)
+lined-none tariff a s k out = sym (sheet-none head_size letter_l line_widths out (row_line tariff a s k))
 
-    pub averaged-read : (a : Average) → a.rules ≡ true
-        → d ≡ duty_of (baseline job.terms row.capacity) (average_at a row.capacity) job.tariff.0 row
-        → t ≡ put sheet (line_start i) (record_bytes letter_l line_widths (row_line job.tariff.0 a s k i))
-    averaged-read a rules made =
-        row_read a
-        (made
-        ∙ (λ j. duty_of (baseline job.terms row.capacity)
-        (cond (sym rules j) (average_at a row.capacity) (baseline job.terms row.capacity)) job.tariff.0 row))
-
-pub record Sofar (n tariff : ℕ) (a : Average) (s k out sheet : List ℕ) (i : ℕ) : Type 0 where
-  pub within : i ≤ n
-  pub bytes : sheet ≡ lined out i (row_line tariff a s k)
-
-module _ (n tariff : ℕ) (a : Average) (s k out : List ℕ) (ok : verdict_of s k ≡ Accepted n) (room : line_start n ≤ length out) where
-  pub sofar-none : Sofar n tariff a s k out out 0
-  sofar-none = record { within = omega arith; bytes = sym (sheet-none head_size letter_l line_widths out (row_line tariff a s k)) }
-
-  module _ (sheet : List ℕ) (i : ℕ) (sofar : Sofar n tariff a s k out sheet i) where
-    pub sofar-long : length sheet ≡ length out
-    sofar-long =
-        ap length sofar.bytes
-        ∙ sheet-length head_size letter_l line_widths out i (row_line tariff a s k) (λ j. refl) (omega (arith, sofar.within))
-
-    module _ (l : i < n) where
-      pub line-room : line_start (i + 1) ≤ length sheet
-      line-room = omega (arith, sofar-long)
-
-      pub sofar-more : (t : List ℕ) → t ≡ put sheet (line_start i) (record_bytes letter_l line_widths (row_line tariff a s k i)) → Sofar n tariff a s k out t (i + 1)
-      sofar-more t putting =
-          record {
-            within = omega arith;
-            bytes = putting
-                ∙ ap (λ (x : List ℕ). put x (line_start i) (record_bytes letter_l line_widths (row_line tariff a s k i))) sofar.bytes
-                ∙ sheet-next head_size letter_l line_widths out i (row_line tariff a s k) (λ j. refl) (omega arith);
-          }
-
-    pub sofar-all : n ≤ i → sheet ≡ lined out n (row_line tariff a s k)
-    sofar-all up = let e : i ≡ n = omega (arith, sofar.within) in rw e at sofar.bytes
-
--- without an average that rules, the lines are those of none
-pub by-usual : (n tariff : ℕ) (a : Average) (s k out sheet : List ℕ) → a.rules ≡ false → sheet ≡ lined out n (row_line tariff usual s k)
-    → sheet ≡ lined out n (row_line tariff a s k)
-by-usual n tariff a s k out sheet none made =
-    made
-    ∙ (λ j. lined out n
-    (λ i. duty_line (counting_row s k i).id
-    (duty_of (limit_in s k i) (cond (sym none j) (average_at a (counting_row s k i).capacity) (limit_in s k i)) tariff (counting_row s k i))))
+-- without an average that rules, the duties are the usual ones
+pub usual-duty : (a : Average) (j : Job) (r : Row) (d : Duty) → a.rules ≡ false
+    → d ≡ duty_of (baseline j.terms r.capacity) (baseline j.terms r.capacity) j.tariff.0 r
+    → d ≡ duty_of (baseline j.terms r.capacity) (base_of j.terms a r.capacity) j.tariff.0 r
+usual-duty a j r d none made =
+    made ∙ (λ i. duty_of (baseline j.terms r.capacity) (cond (sym none i) (average_at a r.capacity) (baseline j.terms r.capacity)) j.tariff.0 r)
 
 pub blank-long : (sources : List ℕ) → sources ≡ replicate 256 0 → length sources ≡ 256
 blank-long sources blank = rw blank refl

@@ -17,7 +17,7 @@ use Rattle.files.specs.Layout.{head_at, row_count}
 use Rattle.files.specs.Order.{verdict_of}
 use Rattle.files.specs.Counting.{counting_row}
 use Rattle.files.specs.declared.Head.{Head}
-use Rattle.files.specs.declared.Verdict.TheVariants.{Accepted}
+use Rattle.files.specs.Verdict.{Accepted}
 use Rattle.files.proofs.Laws.{accepted-count}
 use Rattle.duties.specs.Duty.{duty_of, width1, width2, energy1, energy2, credit1, credit2, weight, cap}
 use Rattle.duties.specs.Duties.{Duties, duties_of}

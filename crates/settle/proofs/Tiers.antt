@@ -1,5 +1,4 @@
 -- A tier's stage, as its proofs ask for it.
---   priced-by                     a price by energies that are read
 --   widths-asked, bids-asked, lent_level     widths and bids may be read
 --   tier-ready                    the columns read are such as `call_tier` asks for
 --   columns-level, energies-asked, tier-cleared     and then such as `price_in` asks for, and what comes of both
@@ -34,9 +33,6 @@ column-long f n s = table-length n (cell f s)
 calls_long : (need first : ℕ) (ws bs : List ℕ) → length (tier_calls need ws bs first) ≡ length ws
 unfolding tier_calls
 calls_long need first ws bs = table-length (length ws) (called_in need ws bs first)
-
-pub priced-by : (bs cs es read : List ℕ) (r : ℕ) → es ≡ read → r ≡ price bs cs es → r ≡ price bs cs read
-priced-by bs cs es read r e is = is ∙ ap (price bs cs) e
 
 module _ (ws bs cs s : List ℕ) (first : ℕ) (p : TierFields) (offered : Offered (length cs) first p s) (lent : Lent ws bs cs) where
   pub widths-asked : Ruled (length ws) p.width s

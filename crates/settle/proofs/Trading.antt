@@ -1,15 +1,24 @@
 -- Both tiers one after the other, as the loop's proof asks for it.
 --   Sofar            how far the loop has come before a tier
+--   fields-are       the fields of the tiers in the order of the code
 --   sofar-none, sofar-asked, sofar-more, sofar-all     its start, what the tier asks, one tier more, its end
 use Prim.Native.Nat.{ℕ, zero, suc, ◌+◌, ◌≤◌, ◌<◌}
 use mathlib.Core.Path.{◌≡◌, refl}
-use mathlib.Core.List.{List}
+use mathlib.Core.List.{List, [], ◌∷◌}
 use native.Mathlib.Omega.{arith}
+use lib.ListN.{get_or}
 use Rattle.units.specs.declared.Kwh.{Kwh}
 use Rattle.units.specs.declared.Li.{Li}
-use Rattle.settle.specs.Work.{Offered, Called, tier_one, fields_of, Tradable, Traded}
+use Rattle.settle.specs.Work.{Offered, Called, tier_one, tier_fields, fields_of, Tradable, Traded}
 use Rattle.settle.specs.declared.market.Cleared.{Cleared}
+use Rattle.settle.specs.declared.market.Tier.{Tier}
+use Rattle.settle.specs.declared.market.Tier.TheVariants.{One, Two}
 use Rattle.settle.specs.declared.market.TierFields.{TierFields}
+
+pub fields-are : (p : TierFields) (tier : ℕ) (other : Tier) → tier < 2 → p ≡ tier_fields (get_or (One ∷ Two ∷ []) tier other) → p ≡ fields_of tier
+fields-are p zero other l e = e
+fields-are p (suc zero) other l e = e
+fields-are p (suc (suc tier)) other l e = absurd (omega arith)
 
 -- before tier 1, before tier 2, after both
 unfoldable pub Sofar : ℕ → ℕ → ℕ → List ℕ → ℕ → List ℕ → Kwh → Li → Li → Type 0

@@ -5,6 +5,7 @@ use Rattle.files.specs.Layout.{head_at, row_count}
 use Rattle.files.specs.Form.{states, terms_of, form_of}
 use Rattle.columns.specs.Checks.{Refusal, refusal, first_refusal, answer_by}
 use Rattle.files.specs.Order.{file_order}
+use Rattle.files.specs.Verdict.{Verdict, Accepted, Refused}
 use Rattle.files.specs.Counting.{counting_row}
 use Rattle.files.specs.Terms.{baseline}
 use Rattle.duties.specs.Average.{average_of, base_of}
@@ -14,8 +15,6 @@ use Rattle.statement.specs.Statement.{line_start, extra_of}
 use Rattle.statement.specs.declared.StatementHead.{StatementHead}
 use Rattle.settle.specs.Settlement.{Figures, first_turn, figures}
 use Rattle.settle.specs.Statement.{statement_head, line_of, statement_bytes}
-use Rattle.settle.specs.declared.Answer.{Answer}
-use Rattle.settle.specs.declared.Answer.TheVariants.{Settled, Refused}
 
 -- whether the thermal average rules an accepted pair of files, and by which sums
 unfoldable pub average_in : List ℕ → List ℕ → Average
@@ -58,21 +57,12 @@ room_order s room = refusal (ltb room (size_of s)) 11 0 ∷ []
 unfoldable pub settle_order : List ℕ → List ℕ → ℕ → List Refusal
 settle_order s k room = file_order s k ++ room_order s room
 
--- the first of them that applies decides: settled with the count of bytes written, or the refusal's number and place
-unfoldable pub answer_of : List ℕ → List ℕ → ℕ → Answer
-answer_of s k room = answer_by Refused (Settled (size_of s)) (first_refusal (settle_order s k room))
+-- the first of them that applies decides: accepted, with the count of bytes written, or the refusal's number and place
+unfoldable pub answer_of : List ℕ → List ℕ → ℕ → Verdict
+answer_of s k room = answer_by Refused (Accepted (size_of s)) (first_refusal (settle_order s k room))
 
 -- the buffer afterwards: the statement at its front, every byte past it as before; a refusal changes nothing
 unfoldable pub buffer_after : List ℕ → List ℕ → List ℕ → List ℕ
 buffer_after s k out =
     let written = put out 0 (statement_of s k) in
     cond (first_refusal (settle_order s k (length out))).applies out written
-
--- the paper's number and value for each case of the answer: 0 and the count of bytes, or the number and the place
-abbrev pub number_of : Answer → ℕ
-number_of (Settled count) = 0
-number_of (Refused number place) = number
-
-abbrev pub value_of : Answer → ℕ
-value_of (Settled count) = count
-value_of (Refused number place) = place

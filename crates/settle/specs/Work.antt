@@ -12,6 +12,8 @@ use Rattle.duties.specs.Average.{base_of}
 use Rattle.duties.specs.Duty.{duty_of}
 use Rattle.duties.specs.declared.average.Average.{Average}
 use Rattle.duties.specs.declared.Duty.{Duty}
+use Rattle.duties.specs.Ranged.{Ranged}
+use Rattle.files.specs.declared.Row.{Row}
 use Rattle.merit.specs.OneTier.{tier_calls}
 use Rattle.merit.specs.Price.{price}
 use Rattle.pay.specs.Pay.{compensation, penalty}
@@ -26,7 +28,11 @@ use Rattle.settle.specs.Within.{Turn}
 use Rattle.settle.specs.declared.market.Accounts.{Accounts}
 use Rattle.settle.specs.declared.market.Cleared.{Cleared}
 use Rattle.settle.specs.declared.market.Market.{Market}
+use Rattle.settle.specs.declared.market.Tier.{Tier}
+use Rattle.settle.specs.declared.market.Tier.TheVariants.{One, Two}
 use Rattle.settle.specs.declared.market.TierFields.{TierFields}
+use Rattle.settle.specs.declared.payers.Part.{Part}
+use Rattle.settle.specs.declared.payers.Part.TheVariants.{Cut, Returned}
 use Rattle.settle.specs.declared.payers.Sharing.{Sharing}
 use Rattle.settle.specs.declared.rows.Job.{Job}
 
@@ -61,6 +67,16 @@ pub record Sourced (n : ℕ) (s k sources : List ℕ) : Type 0 where
   pub long : length sources ≡ 256
   pub each : Below n (λ i. at sources i ≡ source_of s k i)
 
+-- what may be called at each of the n positions, and then says where the row stands that counts
+pub record SourcesBy (pre : ℕ → Type 0) (post : ℕ → ℕ → Type 0) (n : ℕ) (s k : List ℕ) : Type 0 where
+  pub may : (i : ℕ) → i < n → pre i
+  pub is : (i source : ℕ) → i < n → post i source → source ≡ source_of s k i
+
+-- what may be called at each row in its ranges, and then gives its duties, by the average that rules
+pub record DutiesBy (pre : Average → Row → Type 0) (post : Average → Row → Duty → Type 0) (a : Average) (j : Job) : Type 0 where
+  pub may : (r : Row) → Ranged r → pre a r
+  pub is : (r : Row) (d : Duty) → Ranged r → post a r d → d ≡ duty_of (baseline j.terms r.capacity) (base_of j.terms a r.capacity) j.tariff.0 r
+
 -- the sheet has n lines, as far as a field goes
 pub record Ruled (n : ℕ) (f : Field) (s : List ℕ) : Type 0 where
   pub lined : Lined f n s
@@ -80,6 +96,10 @@ tier_two = record { width = line.called2; bid = line.paid; energy = line.cut }
 
 abbrev pub fields_of : ℕ → TierFields
 fields_of tier = cond (eqb tier 0) tier_one tier_two
+
+abbrev pub tier_fields : Tier → TierFields
+tier_fields One = tier_one
+tier_fields Two = tier_two
 
 -- a tier's offers and what was delivered stand in its fields
 pub record Offered (n first : ℕ) (p : TierFields) (s : List ℕ) : Type 0 where
@@ -217,6 +237,10 @@ returning left = record { amount = left.returned; from = line.penalty; to = line
 
 abbrev pub sharing_of : Left → ℕ → Sharing
 sharing_of left k = cond (eqb k 0) (cutting left) (returning left)
+
+abbrev pub part_of : Left → Part → Sharing
+part_of left Cut = cutting left
+part_of left Returned = returning left
 
 -- an amount shared over the sums of a field, with the shares in another
 abbrev pub shared_out : ℕ → ℕ → Sharing → List ℕ → List ℕ

@@ -11,31 +11,27 @@ ghost use Rattle.std.specs.Prelude.{◌≡◌, ◌+◌, ◌≤◌, length};
 ghost use Rattle.records.specs.Buffer.{put};
 ghost use Rattle.files.specs.Form.{form_of};
 ghost use Rattle.files.specs.Order.{verdict_of};
+ghost use Rattle.files.specs.Verdict.{Accepted, told};
 ghost use Rattle.statement.specs.Statement.{line_start, extra_of};
 ghost use Rattle.settle.specs.Answer.{top_of, line_in, statement_of, answer_of, buffer_after};
 ghost use Rattle.settle.specs.Work.{lined_behind};
 
-use files::{Form, Verdict, form_of};
+use files::{Fault, Form, Refusal, form_of};
 use stages::write_lines;
 use statement::{HEAD, LINE, StatementHead, extra_of, put_head};
 
-// The engine's answer: settled, with the count of bytes written, or a refusal that carries its number and its place.
-#[derive(Clone, Copy)]
-pub enum Answer {
-    Settled(usize),
-    Refused(usize, usize),
-}
-
-// Settles any interval file with any correction (an empty one is none) into the lent buffer, or refuses and changes nothing.
-pub fn settle<'a>(interval: &'a [u8], correction: &'a [u8], statement: &mut [u8]) -> Answer
-    ensures value { result ≡ answer_of interval.now correction.now (length statement.old) }
+// Settles any interval file with any correction (an empty one is none) into the lent buffer, and answers how many bytes it wrote; or
+// refuses, with the first fault and its place, and changes nothing.
+pub fn settle<'a>(
+    interval: &'a [u8],
+    correction: &'a [u8],
+    statement: &mut [u8],
+) -> Result<usize, Refusal>
+    ensures value { told result ≡ answer_of interval.now correction.now (length statement.old) }
     ensures statement_after { statement.new ≡ buffer_after interval.now correction.now statement.old }
 {
-    let verdict = files::check(interval, correction);
-    match verdict {
-        Verdict::Refused(number, place) => Answer::Refused(number, place),
-        Verdict::Accepted(n) => settle_rows(interval, correction, n, statement),
-    }
+    let n = files::check(interval, correction)?;
+    settle_rows(interval, correction, n, statement)
 }
 
 // The rest of it for an accepted pair of n rows: is there room, and if so the statement.
@@ -44,18 +40,18 @@ fn settle_rows<'a>(
     correction: &'a [u8],
     n: usize,
     statement: &mut [u8],
-) -> Answer
-    requires { verdict_of interval.now correction.now ≡ Verdict.Accepted n }
-    ensures value { result ≡ answer_of interval.now correction.now (length statement.old) }
+) -> Result<usize, Refusal>
+    requires { verdict_of interval.now correction.now ≡ Accepted n }
+    ensures value { told result ≡ answer_of interval.now correction.now (length statement.old) }
     ensures statement_after { statement.new ≡ buffer_after interval.now correction.now statement.old }
 {
     let form = form_of(interval);
     let size = size_of(form.stated, n);
     if statement.len() < size {
-        return Answer::Refused(11, 0);
+        return Err(Refusal::from(Fault::ShortBuffer));
     }
     write_statement(interval, correction, form, n, statement);
-    Answer::Settled(size)
+    Ok(size)
 }
 
 // How long a statement of n rows is, by whether it has terms.
@@ -74,7 +70,7 @@ fn write_statement<'a>(
     n: usize,
     statement: &mut [u8],
 )
-    requires correction_value { (verdict_of interval.now correction.now ≡ Verdict.Accepted n) × (form ≡ form_of interval.now) }
+    requires correction_value { (verdict_of interval.now correction.now ≡ Accepted n) × (form ≡ form_of interval.now) }
     requires n_in_bounds { extra_of form.stated + line_start n ≤ length statement.old }
     ensures { statement.new ≡ put statement.old 0 (statement_of interval.now correction.now) }
 {
@@ -90,7 +86,7 @@ fn write_behind<'a>(
     n: usize,
     statement: &mut [u8],
 ) -> StatementHead
-    requires correction_value { (verdict_of interval.now correction.now ≡ Verdict.Accepted n) × (form ≡ form_of interval.now) }
+    requires correction_value { (verdict_of interval.now correction.now ≡ Accepted n) × (form ≡ form_of interval.now) }
     requires n_in_bounds { extra_of form.stated + line_start n ≤ length statement.old }
     ensures value { result ≡ top_of interval.now correction.now }
     ensures statement_after { statement.new ≡ lined_behind (extra_of form.stated) statement.old n (line_in interval.now correction.now) }

@@ -4,7 +4,7 @@ ghost use Rattle.records.specs.Sheet.{cell_at, cell, column_of};
 ghost use Rattle.statement.specs.Statement.{line_start};
 ghost use Rattle.merit.specs.Price.{price};
 ghost use Rattle.merit.specs.Ready.{OneLength};
-ghost use Rattle.settle.specs.Work.{Ruled, Offered, Lent, ClearedIn, Called, fields_of, Tradable, Traded, paying, owing, priced_at, Accountable, Accounted};
+ghost use Rattle.settle.specs.Work.{Ruled, Offered, Lent, ClearedIn, Called, tier_fields, Tradable, Traded, paying, owing, priced_at, Accountable, Accounted};
 
 use crate::pairs::get_pair;
 use pay::{compensation, penalty};
@@ -35,21 +35,30 @@ pub struct TierFields {
     pub energy: Field,
 }
 
-// Those of a tier, tier 1 being 0 here.
-fn fields_of(tier: usize) -> TierFields
-    ensures { result ≡ fields_of tier }
-{
-    if tier == 0 {
-        return TierFields {
-            width: CALLED1,
-            bid: CLOSING,
-            energy: COMPENSATION,
-        };
-    }
-    TierFields {
-        width: CALLED2,
-        bid: PAID,
-        energy: CUT,
+// One of both tiers.
+#[derive(Clone, Copy)]
+pub enum Tier {
+    One,
+    Two,
+}
+
+impl Tier {
+    // The fields of its lines. A match, and no array of both: then the compiler knows what they share, as each width.
+    fn fields(self) -> TierFields
+        ensures { result ≡ tier_fields self }
+    {
+        match self {
+            Tier::One => TierFields {
+                width: CALLED1,
+                bid: CLOSING,
+                energy: COMPENSATION,
+            },
+            Tier::Two => TierFields {
+                width: CALLED2,
+                bid: PAID,
+                energy: CUT,
+            },
+        }
     }
 }
 
@@ -96,7 +105,7 @@ fn call_in(
     requires { Offered (length called.old) first fields sheet.old × Lent widths.old bids.old called.old }
     ensures { Called need.0 first (length called.old) fields sheet.old sheet.new result }
 {
-    if need.0 == 0 {
+    if need == Kwh(0) {
         put_column(sheet, fields.width, called);
         return Cleared {
             left: need,
@@ -135,13 +144,11 @@ pub fn trade(need: Kwh, first: usize, n: usize, sheet: &mut [u8]) -> Market
     let mut left = need;
     let mut before = Li(0);
     let mut price = Li(0);
-    let mut tier = 0;
-    while tier < 2 {
-        let cleared = call(left, first, n, fields_of(tier), sheet);
+    for tier in [Tier::One, Tier::Two] {
+        let cleared = call(left, first, n, tier.fields(), sheet);
         left = cleared.left;
         before = price;
         price = cleared.price;
-        tier += 1;
     }
     Market {
         uncovered: left,
@@ -155,10 +162,11 @@ fn energy_at(sheet: &[u8], field: Field, i: usize) -> Kwh
     requires { (cell_at field i + field.width ≤ length sheet.now) × (field.width ≤ 4) }
     ensures { result.0 ≡ cell field sheet.now i }
 {
-    Kwh::from_column(cell(sheet, field, i) as u32)
+    Kwh::from(cell(sheet, field, i) as u32)
 }
 
-// What the row at a position is paid.
+// What the row at a position is paid. A function of its own beside that of what it owes: one for both would take the rule and two fields
+// besides, which is no plainer.
 fn pay_at(sheet: &[u8], i: usize, price1: Li, price2: Li) -> Fen
     requires { (line_start (i + 1) ≤ length sheet.now) × (price1.0 ≤ 1000) × (price2.0 ≤ 1000) }
     ensures { result.0 ≡ priced_at paying price1.0 price2.0 sheet.now i }
@@ -196,15 +204,13 @@ pub fn account(n: usize, price1: Li, price2: Li, sheet: &mut [u8]) -> Accounts
 {
     let mut total = Fen(0);
     let mut penalties = Fen(0);
-    let mut i = 0;
-    while i < n {
+    for i in 0..n {
         let pay = pay_at(sheet, i, price1, price2);
         let owed = owed_at(sheet, i, price1, price2);
         put_cell(sheet, PAY, i, pay.0);
         put_cell(sheet, OWED, i, owed.0);
-        total = total.plus(pay);
-        penalties = penalties.plus(owed);
-        i += 1;
+        total += pay;
+        penalties += owed;
     }
     Accounts { total, penalties }
 }

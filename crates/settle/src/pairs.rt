@@ -3,7 +3,6 @@ ghost use Rattle.std.specs.Prelude.{◌≡◌, length};
 ghost use Rattle.records.specs.Sheet.{column_of, with_column, Lined};
 ghost use Rattle.settle.specs.Work.{Ruled, SameLines};
 
-use columns::wide;
 use records::{Field, cell, put_cell};
 
 // Reads two fields into columns of one length, line by line.
@@ -13,11 +12,10 @@ pub fn get_pair(sheet: &[u8], one: Field, two: Field, first: &mut [u32], second:
     ensures first_after { first.new ≡ column_of one (length first.old) sheet.now }
     ensures second_after { second.new ≡ column_of two (length second.old) sheet.now }
 {
-    let mut i = 0;
-    while i < first.len() {
+    // By position: a zip of both was tried, and the proof did not close, since it knows nothing of what was written through it.
+    for i in 0..first.len() {
         first[i] = cell(sheet, one, i) as u32;
         second[i] = cell(sheet, two, i) as u32;
-        i += 1;
     }
 }
 
@@ -27,10 +25,8 @@ pub fn put_pair(sheet: &mut [u8], one: Field, two: Field, first: &[u32], second:
     requires second_len { (length second.now ≡ length first.now) × SameLines one two }
     ensures { sheet.new ≡ with_column two second.now (with_column one first.now sheet.old) }
 {
-    let mut i = 0;
-    while i < first.len() {
-        put_cell(sheet, one, i, wide(first[i]));
-        put_cell(sheet, two, i, wide(second[i]));
-        i += 1;
+    for (i, (x, y)) in first.iter().zip(second).enumerate() {
+        put_cell(sheet, one, i, u64::from(*x));
+        put_cell(sheet, two, i, u64::from(*y));
     }
 }

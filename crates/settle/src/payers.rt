@@ -2,7 +2,7 @@
 ghost use Rattle.std.specs.Prelude.{◌≡◌, length, take};
 ghost use Rattle.levy.specs.Asked.{Levyable};
 ghost use Rattle.settle.specs.Within.{Turn};
-ghost use Rattle.settle.specs.Work.{Leviable, LeviedOn, Levied, sharing_of, Shareable, shared_out, divided_to, Divisible};
+ghost use Rattle.settle.specs.Work.{Leviable, LeviedOn, Levied, part_of, Shareable, shared_out, divided_to, Divisible};
 
 use crate::pairs::{get_pair, put_pair};
 use levy::{Left, Rest};
@@ -49,23 +49,30 @@ pub struct Sharing {
     pub to: Field,
 }
 
-// What is left by the penalties: first what is cut, over the compensations, then what is returned, over the penalties.
-fn sharing_of(left: Left, k: usize) -> Sharing
-    ensures { result ≡ sharing_of left k }
-{
-    let cut = left.cut;
-    let returned = left.returned;
-    if k == 0 {
-        return Sharing {
-            amount: cut,
-            from: COMPENSATION,
-            to: CUT,
-        };
-    }
-    Sharing {
-        amount: returned,
-        from: PENALTY,
-        to: RETURNED,
+// One of both parts of what is left by the penalties.
+#[derive(Clone, Copy)]
+pub enum Part {
+    Cut,
+    Returned,
+}
+
+impl Part {
+    // What is cut is shared over the compensations, and what is returned over the penalties.
+    fn sharing(self, left: Left) -> Sharing
+        ensures { result ≡ part_of left self }
+    {
+        match self {
+            Part::Cut => Sharing {
+                amount: left.cut,
+                from: COMPENSATION,
+                to: CUT,
+            },
+            Part::Returned => Sharing {
+                amount: left.returned,
+                from: PENALTY,
+                to: RETURNED,
+            },
+        }
     }
 }
 
@@ -84,7 +91,7 @@ fn share_out(first: usize, n: usize, what: Sharing, sheet: &mut [u8])
     requires { Shareable n first what sheet.old }
     ensures { sheet.new ≡ shared_out n first what sheet.old }
 {
-    if what.amount.0 == 0 {
+    if what.amount == Fen(0) {
         return;
     }
     let mut sums = [0u32; 256];
@@ -97,9 +104,7 @@ pub fn divide(left: Left, first: usize, n: usize, sheet: &mut [u8])
     requires { Divisible n first left sheet.old }
     ensures { sheet.new ≡ divided_to 2 n first left sheet.old }
 {
-    let mut k = 0;
-    while k < 2 {
-        share_out(first, n, sharing_of(left, k), sheet);
-        k += 1;
+    for part in [Part::Cut, Part::Returned] {
+        share_out(first, n, part.sharing(left), sheet);
     }
 }

@@ -7,14 +7,15 @@ ghost use Rattle.records.specs.Record.{record_bytes};
 ghost use Rattle.files.specs.Layout.{head_at};
 ghost use Rattle.files.specs.Form.{terms_of, form_of};
 ghost use Rattle.files.specs.Order.{verdict_of};
+ghost use Rattle.files.specs.Verdict.{Accepted};
 ghost use Rattle.files.specs.Counting.{source_of, counting_row};
 ghost use Rattle.duties.specs.Average.{usual, average_of, Low};
 ghost use Rattle.statement.specs.Statement.{letter_l, line_widths, line_start};
 ghost use Rattle.settle.specs.Answer.{average_in};
-ghost use Rattle.settle.specs.Work.{lined, duty_line, row_line, Sourced, Reads};
+ghost use Rattle.settle.specs.Work.{lined, duty_line, row_line, Sourced, Reads, SourcesBy, DutiesBy};
 
 use duties::{Average, Duty, USUAL, average_duty, joined, stirs, usual_duty};
-use files::{Form, Terms, Verdict, counting_row, start_of};
+use files::{Form, Row, Terms, counting_row, start_of};
 use records::put_record;
 use statement::{HEAD, LINE, LINE_LETTER, LINE_WIDTHS};
 use units::{Hao, Kwh};
@@ -33,148 +34,114 @@ fn put_duty(sheet: &mut [u8], i: usize, id: u16, d: Duty)
     ensures { sheet.new ≡ put sheet.old (line_start i) (record_bytes letter_l line_widths (duty_line id d)) }
 {
     let fields = [
-        id as u64,
-        d.width1.wide(),
-        d.width2.wide(),
-        d.energy1.wide(),
-        d.energy2.wide(),
-        d.weight.wide(),
+        u64::from(id),
+        d.width1.into(),
+        d.width2.into(),
+        d.energy1.into(),
+        d.energy2.into(),
+        d.weight.into(),
         d.cap.0,
         d.bid2.0,
         d.bid1.0,
-        d.credit1.wide(),
-        d.credit2.wide(),
+        d.credit1.into(),
+        d.credit2.into(),
     ];
     put_record(sheet, HEAD + i * LINE, LINE_LETTER, &LINE_WIDTHS, &fields);
 }
 
-// The line of the row that counts at a position, which is the correction's where `source` says so.
-fn read_row<'a>(
+// An accepted pair of files: its n rows, where each of them stands that counts, and what they are read by.
+#[derive(Clone, Copy)]
+struct Pair<'a> {
     interval: &'a [u8],
     correction: &'a [u8],
     n: usize,
-    i: usize,
-    source: u16,
+    sources: &'a [u16; 256],
     job: Job,
-    sheet: &mut [u8],
-)
-    requires correction_value { (verdict_of interval.now correction.now ≡ Verdict.Accepted n) × (i < n) × (source ≡ source_of interval.now correction.now i) }
-    requires reads { Reads job interval.now × (line_start (i + 1) ≤ length sheet.old) }
-    ensures { sheet.new ≡ put sheet.old (line_start i)
-        (record_bytes letter_l line_widths (row_line job.tariff.0 usual interval.now correction.now i)) }
-{
-    let start = job.start;
-    let row = counting_row(interval, correction, start, n, i, source);
-    let terms = job.terms;
-    let tariff = job.tariff;
-    let d = usual_duty(terms, tariff, row);
-    put_duty(sheet, i, row.id, d);
+    ghost accepted: { verdict_of interval.now correction.now ≡ Accepted n },
+    ghost sourced: { Sourced n interval.now correction.now sources.now },
+    ghost reads: { Reads job interval.now },
 }
 
-// The same where there is no correction, so that nothing has to be chosen. A function of its own, since the compiler does not put one
-// that two loops call into either of them.
-fn read_own_row<'a>(
-    interval: &'a [u8],
-    correction: &'a [u8],
-    n: usize,
-    i: usize,
-    job: Job,
-    sheet: &mut [u8],
-)
-    requires correction_value { (verdict_of interval.now correction.now ≡ Verdict.Accepted n) × (i < n) × (length correction.now ≡ 0) }
-    requires reads { Reads job interval.now × (line_start (i + 1) ≤ length sheet.old) }
-    ensures { sheet.new ≡ put sheet.old (line_start i)
-        (record_bytes letter_l line_widths (row_line job.tariff.0 usual interval.now correction.now i)) }
-{
-    let start = job.start;
-    let row = counting_row(interval, correction, start, n, i, 0);
-    let terms = job.terms;
-    let tariff = job.tariff;
-    let d = usual_duty(terms, tariff, row);
-    put_duty(sheet, i, row.id, d);
-}
-
-// The same where the thermal average rules.
-fn read_averaged_row<'a>(
-    interval: &'a [u8],
-    correction: &'a [u8],
-    n: usize,
-    i: usize,
-    source: u16,
-    job: Job,
-    ruling: Average,
-    sheet: &mut [u8],
-)
-    requires correction_value { (verdict_of interval.now correction.now ≡ Verdict.Accepted n) × (i < n) × (source ≡ source_of interval.now correction.now i) }
-    requires reads { Reads job interval.now × (ruling.rules ≡ true) × Low ruling × (line_start (i + 1) ≤ length sheet.old) }
-    ensures { sheet.new ≡ put sheet.old (line_start i)
-        (record_bytes letter_l line_widths (row_line job.tariff.0 ruling interval.now correction.now i)) }
-{
-    let start = job.start;
-    let row = counting_row(interval, correction, start, n, i, source);
-    let terms = job.terms;
-    let tariff = job.tariff;
-    let d = average_duty(terms, ruling, tariff, row);
-    put_duty(sheet, i, row.id, d);
-}
-
-// The duties of all rows of an interval without correction.
-fn read_own<'a>(interval: &'a [u8], correction: &'a [u8], n: usize, job: Job, sheet: &mut [u8])
-    requires correction_value { (verdict_of interval.now correction.now ≡ Verdict.Accepted n) × (length correction.now ≡ 0) }
-    requires reads { Reads job interval.now × (line_start n ≤ length sheet.old) }
-    ensures { sheet.new ≡ lined sheet.old n (row_line job.tariff.0 usual interval.now correction.now) }
-{
-    let mut i = 0;
-    while i < n {
-        read_own_row(interval, correction, n, i, job, sheet);
-        i += 1;
+impl<'a> Pair<'a> {
+    // The row that counts at a position, which is the correction's where `source` says so.
+    fn row(&self, i: usize, source: u16) -> Row
+        requires { (i < self.now.n) × (source ≡ source_of self.now.interval.now self.now.correction.now i) }
+        ensures { result ≡ counting_row self.now.interval.now self.now.correction.now i }
+    {
+        counting_row(
+            self.interval,
+            self.correction,
+            self.job.start,
+            self.n,
+            i,
+            source,
+        )
     }
-}
 
-// The duties of all rows of an interval with its correction.
-fn read_corrected<'a>(
-    interval: &'a [u8],
-    correction: &'a [u8],
-    n: usize,
-    sources: &[u16; 256],
-    job: Job,
-    sheet: &mut [u8],
-)
-    requires correction_value { (verdict_of interval.now correction.now ≡ Verdict.Accepted n) × Sourced n interval.now correction.now sources.now }
-    requires reads { Reads job interval.now × (line_start n ≤ length sheet.old) }
-    ensures { sheet.new ≡ lined sheet.old n (row_line job.tariff.0 usual interval.now correction.now) }
-{
-    let mut i = 0;
-    while i < n {
-        read_row(interval, correction, n, i, sources[i], job, sheet);
-        i += 1;
+    // Whether the thermal average rules, and by which sums. The scan is left at the first row that keeps it from that, so that a usual
+    // quarter pays for few rows.
+    fn average(&self, need: Kwh) -> Average
+        ensures { result ≡ average_of (terms_of self.now.interval.now) need.0 self.now.n (counting_row self.now.interval.now self.now.correction.now) }
+    {
+        if need == Kwh(0) {
+            return USUAL;
+        }
+        let mut sums = USUAL;
+        for i in 0..self.n {
+            let row = self.row(i, self.sources[i]);
+            if stirs(self.job.terms, row) {
+                return USUAL;
+            }
+            sums = joined(sums, row);
+        }
+        sums
     }
-}
 
-// The duties of all rows where the thermal average rules.
-fn read_averaged<'a>(
-    interval: &'a [u8],
-    correction: &'a [u8],
-    n: usize,
-    sources: &[u16; 256],
-    job: Job,
-    ruling: Average,
-    sheet: &mut [u8],
-)
-    requires correction_value { (verdict_of interval.now correction.now ≡ Verdict.Accepted n) × Sourced n interval.now correction.now sources.now }
-    requires reads { Reads job interval.now × (ruling.rules ≡ true) × Low ruling × (line_start n ≤ length sheet.old) }
-    ensures { sheet.new ≡ lined sheet.old n (row_line job.tariff.0 ruling interval.now correction.now) }
-{
-    let mut i = 0;
-    while i < n {
-        read_averaged_row(interval, correction, n, i, sources[i], job, ruling, sheet);
-        i += 1;
+    // The lines of all rows, by what says where each stands that counts and what gives its duties.
+    fn read<S: Fn(usize) -> u16, D: Fn(Average, Row) -> Duty>(
+        &self,
+        source: S,
+        ruling: Average,
+        duty: D,
+        sheet: &mut [u8],
+    )
+        requires sources { SourcesBy (S.pre source) (S.post source) self.now.n self.now.interval.now self.now.correction.now }
+        requires duties { DutiesBy (D.pre duty) (D.post duty) ruling self.now.job }
+        requires room { line_start self.now.n ≤ length sheet.old }
+        ensures { sheet.new ≡ lined sheet.old self.now.n (row_line self.now.job.tariff.0 ruling self.now.interval.now self.now.correction.now) }
+    {
+        for i in 0..self.n {
+            let row = self.row(i, source(i));
+            let duties = duty(ruling, row);
+            put_duty(sheet, i, row.id, duties);
+        }
+    }
+
+    // The same, by the average that rules or without one. Without a correction nothing has to be chosen, and no source is looked up.
+    fn read_by(&self, ruling: Average, sheet: &mut [u8])
+        requires { (ruling.rules ≡ true → Low ruling) × (line_start self.now.n ≤ length sheet.old) }
+        ensures { sheet.new ≡ lined sheet.old self.now.n (row_line self.now.job.tariff.0 ruling self.now.interval.now self.now.correction.now) }
+    {
+        let terms = self.job.terms;
+        let tariff = self.job.tariff;
+        let sources = self.sources;
+        let own = |_| 0;
+        let counting = |i: usize| sources[i];
+        let usual = |_, row: Row| usual_duty(terms, tariff, row);
+        let averaged = |ruling: Average, row: Row| average_duty(terms, ruling, tariff, row);
+        if ruling.rules {
+            self.read(counting, ruling, averaged, sheet);
+        } else if self.correction.len() == 0 {
+            self.read(own, ruling, usual, sheet);
+        } else {
+            self.read(counting, ruling, usual, sheet);
+        }
     }
 }
 
 // Where each row stands that counts: without a correction every row is the interval's own, as the list lent says.
 fn find_sources<'a>(interval: &'a [u8], correction: &'a [u8], n: usize, sources: &mut [u16; 256])
-    requires correction_value { verdict_of interval.now correction.now ≡ Verdict.Accepted n }
+    requires correction_value { verdict_of interval.now correction.now ≡ Accepted n }
     requires sources_value { sources.old ≡ replicate 256 0 }
     ensures { Sourced n interval.now correction.now sources.new }
 {
@@ -182,63 +149,6 @@ fn find_sources<'a>(interval: &'a [u8], correction: &'a [u8], n: usize, sources:
         return;
     }
     files::sources(interval, correction, n, sources);
-}
-
-// Whether the thermal average rules, and by which sums. The scan is left at the first row that keeps it from that, so that a usual
-// quarter pays for few rows.
-fn find_average<'a>(
-    interval: &'a [u8],
-    correction: &'a [u8],
-    n: usize,
-    sources: &[u16; 256],
-    job: Job,
-    need: Kwh,
-) -> Average
-    requires correction_value { (verdict_of interval.now correction.now ≡ Verdict.Accepted n) × Sourced n interval.now correction.now sources.now }
-    requires reads { Reads job interval.now }
-    ensures { result ≡ average_of (terms_of interval.now) need.0 n (counting_row interval.now correction.now) }
-{
-    if need.0 == 0 {
-        return USUAL;
-    }
-    let start = job.start;
-    let terms = job.terms;
-    let mut sums = USUAL;
-    let mut i = 0;
-    while i < n {
-        let row = counting_row(interval, correction, start, n, i, sources[i]);
-        if stirs(terms, row) {
-            return USUAL;
-        }
-        sums = joined(sums, row);
-        i += 1;
-    }
-    sums
-}
-
-// The duties of all rows by the average that rules, or without one.
-fn read_by<'a>(
-    interval: &'a [u8],
-    correction: &'a [u8],
-    n: usize,
-    sources: &[u16; 256],
-    job: Job,
-    ruling: Average,
-    sheet: &mut [u8],
-)
-    requires correction_value { (verdict_of interval.now correction.now ≡ Verdict.Accepted n) × Sourced n interval.now correction.now sources.now }
-    requires reads { Reads job interval.now × (ruling.rules ≡ true → Low ruling) × (line_start n ≤ length sheet.old) }
-    ensures { sheet.new ≡ lined sheet.old n (row_line job.tariff.0 ruling interval.now correction.now) }
-{
-    if ruling.rules {
-        read_averaged(interval, correction, n, sources, job, ruling, sheet);
-        return;
-    }
-    if correction.len() == 0 {
-        read_own(interval, correction, n, job, sheet);
-        return;
-    }
-    read_corrected(interval, correction, n, sources, job, sheet);
 }
 
 // The duties of all rows of an accepted pair, and 1 if the thermal average rules it, else 0.
@@ -249,7 +159,7 @@ pub fn read<'a>(
     n: usize,
     sheet: &mut [u8],
 ) -> u8
-    requires correction_value { (verdict_of interval.now correction.now ≡ Verdict.Accepted n) × (form ≡ form_of interval.now) }
+    requires correction_value { (verdict_of interval.now correction.now ≡ Accepted n) × (form ≡ form_of interval.now) }
     requires n_in_bounds { line_start n ≤ length sheet.old }
     ensures value { result ≡ bit (average_in interval.now correction.now).rules }
     ensures sheet_after { sheet.new ≡ lined sheet.old n
@@ -268,7 +178,14 @@ pub fn read<'a>(
     };
     let mut sources = [0u16; 256];
     find_sources(interval, correction, n, &mut sources);
-    let ruling = find_average(interval, correction, n, &sources, job, need);
-    read_by(interval, correction, n, &sources, job, ruling, sheet);
-    ruling.rules as u8
+    let pair = Pair {
+        interval,
+        correction,
+        n,
+        sources: &sources,
+        job,
+    };
+    let ruling = pair.average(need);
+    pair.read_by(ruling, sheet);
+    u8::from(ruling.rules)
 }

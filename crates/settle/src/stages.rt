@@ -3,6 +3,7 @@
 ghost use Rattle.std.specs.Prelude.{◌≡◌, ◌≤◌, length};
 ghost use Rattle.files.specs.Form.{form_of};
 ghost use Rattle.files.specs.Order.{verdict_of};
+ghost use Rattle.files.specs.Verdict.{Accepted};
 ghost use Rattle.statement.specs.Statement.{line_start};
 ghost use Rattle.settle.specs.Settlement.{first_turn};
 ghost use Rattle.settle.specs.Answer.{top_of, line_in};
@@ -11,7 +12,7 @@ ghost use Rattle.settle.specs.Work.{lined};
 use crate::market::{account, trade};
 use crate::payers::{collect, divide};
 use crate::rows::read;
-use files::{Form, Verdict};
+use files::Form;
 use statement::StatementHead;
 
 // The position whose turn comes first among equal remainders (02, request 2): the quarter modulo the n rows. Without rows nothing is divided.
@@ -21,7 +22,7 @@ fn first_turn(quarter: u8, n: usize) -> usize
     if n == 0 {
         return 0;
     }
-    quarter as usize % n
+    usize::from(quarter) % n
 }
 
 // The lines of an accepted pair of n rows, into a buffer with room for them behind a head PS, and what the head has to say.
@@ -32,7 +33,7 @@ pub fn write_lines<'a>(
     n: usize,
     sheet: &mut [u8],
 ) -> StatementHead
-    requires correction_value { (verdict_of interval.now correction.now ≡ Verdict.Accepted n) × (form ≡ form_of interval.now) }
+    requires correction_value { (verdict_of interval.now correction.now ≡ Accepted n) × (form ≡ form_of interval.now) }
     requires n_in_bounds { line_start n ≤ length sheet.old }
     ensures value { result ≡ top_of interval.now correction.now }
     ensures sheet_after { sheet.new ≡ lined sheet.old n (line_in interval.now correction.now) }

@@ -3,26 +3,29 @@
 --     handable       what handing out asks
 --     handed         what it gives are the shares
 --     no-amount, no-weight     where there is nothing to share, or nobody has weight, everybody gets 0
+--     front-listed       the front of an array of positions is the list
 --     listed-few, listed-front, quotable     the list is no longer than an array of remainders, and these have room in its front
 use Prim.Native.Nat.{ℕ, ◌+◌, ◌^◌, ◌≤◌, ◌<◌}
-use mathlib.Core.Path.{◌≡◌, ap, sym, ◌∙◌}
+use mathlib.Core.Path.{◌≡◌, refl, ap, sym, ◌∙◌}
 use mathlib.Core.Logic.{◌⊎◌, inl, inr, ⊎_elim}
 use mathlib.Core.Bool.{Bool, true, false, ◌&&◌}
 use mathlib.Core.List.{List}
 use native.Mathlib.Omega.{arith}
 use lib.Dec.{ltb}
-use lib.ListN.{length, take, get_or-eq_default}
+use lib.ListN.{length, replicate, take, get_or-eq_default}
+use Rattle.std.proofs.lemmas.List.{length-replicate, get_or-replicate}
+use lib.Seq.{get_or-take}
 use borrow.Author.Tests.{le-ltb}
 use Rattle.columns.specs.Lists.{Lists}
 use Rattle.columns.specs.Sum.{bit, whole}
 use Rattle.columns.specs.Table.{at, table}
 use Rattle.columns.proofs.Rank.{test-or}
-use Rattle.columns.proofs.Sum.{lt-or-le, count-le}
-use Rattle.columns.proofs.Table.{table-length, table_at, table_same, table-most, front_long}
+use Rattle.columns.proofs.Sum.{lt-or-le, count-le, count-before}
+use Rattle.columns.proofs.Table.{table-length, table_at, table_is, table_same, front_long}
 use Rattle.columns.proofs.Listed.{found_at}
 use Rattle.share.specs.Share.{quota, rank, left, share, shares}
 use Rattle.share.specs.Split.{Splittable}
-use Rattle.share.specs.Steps.{weighs, entry, listed_rest, Quotable, Quoted, Handable, place, start_in, raised, nothing}
+use Rattle.share.specs.Steps.{weighs, entry, Listed, listed_rest, Quotable, Quoted, Handable, place, start_in, raised}
 use Rattle.share.proofs.Packed.{rest-off, left-listed, served-listed}
 use Rattle.share.proofs.Rests.{rest_lt, rest-none, share-is}
 use Rattle.share.proofs.Laws.{share-none, share-le-amount}
@@ -92,17 +95,38 @@ module _ (a : ℕ) (ws qs₀ rs₀ list : List ℕ) (W : ℕ) (c : Quotable ws q
 
 -- ---- where there is nothing to share, and where there is
 
-pub listed-few : (ws list out : List ℕ) (m first : ℕ) → Splittable ws out first → Lists (length ws) (weighs ws) list m → m ≤ 256
-listed-few ws list out m first asked listed = omega (arith, listed.many, count-le (length ws) (weighs ws), asked.short)
+pub front-listed : (ws list : List ℕ) (m : ℕ) → m ≤ length ws → length ws ≤ 256 → Lists (length ws) (weighs ws) list m
+    → Listed ws (take m list) (length (take m list))
+front-listed ws list m few short listed =
+    let long : m ≡ length (take m list) = front_long list m 256 listed.long (omega arith) in
+    record {
+      long = refl;
+      many = sym long ∙ listed.many;
+      places =
+          λ i l on.
+          get_or-take m list (entry ws i) 0 (omega (arith, listed.many, count-before (weighs ws) i (length ws) l on)) ∙ listed.places i l on;
+    }
 
-pub listed-front : (ws list out room : List ℕ) (m first : ℕ) → Splittable ws out first → Lists (length ws) (weighs ws) list m
-    → length room ≡ 256 → m ≡ length (take m room)
-listed-front ws list out room m first asked listed long = front_long room m 256 long (listed-few ws list out m first asked listed)
+module _ (ws list out : List ℕ) (first : ℕ) (asked : Splittable ws out first) (listed : Listed ws list (length list)) where
+  pub listed-few : length list ≤ 256
+  listed-few = omega (arith, listed.many, count-le (length ws) (weighs ws), asked.short)
 
-module _ (a : ℕ) (ws out xs : List ℕ) (first : ℕ) (asked : Splittable ws out first) (is : xs ≡ table (length out) nothing) where
+  pub listed-front : (room : List ℕ) → length room ≡ 256 → length list ≡ length (take (length list) room)
+  listed-front room long = front_long room (length list) 256 long listed-few
+
+module _ (a : ℕ) (ws out xs : List ℕ) (first : ℕ) (asked : Splittable ws out first) (is : xs ≡ replicate (length out) 0) where
+  blank_long : length xs ≡ length ws
+  blank_long = ap length is ∙ length-replicate (length out) 0 ∙ asked.room
+
+  blank_at : (i : ℕ) → at xs i ≡ 0
+  blank_at i =
+      ⊎_elim (λ (l : i < length out). rw is (get_or-replicate (length out) i 0 0 l))
+      (λ (l : length out ≤ i). get_or-eq_default xs 0 (omega (arith, blank_long, asked.room))) (lt-or-le i (length out))
+
   cleared : ((i : ℕ) → share a ws first i ≡ 0) → xs ≡ shares a ws first
-  unfolding shares nothing
-  cleared none = is ∙ rw asked.room (table_same (length ws) nothing (share a ws first) (λ i l. sym (none i)))
+  unfolding shares
+  cleared none =
+      table_is 0 xs (length ws) (share a ws first) blank_long (λ i l. blank_at i ∙ sym (none i))
 
   pub no-amount : a ≡ 0 → xs ≡ shares a ws first
   no-amount z = cleared (λ i. omega (arith, share-le-amount a ws first i))
@@ -110,15 +134,14 @@ module _ (a : ℕ) (ws out xs : List ℕ) (first : ℕ) (asked : Splittable ws o
   pub no-weight : (s : ℕ) → s ≡ whole ws → s ≡ 0 → xs ≡ shares a ws first
   no-weight s e z = cleared (λ i. share-none a ws first (sym e ∙ z) i)
 
-  pub quotable : (s m : ℕ) (list room : List ℕ) → s ≡ whole ws → (s ≡ 0 → ⊥) → Lists (length ws) (weighs ws) list m → length room ≡ 256
-      → Quotable ws xs (take m room) list s
-  unfolding nothing
-  quotable s m list room e more listed long =
+  pub quotable : (s : ℕ) (list room : List ℕ) → s ≡ whole ws → (s ≡ 0 → ⊥) → Listed ws list (length list) → length room ≡ 256
+      → Quotable ws xs (take (length list) room) list s
+  quotable s list room e more listed long =
       record {
         short = asked.short;
         is = e;
         some = omega arith;
-        room = ap length is ∙ table-length (length out) nothing ∙ asked.room;
-        blank = λ i. let none : at xs i ≤ 0 = rw is (table-most (length out) 0 nothing (λ k l. omega arith) i) in omega arith;
-        listed = rw (← listed-front ws list out room m first asked listed long) listed;
+        room = blank_long;
+        blank = blank_at;
+        listed = rw (← listed-front ws list out first asked listed room long) listed;
       }

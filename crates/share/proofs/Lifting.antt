@@ -2,7 +2,7 @@
 -- fact that the code asks for.
 --     liftable, lifted-all      where nobody at the line is served: one more to all above it
 --     marks-liftable, marks-all     where some are: one more to all that were marked in turn
---     lifted-none, lifted-place, lifted-in, lifted-fits, lifted-next, lifted-end     the loop that gives it
+--     lifted-in, lifted-fits, lifted-next, lifted-end     the loop that gives it
 use Prim.Native.Nat.{ℕ, ◌+◌, ◌^◌, ◌≤◌, ◌<◌}
 use mathlib.Core.Path.{◌≡◌, refl, ap, sym, ◌∙◌}
 use mathlib.Core.Logic.{◌⊎◌, inl, inr}
@@ -15,12 +15,13 @@ use borrow.Author.Tests.{le-ltb}
 use mir.Val.{bool_byte}
 use Rattle.columns.specs.Sum.{bit}
 use Rattle.columns.specs.Table.{at, table, Below}
-use Rattle.columns.proofs.Sum.{count-le, count-before}
+use Rattle.columns.proofs.Sum.{count-before}
 use Rattle.columns.proofs.Rank.{test-or}
 use Rattle.columns.proofs.Table.{table-length, table_at, table_same}
-use Rattle.columns.proofs.Listed.{one-is, Found, found, Dealt, dealt-none, dealt-now, dealt-next, dealt-all}
+use Rattle.columns.proofs.Listed.{from_bit, Found, Dealt, dealt-now, dealt-next, dealt-all}
 use Rattle.share.specs.Share.{turn}
 use Rattle.share.specs.Steps.{weighs, entry, place, marked, raised, lifted, start_in, Served, Handable, Liftable}
+use Rattle.share.proofs.Packed.{found_listed}
 use Rattle.share.proofs.Serving.{passed, before-line}
 
 module _ (ws qs rs list : List ℕ) (W first left low ties : ℕ) (good : Handable ws qs rs list W first left) (line : Served rs left low ties) where
@@ -73,7 +74,10 @@ module _ (ws qs rs list : List ℕ) (W first left low ties : ℕ) (good : Handab
   lifted-all none = lifting-all rs low (above none)
 
   -- where turns were gone through, to be served is to be marked
-  module _ (s : ℕ) (s-is : s ≡ start) (ms : List ℕ) (is : ms ≡ table (length rs) (marked rs s left)) where
+  module _ (s : ℕ) (starts : s ≡ start_in list (length list) first) (ms : List ℕ) (is : ms ≡ table (length rs) (marked rs s left)) where
+    s-is : s ≡ start
+    s-is = starts ∙ rw good.listed.long
+
     mark : Below (length rs) (λ j. ltb 0 (at ms j) ≡ ltb (place rs start j) left)
     unfolding marked
     mark j l =
@@ -93,12 +97,6 @@ module _ (ws qs rs list : List ℕ) (W first left low ties : ℕ) (good : Handab
     marks-all = lifting-all ms 0 mark
 
 module _ (ws qs rs list : List ℕ) (low : ℕ) (good : Liftable ws qs rs list low) where
-  pub lifted-none : Dealt (length ws) (weighs ws) (lifted ws qs rs low) qs qs 0
-  lifted-none = dealt-none (length ws) (weighs ws) (lifted ws qs rs low) qs
-
-  pub lifted-place : (j : ℕ) → j < length rs → j < 256
-  lifted-place j l = omega (arith, good.listed.many, count-le (length ws) (weighs ws), good.short)
-
   module _ (xs : List ℕ) (j : ℕ) (dealt : Dealt (length ws) (weighs ws) (lifted ws qs rs low) qs xs j) where
     pub lifted-end : length rs ≤ j → xs ≡ table (length ws) (lifted ws qs rs low)
     unfolding lifted
@@ -108,21 +106,26 @@ module _ (ws qs rs list : List ℕ) (low : ℕ) (good : Liftable ws qs rs list l
 
     module _ (l : j < length rs) (x : ℕ) (x-is : x ≡ at list j) where
       here : Found (length ws) (weighs ws) j x
-      here = rw x-is (found (length ws) (weighs ws) list (length rs) j good.listed l)
+      here = rw x-is (found_listed ws list (length rs) j good.listed l)
 
       pub lifted-in : x < length xs
       lifted-in = omega (arith, here.inside, dealt.room, good.room)
 
-      lifted-now : at xs x + bool_byte (ltb low (at rs j)) ≡ lifted ws qs rs low x
-      unfolding lifted
-      lifted-now =
-          rw (here.passes, here.place)
-          (omega (arith, one-is (ltb low (at rs j)), dealt-now (length ws) (weighs ws) (lifted ws qs rs low) qs xs j dealt x here))
+      module _ (r more : ℕ) (r-is : r ≡ at rs j) (more-is : more ≡ bool_byte (ltb low r)) where
+        lifted-now : at xs x + more ≡ lifted ws qs rs low x
+        unfolding lifted
+        lifted-now =
+            rw (here.passes, here.place)
+            (omega (
+              arith,
+              from_bit (ltb low r) more more-is,
+              ap (λ (y : ℕ). bit (ltb low y)) r-is,
+              dealt-now (length ws) (weighs ws) (lifted ws qs rs low) qs xs j dealt x here,
+            ))
 
-      pub lifted-fits : at xs x + bool_byte (ltb low (at rs j)) < 2 ^ 64
-      lifted-fits = omega (arith, lifted-now, good.fits x here.inside)
+        pub lifted-fits : at xs x + more < 2 ^ 64
+        lifted-fits = omega (arith, lifted-now, good.fits x here.inside)
 
-      pub lifted-next : Dealt (length ws) (weighs ws) (lifted ws qs rs low) qs (set xs x (at xs x + bool_byte (ltb low (at rs j)))) (j + 1)
-      lifted-next =
-          dealt-next (length ws) (weighs ws) (lifted ws qs rs low) qs xs j dealt x (at xs x + bool_byte (ltb low (at rs j))) here
-          (omega (arith, good.room)) lifted-now
+        pub lifted-next : Dealt (length ws) (weighs ws) (lifted ws qs rs low) qs (set xs x (at xs x + more)) (j + 1)
+        lifted-next =
+            dealt-next (length ws) (weighs ws) (lifted ws qs rs low) qs xs j dealt x (at xs x + more) here (omega (arith, good.room)) lifted-now

@@ -1,5 +1,6 @@
 -- Weights of 0 left out: the order of service among the listed positions alone serves the same ones.
 --     quota-off, rest-off     who has no weight has neither quota nor remainder
+--     found_listed            who stands at a place of the list
 --     over-list               a sum of what only positions of weight add to, taken over the list
 --     left-listed             no more is left than positions are listed
 --     start_is                where turns begin in the list
@@ -15,14 +16,13 @@ use native.Mathlib.Omega.{arith}
 use lib.Dec.{ltb}
 use lib.ListN.{length}
 use borrow.Author.Tests.{lt-ltb, le-ltb, ltb-false, ne_eqb}
-use Rattle.columns.specs.Lists.{Lists}
 use Rattle.columns.specs.Sum.{bit, sum_to, count_to, sum_where, whole}
 use Rattle.columns.specs.Table.{at}
 use Rattle.columns.proofs.Sum.{lt-or-le, sum_same, sum-shorter, count-le, count-sub, count-before}
 use Rattle.columns.proofs.Rank.{test-or}
-use Rattle.columns.proofs.Listed.{Found, found, sum-listed, front-count}
+use Rattle.columns.proofs.Listed.{Found, found_in, sum-listed, front-count}
 use Rattle.share.specs.Share.{quota, rest, turn, before, rank, left}
-use Rattle.share.specs.Steps.{weighs, listed_rest, start_in, goes_before, place}
+use Rattle.share.specs.Steps.{weighs, Listed, listed_rest, start_in, goes_before, place}
 use Rattle.share.proofs.Order.{turn-late, turn-front}
 use Rattle.share.proofs.Rests.{left-some, rest-none}
 
@@ -92,8 +92,12 @@ module _ (n : ℕ) (p : ℕ → Bool) (first m s : ℕ) (inside : first ≤ n) (
 
 -- ---- ranks
 
+-- who stands at a place of the list
+pub found_listed : (ws list : List ℕ) (m j : ℕ) → Listed ws list m → j < m → Found (length ws) (weighs ws) j (at list j)
+found_listed ws list m j listed l = found_in (length ws) (weighs ws) list j listed.places (omega (arith, listed.many))
+
 -- a sum of what only positions of weight add to, taken over the list
-pub over-list : (ws list : List ℕ) (m : ℕ) → Lists (length ws) (weighs ws) list m
+pub over-list : (ws list : List ℕ) (m : ℕ) → Listed ws list m
     → (g : ℕ → ℕ) → ((i : ℕ) → weighs ws i ≡ false → g i ≡ 0) → sum_to m (λ j. g (at list j)) ≡ sum_to (length ws) g
 unfolding sum_where
 over-list ws list m listed g quiet =
@@ -105,7 +109,7 @@ over-list ws list m listed g quiet =
     each i (inl on) = rw on
     each i (inr off) = rw off (sym (quiet i off))
 
-module _ (a : ℕ) (ws list : List ℕ) (m first : ℕ) (some : 0 < whole ws) (listed : Lists (length ws) (weighs ws) list m) where
+module _ (a : ℕ) (ws list : List ℕ) (m first : ℕ) (some : 0 < whole ws) (listed : Listed ws list m) where
   -- as many remainders are above 0 in the list as in the column
   rests-listed : count_to m (λ j. ltb 0 (listed_rest a ws list j)) ≡ count_to (length ws) (λ i. ltb 0 (rest a ws i))
   unfolding count_to listed_rest
@@ -141,7 +145,7 @@ module _ (a : ℕ) (ws list : List ℕ) (m first : ℕ) (some : 0 < whole ws) (l
           is k q,
           rest-here,
           ← turn-order (length ws) (weighs ws) first m start (omega arith) listed.many (start_is (omega arith)) k (at list k) j i
-              (found (length ws) (weighs ws) list m k listed q) here,
+              (found_listed ws list m k listed q) here,
         )
 
     place-rank : 0 < rest a ws i → place rs start j ≡ rank a ws first i

@@ -1,9 +1,9 @@
 -- Who is served: the line found by halving, and the pass over turns. Each law has the shape of one fact that the code asks for.
---     reach-next, reach-fits, reach-end     the count of those who reach k
---     Halved, halved_none, halved-low, halved-high     the search for the line
---     line-exact, line-last     its two ends
+--     reach_is                  the count of those who reach k
+--     Halved, halved_none       the search for the line
+--     line-exact                its end where just as many reach a remainder
 --     before-line               to be served by the line is to be among the first `left` by the order of service
---     start_none, start-next, start-end      the place in the list where turns begin
+--     start_is_in               the place in the list where turns begin
 --     turned_on, turned_round   the place of a turn
 --     Handed, handed-none, met-fits, handed-next, handed-all     the pass
 use Prim.Native.Nat.{ℕ, ◌+◌, ◌-◌, ◌^◌, ◌≤◌, ◌<◌}
@@ -17,13 +17,15 @@ use lib.ListN.{length, set, length-set}
 use lib.Seq.{get_or-set_same, get_or-set_other}
 use borrow.Author.Tests.{lt-ltb, le-ltb, le-leb, lt-leb, leb-true, eq-eqb, ne_eqb, eqb-true, eqb-false}
 use mir.Val.{bool_byte}
+use Rattle.std.specs.List.{sum_by, count_by}
 use Rattle.columns.specs.Sum.{bit, sum_to, count_to}
 use Rattle.columns.specs.Table.{at, table, Below}
-use Rattle.columns.proofs.Sum.{lt-or-le, sum_same, sum-add, sum-le, bit_le, count_next, count-le, count_none, count-all, count-sub, count-some}
+use Rattle.columns.proofs.Sum.{lt-or-le, sum_same, sum-add, sum-le, bit_le, count-le, count_none, count-all, count-sub, count-some}
 use Rattle.columns.proofs.Rank.{test-or, ltb-same, count-one}
 use Rattle.columns.proofs.First.{right-true}
 use Rattle.columns.proofs.Table.{table_is}
-use Rattle.columns.proofs.Listed.{one-is}
+use Rattle.columns.proofs.Listed.{one-is, cond-bit, from_bit, from_one}
+use Rattle.columns.proofs.Whole.{sum_by_is}
 use Rattle.share.specs.Share.{turn}
 use Rattle.share.specs.Steps.{goes_before, place, marked, reach, start_in, Served, Serving, Turning}
 use Rattle.share.proofs.Order.{turn-front, turn-late, turn-lt, turn-apart}
@@ -46,18 +48,11 @@ count-there n p i l h =
 
 -- ---- the line
 
-pub reach-next : (rs : List ℕ) (k i count : ℕ) → count ≡ count_to i (λ j. leb k (at rs j))
-    → count + bool_byte (leb k (at rs i)) ≡ count_to (i + 1) (λ j. leb k (at rs j))
-reach-next rs k i count e = omega (arith, one-is (leb k (at rs i)), count_next i (λ j. leb k (at rs j)))
-
-pub reach-fits : (rs : List ℕ) (k i count : ℕ) → length rs ≤ 256 → i < length rs → count ≡ count_to i (λ j. leb k (at rs j))
-    → count + bool_byte (leb k (at rs i)) < 2 ^ 64
-reach-fits rs k i count h l e =
-    omega (arith, one-is (leb k (at rs i)), bit_le (leb k (at rs i)), count-le i (λ j. leb k (at rs j)))
-
-pub reach-end : (rs : List ℕ) (k i count : ℕ) → i ≤ length rs → length rs ≤ i → count ≡ count_to i (λ j. leb k (at rs j)) → count ≡ reach rs k
-unfolding reach
-reach-end rs k i count l m e = let n : i ≡ length rs = omega arith in rw (← n) e
+pub reach_is : (rs : List ℕ) (k count : ℕ) → count ≡ sum_by (λ x. bool_byte (leb k x)) rs → count ≡ reach rs k
+unfolding reach count_to
+reach_is rs k count e =
+    e ∙ sum_by_is (λ x. bool_byte (leb k x)) rs
+    ∙ sum_same (length rs) (λ j. bool_byte (leb k (at rs j))) (λ j. bit (leb k (at rs j))) (λ j l. (one-is (leb k (at rs j))).0)
 
 reach-down : (rs : List ℕ) (j k : ℕ) → j ≤ k → reach rs k ≤ reach rs j
 unfolding reach
@@ -89,17 +84,6 @@ module _ (rs : List ℕ) (left lo hi few mid count : ℕ) (h : Halved rs left lo
         is = let m : mid - 1 + 1 ≡ mid = omega arith in rw m (omega arith);
         most = omega (arith, reach-down rs (mid - 1) mid (omega arith));
       }
-
-  pub halved-low : mid < hi → left < count → Halved rs left mid hi few
-  halved-low l e = record { apart = l; enough = omega arith; few_is = h.few_is; short = h.short }
-
-  pub halved-high : lo < mid → count ≤ left → Halved rs left lo mid count
-  halved-high l e = record { apart = l; enough = h.enough; few_is = is; short = e }
-
-pub line-last : (rs : List ℕ) (left lo hi few : ℕ) → Halved rs left lo hi few → hi - lo ≤ 1 → Served rs left lo (left - few)
-line-last rs left lo hi few h l =
-    let e : hi ≡ lo + 1 = omega (arith, h.apart) in
-    record { is = rw (← e) (omega (arith, h.few_is, h.short)); most = h.enough }
 
 -- ---- to be served by the line
 
@@ -184,18 +168,14 @@ module _ (rs : List ℕ) (first left low ties : ℕ) (line : Served rs left low 
 
 -- ---- where turns begin
 
-pub start_none : (list : List ℕ) (first : ℕ) → 0 ≡ start_in list 0 first
-unfolding start_in count_to sum_to
-start_none list first = refl
-
-pub start-next : (list : List ℕ) (first j count x b : ℕ) → count ≡ start_in list j first → x ≡ at list j → b ≡ bit (ltb x first)
-    → count + b ≡ start_in list (j + 1) first
-unfolding start_in
-start-next list first j count x b e x-is b-is =
-    omega (arith, e, b-is, ap (λ (y : ℕ). bit (ltb y first)) x-is, count_next j (λ k. ltb (at list k) first))
-
-pub start-end : (list : List ℕ) (first j m count : ℕ) → j ≤ m → m ≤ j → count ≡ start_in list j first → count ≡ start_in list m first
-start-end list first j m count l q e = let n : j ≡ m = omega arith in rw (← n) e
+pub start_is_in : (list : List ℕ) (first count : ℕ) → count ≡ count_by (λ x. ltb x first) list
+    → (count ≡ start_in list (length list) first) × (count ≤ length list)
+unfolding start_in count_to
+start_is_in list first count e =
+    let is : count ≡ count_to (length list) (λ j. ltb (at list j) first) =
+    e ∙ sum_by_is (λ x. cond (ltb x first) 1 0) list
+    ∙ sum_same (length list) (λ j. cond (ltb (at list j) first) 1 0) (λ j. bit (ltb (at list j) first)) (λ j l. cond-bit (ltb (at list j) first)) in
+    (is, omega (arith, is, count-le (length list) (λ j. ltb (at list j) first)))
 
 -- ---- the pass over turns
 
@@ -258,8 +238,8 @@ module _ (rs : List ℕ) (start left low ties : ℕ) (good : Turning rs start le
       none false u = refl
 
   module _ (t met : ℕ) (xs : List ℕ) (h : Handed rs start left low t met xs) where
-    pub met-fits : (b : Bool) → met + bool_byte b < 2 ^ 64
-    met-fits b = omega (arith, h.met_is, passed-le rs start low t, one-is b, bit_le b, good.short)
+    pub met-fits : (b : Bool) (more : ℕ) → more ≡ bool_byte b → met + more < 2 ^ 64
+    met-fits b more is = omega (arith, h.met_is, passed-le rs start low t, from_one b more is, good.short)
 
     pub handed-all : length rs ≤ t → xs ≡ table (length rs) (marked rs start left)
     handed-all m =
@@ -271,22 +251,27 @@ module _ (rs : List ℕ) (start left low ties : ℕ) (good : Turning rs start le
       before-turn : at xs j ≡ at rs j
       before-turn = h.is j l ∙ rw (e, le-ltb t t (omega arith))
 
-      pub handed-next : (b : Bool) → b ≡ goes_before (at xs j) met low ties
-          → Handed rs start left low (t + 1) (met + bool_byte (eqb (at xs j) low)) (set xs j (bool_byte b))
-      handed-next b f =
+      pub handed-next : (b : Bool) (v more : ℕ) → b ≡ goes_before (at xs j) met low ties → v ≡ bool_byte b → more ≡ bool_byte (eqb (at xs j) low)
+          → Handed rs start left low (t + 1) (met + more) (set xs j v)
+      handed-next b v more f v-is more-is =
           record {
             within = omega (arith, turn-lt (length rs) start j (omega arith));
-            room = length-set xs j (bool_byte b) ∙ h.room;
+            room = length-set xs j v ∙ h.room;
             met_is =
-                rw before-turn
-                (omega (arith, h.met_is, one-is (eqb (at rs j) low), passed-next rs start low t j good.inside l e));
+                omega (
+                  arith,
+                  h.met_is,
+                  from_bit (eqb (at xs j) low) more more-is,
+                  ap (λ (x : ℕ). bit (eqb x low)) before-turn,
+                  passed-next rs start low t j good.inside l e,
+                );
             is = λ k m. each k m (test-or (eqb k j));
           }
         where
-          due : bool_byte b ≡ marked rs start left j
+          due : v ≡ marked rs start left j
           due =
               unfold marked in
-              (one-is b).0
+              from_bit b v v-is
               ∙ ap bit (f ∙ (λ i. goes_before (before-turn i) ((h.met_is ∙ ap (passed rs start low) (sym e)) i) low ties)
               ∙ before-line rs start left low ties good.line j l)
 
@@ -300,11 +285,11 @@ module _ (rs : List ℕ) (start left low ties : ℕ) (good : Turning rs start le
               (lt-or-le (turn (length rs) start k) t))
 
           each : (k : ℕ) → k < length rs → (eqb k j ≡ true) ⊎ (eqb k j ≡ false)
-              → at (set xs j (bool_byte b)) k ≡ cond (ltb (turn (length rs) start k) (t + 1)) (marked rs start left k) (at rs k)
+              → at (set xs j v) k ≡ cond (ltb (turn (length rs) start k) (t + 1)) (marked rs start left k) (at rs k)
           each k m (inl s) =
               let same : k ≡ j = eqb-true k j s in
-              rw (same, e, lt-ltb t (t + 1) (omega arith)) (get_or-set_same xs j (bool_byte b) 0 (omega (arith, h.room)) ∙ due)
+              rw (same, e, lt-ltb t (t + 1) (omega arith)) (get_or-set_same xs j v 0 (omega (arith, h.room)) ∙ due)
           each k m (inr s) =
               let apart : k ≡ j → ⊥ = eqb-false k j s in
-              get_or-set_other xs j k (bool_byte b) 0 apart ∙ h.is k m
+              get_or-set_other xs j k v 0 apart ∙ h.is k m
               ∙ ap (λ (c : Bool). cond c (marked rs start left k) (at rs k)) (later k m apart)

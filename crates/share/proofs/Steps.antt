@@ -1,29 +1,23 @@
--- What `split` begins with, the sum, and the quotas and remainders over the list: what the proofs of `whole_of`, `quotient` and
--- `quotas_of` lean on. Each law has the shape of one fact that the code asks for.
---     Filled, filled_none, place_in, weight-in, divisible, quota-in, leaves-more, filled_next, filled-end     quotas and remainders up to a
+-- The quotas and remainders over the list: what the proof of `quotas_of` leans on. Each law has the shape of one fact that the code asks for.
+--     Filled, filled_none, weight-in, divisible, quota-in, leaves-more, filled_next, filled-end     quotas and remainders up to a
 --                               place of the list
---     plain_known, plainly      what a product asks
---     sum_fits, sum-end         the sum of a column
-use Prim.Native.Nat.{ℕ, ◌+◌, ◌-◌, ◌*◌, ◌/◌, ◌^◌, ◌≤◌, ◌<◌}
+use Prim.Native.Nat.{ℕ, ◌+◌, ◌-◌, ◌*◌, ◌≤◌, ◌<◌}
 use mathlib.Core.Path.{◌≡◌, refl, ap, sym, ◌∙◌}
-use mathlib.Core.Bool.{Bool, true}
 use mathlib.Core.List.{List}
-use native.Mathlib.Nat.{mul-le-mul_left}
 use native.Mathlib.Omega.{arith}
-use lib.Dec.{leb}
 use lib.ListN.{length, set, length-set}
-use borrow.Author.Tests.{leb-true, ltb-true}
+use borrow.Author.Tests.{ltb-true}
 use Rattle.columns.specs.Sum.{sum_to, whole}
 use Rattle.columns.specs.Table.{at, Below}
-use Rattle.columns.proofs.Sum.{sum-next, sum-shorter, count-le}
+use Rattle.columns.proofs.Sum.{sum-next, sum-shorter}
 use Rattle.columns.proofs.Table.{table_is, fill-next}
-use Rattle.columns.proofs.Listed.{Found, found, Dealt, dealt-none, dealt-next, dealt-all}
+use Rattle.columns.proofs.Listed.{Found, Dealt, dealt-none, dealt-next, dealt-all}
 use Rattle.share.specs.Share.{quota, rest}
 use Rattle.share.specs.declared.Division.{Division}
-use Rattle.share.specs.Steps.{Divided, Divisible, Plain, weighs, listed_quota, listed_rest, Quotable, Quoted}
-use Rattle.share.proofs.Packed.{quota-off, over-list}
+use Rattle.share.specs.Steps.{Divided, Divisible, weighs, listed_quota, listed_rest, Quotable, Quoted}
+use Rattle.share.proofs.Packed.{quota-off, found_listed, over-list}
 use Rattle.share.proofs.Rests.{weight-le, quotas-le, left_is}
-use Rattle.share.proofs.Long.{divided-fits, quota-is, rest-is}
+use Rattle.share.proofs.Long.{quota-is, rest-is}
 
 -- ---- the quotas, and the remainders of the list
 
@@ -55,24 +49,25 @@ module _ (a : ℕ) (ws qs₀ rs₀ list : List ℕ) (W : ℕ) (c : Quotable ws q
       }
 
   module _ (qs rs : List ℕ) (remains j : ℕ) (f : Filled a ws list (length rs₀) qs₀ qs rs remains j) where
-    pub place_in : j < length rs → j < 256
-    place_in l = omega (arith, f.rests_room, c.listed.many, count-le (length ws) (weighs ws), c.short)
-
-    pub filled-end : length rs ≤ j → Quoted a ws list (length rs₀) qs rs remains
-    filled-end l =
+    pub filled-end : length list ≤ j → Quoted a ws list (length rs₀) qs rs remains
+    filled-end q =
+        let l : length rs₀ ≤ j = omega (arith, c.listed.long) in
         record {
           quotas =
-              dealt-all (length ws) (weighs ws) (quota a ws) qs₀ qs j f.quotas (omega (arith, f.rests_room, c.listed.many)) c.room
+              dealt-all (length ws) (weighs ws) (quota a ws) qs₀ qs j f.quotas (omega (arith, c.listed.many)) c.room
               (λ i q off. c.blank i ∙ sym (quota-off a ws i off));
           rests = table_is 0 rs (length rs₀) (listed_rest a ws list) f.rests_room (λ k q. f.rests k (omega (arith, f.rests_room)));
           leaves =
-              let e : j ≡ length rs₀ = omega (arith, f.within, f.rests_room) in
+              let e : j ≡ length rs₀ = omega (arith, f.within) in
               omega (arith, f.leaves, ap (λ (k : ℕ). sum_to k (listed_quota a ws list)) e, quotas-all, left_is a ws some);
         }
 
-    module _ (l : j < length rs) (x : ℕ) (x-is : x ≡ at list j) where
+    module _ (inside : j < length list) (x : ℕ) (x-is : x ≡ at list j) where
+      l : j < length rs₀
+      l = omega (arith, c.listed.long)
+
       here : Found (length ws) (weighs ws) j x
-      here = rw x-is (found (length ws) (weighs ws) list (length rs₀) j c.listed (omega (arith, f.rests_room)))
+      here = rw x-is (found_listed ws list (length rs₀) j c.listed l)
 
       pub weight-in : x < length ws
       weight-in = here.inside
@@ -83,6 +78,9 @@ module _ (a : ℕ) (ws qs₀ rs₀ list : List ℕ) (W : ℕ) (c : Quotable ws q
 
       pub quota-in : x < length qs
       quota-in = omega (arith, here.inside, f.quotas.room, c.room)
+
+      rest-in : j < length rs
+      rest-in = omega (arith, l, f.rests_room)
 
       module _ (d : Division) (divided : Divided (a * at ws x) W d) where
         quota-now : d.quota ≡ quota a ws x
@@ -98,7 +96,7 @@ module _ (a : ℕ) (ws qs₀ rs₀ list : List ℕ) (W : ℕ) (c : Quotable ws q
               ap (quota a ws) x-is,
               f.leaves,
               sum-next j (listed_quota a ws list),
-              sum-shorter (j + 1) (length rs₀) (listed_quota a ws list) (omega (arith, f.rests_room)),
+              sum-shorter (j + 1) (length rs₀) (listed_quota a ws list) (omega (arith, l)),
               quotas-all,
               quotas-le a ws some,
             )
@@ -107,36 +105,13 @@ module _ (a : ℕ) (ws qs₀ rs₀ list : List ℕ) (W : ℕ) (c : Quotable ws q
         unfolding listed_quota listed_rest
         filled_next =
             record {
-              within = omega (arith, f.rests_room);
+              within = omega (arith, l);
               quotas =
                   dealt-next (length ws) (weighs ws) (quota a ws) qs₀ qs j f.quotas x d.quota here (omega (arith, c.room)) quota-now;
               rests_room = length-set rs j d.rest ∙ f.rests_room;
               rests =
-                  fill-next 0 rs j d.rest (listed_rest a ws list) l
+                  fill-next 0 rs j d.rest (listed_rest a ws list) rest-in
                   (unfold rest in rw (← x-is, ← c.is) (rest-is (a * at ws x) W d divided)) f.rests;
               leaves =
                   omega (arith, leaves-more, quota-now, ap (quota a ws) x-is, f.leaves, sum-next j (listed_quota a ws list));
             }
-
--- where even amount * sum fits, every product does
-pub plain_known : (a : ℕ) (ws qs rs list : List ℕ) (i W : ℕ) → Quotable ws qs rs list W → Plain (leb a (18446744073709551615 / W)) a (at ws i)
-plain_known a ws qs rs list i W c fits =
-    omega (
-      arith,
-      mul-le-mul_left a (weight-le ws i),
-      ap (λ (x : ℕ). a * x) c.is,
-      divided-fits a W (leb-true a (18446744073709551615 / W) fits),
-    )
-
-pub plainly : (plain : Bool) (a w : ℕ) → Plain plain a w → plain ≡ true → a * w < 2 ^ 64
-plainly plain a w fits is = fits is
-
--- ---- sums
-
-pub sum_fits : (xs : List ℕ) (i s : ℕ) → whole xs < 2 ^ 64 → s ≡ sum_to i (at xs) → i < length xs → s + at xs i < 2 ^ 64
-unfolding whole
-sum_fits xs i s f e l = omega (arith, sum-next i (at xs), sum-shorter (i + 1) (length xs) (at xs) (omega arith))
-
-pub sum-end : (xs : List ℕ) (i s : ℕ) → i ≤ length xs → length xs ≤ i → s ≡ sum_to i (at xs) → s ≡ whole xs
-unfolding whole
-sum-end xs i s l m e = let n : i ≡ length xs = omega arith in rw (← n) e

@@ -1,6 +1,5 @@
 -- What the parts of `split` ask and answer. They are private: a reader of the rule needs none of this.
 use Rattle.std.specs.Prelude.{ℕ, ◌+◌, ◌*◌, ◌≤◌, ◌<◌, ◌^◌, ◌≡◌, Bool, true, ◌&&◌, ◌||◌, List, ltb, leb, eqb, length}
-use Rattle.columns.specs.Lists.{Lists}
 use Rattle.columns.specs.Sum.{bit, count_to, whole}
 use Rattle.columns.specs.Table.{at, table, Below}
 use Rattle.share.specs.Share.{quota, rest, turn, left}
@@ -29,10 +28,6 @@ pub record Divisible (w W : ℕ) : Type 0 where
   pub some : 0 < w
   pub most : w ≤ W
 
--- if it is said that the product fits 64 bits, it does
-abbrev pub Plain : Bool → ℕ → ℕ → Type 0
-Plain plain a w = plain ≡ true → a * w < 2 ^ 64
-
 -- position i has weight
 unfoldable pub weighs : List ℕ → ℕ → Bool
 weighs ws i = ltb 0 (at ws i)
@@ -40,6 +35,12 @@ weighs ws i = ltb 0 (at ws i)
 -- the place of position i in the list of those of weight
 abbrev pub entry : List ℕ → ℕ → ℕ
 entry ws i = count_to i (weighs ws)
+
+-- the m positions of weight, in order: each stands at its place
+pub record Listed (ws list : List ℕ) (m : ℕ) : Type 0 where
+  pub long : length list ≡ m
+  pub many : m ≡ count_to (length ws) (weighs ws)
+  pub places : Below (length ws) (λ i. weighs ws i ≡ true → at list (entry ws i) ≡ i)
 
 -- quota and remainder of the position that stands at place j of the list
 unfoldable pub listed_quota : ℕ → List ℕ → List ℕ → ℕ → ℕ
@@ -55,7 +56,7 @@ pub record Quotable (ws qs rs list : List ℕ) (W : ℕ) : Type 0 where
   pub some : 0 < W
   pub room : length qs ≡ length ws
   pub blank : (i : ℕ) → at qs i ≡ 0
-  pub listed : Lists (length ws) (weighs ws) list (length rs)
+  pub listed : Listed ws list (length rs)
 
 -- the column of quotas, the remainders of the m listed positions, and what is left of the amount
 pub record Quoted (a : ℕ) (ws list : List ℕ) (m : ℕ) (qs rs : List ℕ) (remains : ℕ) : Type 0 where
@@ -111,7 +112,7 @@ pub record Handable (ws qs rs list : List ℕ) (W first left : ℕ) : Type 0 whe
   pub serving : Serving rs W left
   pub short : length ws ≤ 256
   pub room : length qs ≡ length ws
-  pub listed : Lists (length ws) (weighs ws) list (length rs)
+  pub listed : Listed ws list (length rs)
   pub fits : Below (length ws) (λ i. raised ws qs rs list first left i < 2 ^ 64)
 
 -- what position i has with one more if it has weight and its remainder, by the list, is above `low`
@@ -122,9 +123,5 @@ lifted ws qs rs low i = at qs i + bit (weighs ws i && ltb low (at rs (entry ws i
 pub record Liftable (ws qs rs list : List ℕ) (low : ℕ) : Type 0 where
   pub short : length ws ≤ 256
   pub room : length qs ≡ length ws
-  pub listed : Lists (length ws) (weighs ws) list (length rs)
+  pub listed : Listed ws list (length rs)
   pub fits : Below (length ws) (λ i. lifted ws qs rs low i < 2 ^ 64)
-
--- 0 for every position
-unfoldable pub nothing : ℕ → ℕ
-nothing i = 0

@@ -2,14 +2,12 @@
 #![tactic(auto)]
 
 ghost use Rattle.std.specs.Prelude.{◌+◌, ◌*◌, ◌≤◌, ◌<◌, ◌^◌, ◌≡◌, length};
-ghost use Rattle.columns.specs.Lists.{Lists};
-ghost use Rattle.columns.specs.Sum.{whole};
 ghost use Rattle.columns.specs.Table.{table};
 ghost use Rattle.share.specs.Share.{turn, shares};
 ghost use Rattle.share.specs.Split.{Splittable};
-ghost use Rattle.share.specs.Steps.{Divided, Carries, Digits, Divisible, Plain, weighs, Quotable, Quoted, Serving, Served, Turning, Handable, Liftable, reach, goes_before, start_in, marked, raised, lifted, nothing};
+ghost use Rattle.share.specs.Steps.{Divided, Carries, Digits, Divisible, Listed, Quotable, Quoted, Serving, Served, Turning, Handable, Liftable, reach, goes_before, start_in, marked, raised, lifted};
 
-use columns::{one_if, position};
+use std::cmp::Ordering;
 
 // A product divided by the sum of the weights: the quota, and the remainder.
 #[derive(Clone, Copy)]
@@ -18,56 +16,43 @@ struct Division {
     rest: u64,
 }
 
-// Every remainder above `low` is served, and of those equal to it the first `ties` by their turns.
-#[derive(Clone, Copy)]
-struct Line {
-    low: u64,
-    ties: u64,
-}
-
-// The sum of a column.
-fn whole_of(column: &[u64]) -> u64
-    requires { whole column.now < 2 ^ 64 }
-    ensures { result ≡ whole column.now }
-{
-    let mut sum: u64 = 0;
-    let mut i = 0;
-    while i < column.len() {
-        sum += column[i];
-        i += 1;
+impl Division {
+    // One step of a long division: `more` comes to the remainder, and a remainder that reaches the sum becomes one of the
+    // quota. The test is on what is lacking, since rest + more may pass 64 bits.
+    fn carry(self, more: u64, sum: u64) -> Division
+        requires { Carries self.quota self.rest more sum }
+        ensures { Divided (sum * self.quota + self.rest + more) sum result }
+    {
+        let lacking = sum - more;
+        if self.rest < lacking {
+            Division {
+                quota: self.quota,
+                rest: self.rest + more,
+            }
+        } else {
+            Division {
+                quota: self.quota + 1,
+                rest: self.rest - lacking,
+            }
+        }
     }
-    sum
-}
 
-// One step of a long division: `more` comes to the remainder, and a remainder that reaches the sum becomes one of the
-// quota. The test is on what is lacking, since rest + more may pass 64 bits.
-fn carry(quota: u64, rest: u64, more: u64, sum: u64) -> Division
-    requires { Carries quota rest more sum }
-    ensures { Divided (sum * quota + rest + more) sum result }
-{
-    let lacking = sum - more;
-    if rest < lacking {
-        return Division {
-            quota,
-            rest: rest + more,
+    // One binary digit more of the amount: twice what was divided so far, and the weight if the digit is 1.
+    fn next_digit(self, digit: u64, weight: u64, sum: u64) -> Division
+        requires { Digits self.quota self.rest digit weight sum }
+        ensures { Divided (2 * (sum * self.quota + self.rest) + digit * weight) sum result }
+    {
+        let doubled = Division {
+            quota: self.quota * 2,
+            rest: self.rest,
         };
+        let twice = doubled.carry(self.rest, sum);
+        if digit == 0 {
+            twice
+        } else {
+            twice.carry(weight, sum)
+        }
     }
-    Division {
-        quota: quota + 1,
-        rest: rest - lacking,
-    }
-}
-
-// One binary digit more of the amount: twice what was divided so far, and the weight if the digit is 1.
-fn next_digit(d: Division, digit: u64, weight: u64, sum: u64) -> Division
-    requires { Digits d.quota d.rest digit weight sum }
-    ensures { Divided (2 * (sum * d.quota + d.rest) + digit * weight) sum result }
-{
-    let twice = carry(d.quota * 2, d.rest, d.rest, sum);
-    if digit == 0 {
-        return twice;
-    }
-    carry(twice.quota, twice.rest, weight, sum)
 }
 
 // amount * weight divided by the sum, digit by digit of the amount, with no product made.
@@ -76,103 +61,72 @@ fn divide_long(amount: u64, weight: u64, sum: u64) -> Division
     ensures { Divided (amount * weight) sum result }
 {
     let mut d = Division { quota: 0, rest: 0 };
-    let mut k: u32 = 64;
-    while 0 < k {
-        k -= 1;
-        d = next_digit(d, (amount >> k) % 2, weight, sum);
+    for k in (0..u64::BITS).rev() {
+        d = d.next_digit((amount >> k) % 2, weight, sum);
     }
     d
 }
 
-// amount * weight divided by the sum, where the product fits 64 bits.
-fn divide_plain(amount: u64, weight: u64, sum: u64) -> Division
-    requires { Divisible weight sum × (amount * weight < 2 ^ 64) }
-    ensures { Divided (amount * weight) sum result }
-{
-    let product = amount * weight;
-    Division {
-        quota: product / sum,
-        rest: product % sum,
-    }
-}
-
-// The same where the product may not fit: then the long way.
+// amount * weight divided by the sum: the long way only where the product does not fit 64 bits.
 fn divide(amount: u64, weight: u64, sum: u64) -> Division
     requires { Divisible weight sum }
     ensures { Divided (amount * weight) sum result }
 {
-    if amount <= 0xffff_ffff_ffff_ffff / weight {
-        return divide_plain(amount, weight, sum);
+    match amount.checked_mul(weight) {
+        Some(product) => Division {
+            quota: product / sum,
+            rest: product % sum,
+        },
+        None => divide_long(amount, weight, sum),
     }
-    divide_long(amount, weight, sum)
 }
 
-// The same, plainly if it is known that the product fits.
-fn quotient(plain: bool, amount: u64, weight: u64, sum: u64) -> Division
-    requires { Divisible weight sum × Plain plain amount weight }
-    ensures { Divided (amount * weight) sum result }
+// The positions of weight, in order: most have none, and a division takes longer than all the rest.
+fn list_weights<'a>(weights: &[u64], room: &'a mut [u8; 256]) -> &'a [u8]
+    requires { (length weights.now ≤ 256) × (length room.old ≡ 256) }
+    ensures { Listed weights.now result.now (length result.now) }
 {
-    if plain {
-        return divide_plain(amount, weight, sum);
-    }
-    divide(amount, weight, sum)
+    let m = columns::list_where(weights, |weight| 0 < *weight, room);
+    &room[..m]
 }
 
-// The positions of weight, in order: most have none, and a division takes longer than all the rest. The result is how many they are.
-fn list_weights(weights: &[u64], list: &mut [u8; 256]) -> usize
-    requires { (length weights.now ≤ 256) × (length list.old ≡ 256) }
-    ensures { Lists (length weights.now) (weighs weights.now) list.new result }
-{
-    let mut m = 0;
-    let mut i = 0;
-    while i < weights.len() {
-        list[m] = i as u8;
-        m += one_if(0 < weights[i]);
-        i += 1;
-    }
-    m
-}
-
-// Quotas of the positions in the list, their remainders closely packed, and as the result what the quotas leave of the amount: by plain
-// products where even amount * sum fits 64 bits.
+// Quotas of the positions in the list, their remainders closely packed, and as the result what the quotas leave of the amount.
 fn quotas_of(
     amount: u64,
     weights: &[u64],
     sum: u64,
     quotas: &mut [u64],
     rests: &mut [u64],
-    list: &[u8; 256],
+    list: &[u8],
 ) -> u64
     requires { Quotable weights.now quotas.old rests.old list.now sum }
     ensures { Quoted amount weights.now list.now (length rests.old)
         quotas.new rests.new result }
 {
-    let plain = amount <= 0xffff_ffff_ffff_ffff / sum;
     let mut left = amount;
-    let mut j = 0;
-    while j < rests.len() {
-        let i = position(list[j]);
-        let d = quotient(plain, amount, weights[i], sum);
+    for (j, place) in list.iter().enumerate() {
+        let i = usize::from(*place);
+        let d = divide(amount, weights[i], sum);
         quotas[i] = d.quota;
         rests[j] = d.rest;
         left -= d.quota;
-        j += 1;
     }
     left
 }
 
-// How many remainders reach k.
+// How many remainders reach k. Tests are added up, so that no branch hangs on a remainder.
 fn reach(rests: &[u64], k: u64) -> u64
     requires { length rests.now ≤ 256 }
     ensures { result ≡ reach rests.now k }
 {
-    let mut count: u64 = 0;
-    let mut i = 0;
-    while i < rests.len() {
-        count += (k <= rests[i]) as u64;
-        i += 1;
-    }
-    count
+    rests.iter().map(|rest| u64::from(k <= *rest)).sum()
+}
+
+// Every remainder above `low` is served, and of those equal to it the first `ties` by their turns.
+#[derive(Clone, Copy)]
+struct Line {
+    low: u64,
+    ties: u64,
 }
 
 // Where the service of the `left` ends, found by halving between remainders that too many reach and too few.
@@ -184,19 +138,20 @@ fn line_of(rests: &[u64], sum: u64, left: u64) -> Line
     let mut hi = sum;
     let mut few: u64 = 0;
     while 1 < hi - lo {
-        let mid = columns::middle(lo, hi);
+        let mid = lo.midpoint(hi);
         let count = reach(rests, mid);
-        if count == left {
-            return Line {
-                low: mid - 1,
-                ties: 0,
-            };
-        }
-        if left < count {
-            lo = mid;
-        } else {
-            hi = mid;
-            few = count;
+        match count.cmp(&left) {
+            Ordering::Less => {
+                hi = mid;
+                few = count;
+            }
+            Ordering::Equal => {
+                return Line {
+                    low: mid - 1,
+                    ties: 0,
+                };
+            }
+            Ordering::Greater => lo = mid,
         }
     }
     Line {
@@ -206,17 +161,12 @@ fn line_of(rests: &[u64], sum: u64, left: u64) -> Line
 }
 
 // The place in the list where turns begin: past the positions before `first`.
-fn start_of(list: &[u8; 256], m: usize, first: usize) -> usize
-    requires { (length list.now ≡ 256) × (m ≤ 256) }
-    ensures { (result ≡ start_in list.now m first) × (result ≤ m) }
+fn start_of(list: &[u8], first: usize) -> usize
+    ensures { (result ≡ start_in list.now (length list.now) first) × (result ≤ length list.now) }
 {
-    let mut start = 0;
-    let mut j = 0;
-    while j < m {
-        start += one_if(position(list[j]) < first);
-        j += 1;
-    }
-    start
+    list.iter()
+        .filter(|place| usize::from(**place) < first)
+        .count()
 }
 
 // Of n places, the one whose turn is t.
@@ -225,17 +175,14 @@ fn at_turn(n: usize, first: usize, t: usize) -> usize
     ensures { (result < n) × (turn n first result ≡ t) }
 {
     let i = first + t;
-    if n <= i {
-        return i - n;
-    }
-    i
+    if n <= i { i - n } else { i }
 }
 
 // Whether remainder r at turn t is served before remainder s at turn u.
 fn goes_before(r: u64, t: u64, s: u64, u: u64) -> bool
     ensures { result ≡ goes_before r t s u }
 {
-    (s < r) | ((r == s) & (t < u))
+    (s, t) < (r, u)
 }
 
 // 1 in the place of every remainder above the line, and of the first so many at it, 0 in the place of the others: turn by turn, `met`
@@ -246,27 +193,23 @@ fn mark_in_turn(rests: &mut [u64], line: Line, start: usize, left: u64)
 {
     let n = rests.len();
     let mut met: u64 = 0;
-    let mut t = 0;
-    while t < n {
+    for t in 0..n {
         let j = at_turn(n, start, t);
         let rest = rests[j];
-        rests[j] = goes_before(rest, met, line.low, line.ties) as u64;
-        met += (rest == line.low) as u64;
-        t += 1;
+        rests[j] = u64::from(goes_before(rest, met, line.low, line.ties));
+        met += u64::from(rest == line.low);
     }
 }
 
 // One more to every listed position whose remainder is above `low`. The contract is about all positions; no line here reads their weights.
-fn serve_above(weights: &[u64], rests: &[u64], low: u64, out: &mut [u64], list: &[u8; 256])
+fn serve_above(weights: &[u64], rests: &[u64], low: u64, out: &mut [u64], list: &[u8])
     requires { Liftable weights.now out.old rests.now list.now low }
     ensures { out.new ≡ table (length weights.now)
         (lifted weights.now out.old rests.now low) }
 {
-    let mut j = 0;
-    while j < rests.len() {
-        let i = position(list[j]);
-        out[i] += (low < rests[j]) as u64;
-        j += 1;
+    for (rest, place) in rests.iter().zip(list) {
+        let i = usize::from(*place);
+        out[i] += u64::from(low < *rest);
     }
 }
 
@@ -278,7 +221,7 @@ fn hand_out(
     left: u64,
     rests: &mut [u64],
     out: &mut [u64],
-    list: &[u8; 256],
+    list: &[u8],
 )
     requires { Handable weights.now out.old rests.old list.now sum first left }
     ensures { out.new ≡ table (length weights.now)
@@ -289,20 +232,9 @@ fn hand_out(
         serve_above(weights, rests, line.low, out, list);
         return;
     }
-    let start = start_of(list, rests.len(), first);
+    let start = start_of(list, first);
     mark_in_turn(rests, line, start, left);
     serve_above(weights, rests, 0, out, list);
-}
-
-// Who has no weight gets 0, and so does everybody if there is nothing to share.
-fn zero(out: &mut [u64])
-    ensures { out.new ≡ table (length out.old) nothing }
-{
-    let mut i = 0;
-    while i < out.len() {
-        out[i] = 0;
-        i += 1;
-    }
 }
 
 // The shares where a weight is above 0, into a column of zeros; `rests` is room for the remainders of the listed positions.
@@ -313,7 +245,7 @@ fn share_out(
     first: usize,
     out: &mut [u64],
     rests: &mut [u64],
-    list: &[u8; 256],
+    list: &[u8],
 )
     requires { (0 < length weights.now → first < length weights.now)
         × Quotable weights.now out.old rests.old list.now sum }
@@ -331,16 +263,25 @@ pub fn split(amount: u64, weights: &[u64], first: usize, out: &mut [u64])
     requires { Splittable weights.now out.old first }
     ensures { out.new ≡ shares amount weights.now first }
 {
-    zero(out);
+    // Who has no weight gets 0, and so does everybody if there is nothing to share.
+    out.fill(0);
     if amount == 0 {
         return;
     }
-    let sum = whole_of(weights);
+    let sum: u64 = weights.iter().sum();
     if sum == 0 {
         return;
     }
-    let mut list = [0u8; 256];
-    let m = list_weights(weights, &mut list);
+    let mut room = [0u8; 256];
+    let list = list_weights(weights, &mut room);
     let mut rests = [0u64; 256];
-    share_out(amount, weights, sum, first, out, &mut rests[..m], &list);
+    share_out(
+        amount,
+        weights,
+        sum,
+        first,
+        out,
+        &mut rests[..list.len()],
+        list,
+    );
 }

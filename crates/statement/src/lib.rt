@@ -10,10 +10,11 @@ ghost use Rattle.statement.specs.Statement.{front_size, head_size, front_fields,
 ghost use Rattle.statement.specs.Statement.{extra_in, head_in, top_bytes};
 
 use files::{Form, TERMS, TERMS_WIDTHS, terms_fields};
-use records::{Field, get_record, marked, put_fields, put_record};
+use records::{Field, marked, put_fields, put_record, record_of};
 use units::{Fen, Kwh, Li};
 
-// A statement's head, without its mark and without terms. `averaged` is 1 if the thermal average ruled, else 0.
+// A statement's head, without its mark and without terms. `averaged` is 1 if the thermal average ruled, else 0: a byte and no bool, since
+// `head_in` reads whatever stands there.
 #[derive(Clone, Copy)]
 pub struct StatementHead {
     pub day: u32,
@@ -59,89 +60,77 @@ pub const ID: Field = Field {
 };
 
 pub const CALLED1: Field = Field {
-    start: HEAD,
-    stride: LINE,
     offset: 4,
     width: 4,
+    ..ID
 };
 
 pub const CALLED2: Field = Field {
-    start: HEAD,
-    stride: LINE,
     offset: 8,
     width: 4,
+    ..ID
 };
 
 pub const COMPENSATION: Field = Field {
-    start: HEAD,
-    stride: LINE,
     offset: 12,
     width: 4,
+    ..ID
 };
 
 pub const CUT: Field = Field {
-    start: HEAD,
-    stride: LINE,
     offset: 16,
     width: 4,
+    ..ID
 };
 
 pub const WEIGHT: Field = Field {
-    start: HEAD,
-    stride: LINE,
     offset: 20,
     width: 4,
+    ..ID
 };
 
 pub const CAP: Field = Field {
-    start: HEAD,
-    stride: LINE,
     offset: 24,
     width: 4,
+    ..ID
 };
 
 pub const PAID: Field = Field {
-    start: HEAD,
-    stride: LINE,
     offset: 28,
     width: 4,
+    ..ID
 };
 
 pub const CLOSING: Field = Field {
-    start: HEAD,
-    stride: LINE,
     offset: 32,
     width: 2,
+    ..ID
 };
 
 pub const PENALTY: Field = Field {
-    start: HEAD,
-    stride: LINE,
     offset: 34,
     width: 4,
+    ..ID
 };
 
 pub const RETURNED: Field = Field {
-    start: HEAD,
-    stride: LINE,
     offset: 38,
     width: 4,
+    ..ID
 };
 
 // Two fields that stand side by side, as one: compensation with cut, penalty with what is returned. Money of 32 bits put there stands in
 // the first of the two and leaves 0 in the second.
 pub const PAY: Field = Field {
-    start: HEAD,
-    stride: LINE,
     offset: 12,
     width: 8,
+    ..ID
 };
 
 pub const OWED: Field = Field {
-    start: HEAD,
-    stride: LINE,
     offset: 34,
     width: 8,
+    ..ID
 };
 
 // How many bytes later lines stand in a statement with terms.
@@ -169,23 +158,31 @@ pub fn head_in(s: &[u8]) -> StatementHead
     requires { (head_size ≤ length s.now) × (extra_in s.now + head_size ≤ length s.now) }
     ensures { result ≡ head_in s.now }
 {
-    let mut x = [0u64; 9];
-    get_record(s, 0, &FRONT_WIDTHS, &mut x);
+    let [
+        day,
+        quarter,
+        price1,
+        price2,
+        total,
+        shortfall,
+        rounds,
+        uncovered,
+        rows,
+    ] = record_of(s, 0, &FRONT_WIDTHS);
     let extra = extra_of(marked(s, 0, b'T'));
-    let mut y = [0u64; 2];
-    get_record(s, FRONT - 2 + extra, &TAIL_WIDTHS, &mut y);
+    let [visits, averaged] = record_of(s, FRONT - 2 + extra, &TAIL_WIDTHS);
     StatementHead {
-        day: x[0] as u32,
-        quarter: x[1] as u8,
-        price1: Li(x[2]),
-        price2: Li(x[3]),
-        total: Fen(x[4]),
-        shortfall: Fen(x[5]),
-        rounds: x[6] as u16,
-        uncovered: Kwh(x[7] as u32),
-        rows: x[8] as u16,
-        visits: y[0] as u32,
-        averaged: y[1] as u8,
+        day: day as u32,
+        quarter: quarter as u8,
+        price1: Li(price1),
+        price2: Li(price2),
+        total: Fen(total),
+        shortfall: Fen(shortfall),
+        rounds: rounds as u16,
+        uncovered: Kwh(uncovered as u32),
+        rows: rows as u16,
+        visits: visits as u32,
+        averaged: averaged as u8,
     }
 }
 
@@ -194,15 +191,15 @@ fn front_fields(h: StatementHead) -> [u64; 9]
     ensures { result ≡ front_fields h }
 {
     [
-        h.day as u64,
-        h.quarter as u64,
+        u64::from(h.day),
+        u64::from(h.quarter),
         h.price1.0,
         h.price2.0,
         h.total.0,
         h.shortfall.0,
-        h.rounds as u64,
-        h.uncovered.0 as u64,
-        h.rows as u64,
+        u64::from(h.rounds),
+        u64::from(h.uncovered.0),
+        u64::from(h.rows),
     ]
 }
 
@@ -210,7 +207,7 @@ fn front_fields(h: StatementHead) -> [u64; 9]
 fn tail_fields(h: StatementHead) -> [u64; 2]
     ensures { result ≡ tail_fields h }
 {
-    [h.visits as u64, h.averaged as u64]
+    [u64::from(h.visits), u64::from(h.averaged)]
 }
 
 // The terms behind the front of a head, where the form states them.

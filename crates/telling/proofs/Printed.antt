@@ -1,5 +1,4 @@
 -- What `tell` prints, piece by piece, as the code asks for it.
---   fields_lent                     room for a record's fields, the front of a fresh array
 --   record-placed                   the fields read by a record's table make its line of text
 --   head-stated, head_plain         the head's line, by its mark
 --   no_lines, lines_more, lines-all the start, a turn and the end of `tell_lines`
@@ -14,7 +13,7 @@ use Prim.Native.Nat.{ℕ, ◌+◌, ◌-◌, ◌*◌, ◌/◌, ◌≤◌}
 use native.Mathlib.Numerals.{add-one}
 use native.Mathlib.Omega.{arith}
 use mathlib.Core.Bool.{Bool, true, false}
-use lib.ListN.{length, take, drop, replicate, length-drop}
+use lib.ListN.{length, take, drop, length-drop}
 use lib.Seq.{length-take-le, take_all}
 use Rattle.records.specs.Buffer.{put}
 use Rattle.records.proofs.Buffer.{put_whole}
@@ -22,9 +21,8 @@ use Rattle.records.specs.Record.{marked, record_at}
 use Rattle.files.specs.Form.{states}
 use Rattle.statement.specs.Statement.{letter_t, line_widths, head_size, line_size, line_start, extra_of, has_terms, extra_in, head_in, body_in}
 use Rattle.statement.specs.declared.StatementHead.{StatementHead}
-use Rattle.settle.specs.Answer.{top_of, statement_of, answer_of, buffer_after, number_of}
-use Rattle.settle.specs.declared.Answer.{Answer}
-use Rattle.settle.specs.declared.Answer.TheVariants.{Settled, Refused}
+use Rattle.files.specs.Verdict.{Verdict, Accepted, Refused, number_of}
+use Rattle.settle.specs.Answer.{top_of, statement_of, answer_of, buffer_after}
 use Rattle.settle.specs.Statement.{statement_head}
 use Rattle.settle.proofs.Answered.{settled-count}
 use Rattle.demands.proofs.Demand1.{settled-accepted, accepted-settled, settled-buffer, settled-front}
@@ -33,9 +31,6 @@ use Rattle.telling.specs.Text.{decimal, line_text, lines_to, lines_in, head_widt
 use Rattle.telling.specs.Text.{room, number_most, line_most, text_most, refusal_most}
 use Rattle.telling.proofs.Texts.{placed-none, placed-after}
 use Rattle.telling.proofs.Size.{settled_is, settled-terms, settled-whole}
-
-pub fields_lent : (n : ℕ) → n ≤ 16 → length (take {A = ℕ} n (replicate 16 0)) ≡ n
-fields_lent n l = length-take-le n (replicate 16 0) l
 
 pub record-placed : (l l' fields ws b : List ℕ) (from end k : ℕ) → fields ≡ record_at ws b k
     → Placed l l' from (line_text fields) end line_most → Placed l l' from (line_text (record_at ws b k)) end line_most
@@ -122,7 +117,7 @@ refusal-placed l l' l'' l''' number place at end e p q =
     placed-after l l'' l''' (refused_word ++ (decimal number ++ (32 ∷ []))) (decimal place ++ (10 ∷ []))
     0 at end (8 + number_most) number_most refusal_most (omega arith) (omega arith) first q
 
-pub told-settled : (s : List ℕ) (size : ℕ) → answer_of s [] room ≡ Settled size → tell_text s ≡ statement_text (statement_of s [])
+pub told-settled : (s : List ℕ) (size : ℕ) → answer_of s [] room ≡ Accepted size → tell_text s ≡ statement_text (statement_of s [])
 unfolding tell_text told_text
 told-settled s size h = rw h
 
@@ -131,11 +126,11 @@ unfolding tell_text told_text
 told-refused s number place h = rw h
 
 -- the same of what the engine answered, and left in the buffer that it was lent
-module _ (s out : List ℕ) (a : Answer) (long : length out ≡ room) (e : a ≡ answer_of s [] (length out)) where
-  pub settled-placed : (l l' left : List ℕ) (size end : ℕ) → left ≡ buffer_after s [] out → a ≡ Settled size
+module _ (s out : List ℕ) (a : Verdict) (long : length out ≡ room) (e : a ≡ answer_of s [] (length out)) where
+  pub settled-placed : (l l' left : List ℕ) (size end : ℕ) → left ≡ buffer_after s [] out → a ≡ Accepted size
       → Placed l l' 0 (statement_text (take size left)) end text_most → Placed l l' 0 (tell_text s) end text_most
   settled-placed l l' left size end b f p =
-      let h : answer_of s [] (length out) ≡ Settled size = sym e ∙ f in
+      let h : answer_of s [] (length out) ≡ Accepted size = sym e ∙ f in
       let front : take size left ≡ statement_of s [] = rw (b, settled_is s [] (length out) size h) (settled-front s [] out (ap number_of h)) in
       rw (told-settled s size (rw long at h), ← front) p
 
@@ -146,10 +141,10 @@ module _ (s out : List ℕ) (a : Answer) (long : length out ≡ room) (e : a ≡
       rw (told-refused s number place (rw long at h)) (record { bytes = p.bytes; end_is = p.end_is; fits = omega (arith, p.fits) })
 
 -- the front of the buffer that the engine left is a whole statement
-pub settled-told : (s out left : List ℕ) (a : Answer) (size : ℕ) → a ≡ answer_of s [] (length out) → left ≡ buffer_after s [] out → a ≡ Settled size
+pub settled-told : (s out left : List ℕ) (a : Verdict) (size : ℕ) → a ≡ answer_of s [] (length out) → left ≡ buffer_after s [] out → a ≡ Accepted size
     → Whole (take size left)
 settled-told s out left a size e b f =
-    let h : answer_of s [] (length out) ≡ Settled size = sym e ∙ f in
+    let h : answer_of s [] (length out) ≡ Accepted size = sym e ∙ f in
     rw (b, settled_is s [] (length out) size h, settled-front s [] out (ap number_of h)) (settled-whole s [] (length out) (ap number_of h))
 
 pub told-rows : (s k : List ℕ) (space : ℕ) → number_of (answer_of s k space) ≡ 0

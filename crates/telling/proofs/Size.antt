@@ -14,20 +14,19 @@ use Rattle.columns.specs.Table.{table}
 use Rattle.statement.specs.Statement.{letter_l, line_widths, has_terms}
 use Rattle.statement.proofs.Laws.{top-terms}
 use Rattle.settle.specs.Statement.{statement_bytes}
-use Rattle.settle.specs.Answer.{top_of, line_in, statement_of, size_of, answer_of, number_of, value_of}
+use Rattle.files.specs.Verdict.{Verdict, Accepted, number_of, value_of}
+use Rattle.settle.specs.Answer.{top_of, line_in, statement_of, size_of, answer_of}
 use Rattle.settle.proofs.Answered.{settled-count}
-use Rattle.settle.specs.declared.Answer.{Answer}
-use Rattle.settle.specs.declared.Answer.TheVariants.{Settled}
 use Rattle.demands.proofs.Demand1.{zero-free, free-zero, settled-accepted, settled-room}
 use Rattle.telling.specs.Text.{Whole}
 
-pub settled_is : (s k : List ℕ) (room size : ℕ) → answer_of s k room ≡ Settled size → size ≡ size_of s
+pub settled_is : (s k : List ℕ) (room size : ℕ) → answer_of s k room ≡ Accepted size → size ≡ size_of s
 settled_is s k room size h = sym (ap value_of h) ∙ (free-zero s k room (zero-free s k room (ap number_of h))).1
 
-pub settled-size : (s k : List ℕ) (room size : ℕ) (a : Answer) → a ≡ answer_of s k room → a ≡ Settled size
+pub settled-size : (s k : List ℕ) (room size : ℕ) (a : Verdict) → a ≡ answer_of s k room → a ≡ Accepted size
     → size ≤ room
 settled-size s k room size a e f =
-    let h : answer_of s k room ≡ Settled size = sym e ∙ f in
+    let h : answer_of s k room ≡ Accepted size = sym e ∙ f in
     omega (arith, settled_is s k room size h, settled-room s k room (ap number_of h))
 
 -- a statement has terms exactly if the file states them

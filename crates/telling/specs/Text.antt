@@ -6,8 +6,7 @@ use Rattle.records.specs.Record.{record_at}
 use Rattle.files.specs.Form.{terms_widths, terms_size}
 use Rattle.statement.specs.Statement.{front_widths, tail_widths, line_widths, head_size, line_size, line_start, has_terms, extra_in, body_in}
 use Rattle.settle.specs.Answer.{statement_of, answer_of}
-use Rattle.settle.specs.declared.Answer.{Answer}
-use Rattle.settle.specs.declared.Answer.TheVariants.{Settled, Refused}
+use Rattle.files.specs.Verdict.{Verdict, Accepted, Refused}
 
 -- a number's decimal text in ASCII with no zeros in front, if it has at most so many digits and one more
 unfoldable pub decimal_in : ℕ → ℕ → List ℕ
@@ -67,8 +66,8 @@ unfoldable pub refused_text : ℕ → ℕ → List ℕ
 refused_text number place = refused_word ++ (decimal number ++ (32 ∷ [])) ++ (decimal place ++ (10 ∷ []))
 
 -- the text of an engine's answer, where b is the statement's bytes
-unfoldable pub told_text : Answer → List ℕ → List ℕ
-told_text (Settled size) b = statement_text b
+unfoldable pub told_text : Verdict → List ℕ → List ℕ
+told_text (Accepted size) b = statement_text b
 told_text (Refused number place) b = refused_text number place
 
 -- the room that `tell` has for a statement: that of 256 rows, with terms

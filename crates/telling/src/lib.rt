@@ -1,16 +1,18 @@
 // What the program `tell` does (01, Checked figures): an interval file from standard input, its statement or its refusal as
-// text on standard output. The engine does the work; this reads, makes the whole text in one buffer and writes it.
+// text on standard output. The engine does the work; this reads, makes the whole text in one buffer and writes it: no heap, and no `write!`
+// to a handle, whose text no contract could tell.
 #![tactic(auto)]
 
 ghost use Rattle.std.specs.Prelude.{◌≡◌, true, [], ◌∷◌, ◌++◌, ◌+◌, ◌*◌, ◌≤◌, ◌<◌, length};
 ghost use Rattle.records.specs.Record.{record_size, record_at, narrow};
 ghost use Rattle.statement.specs.Statement.{line_start};
+ghost use Rattle.files.specs.Verdict.{fault_number};
 ghost use Rattle.settle.specs.Answer.{buffer_after};
 ghost use Rattle.telling.specs.Text.{decimal, end_of, line_text, lines_to, head_text, statement_text, Whole, refused_text, tell_text, Placed};
 ghost use Rattle.telling.specs.Text.{room, number_most, line_most, text_most, refusal_most};
 
-use records::{get_record, marked};
-use settle::Answer;
+use files::Refusal;
+use records::{marked, record_of};
 use statement::{HEAD, HEAD_WIDTHS, LINE, LINE_WIDTHS, STATED_WIDTHS, extra_of};
 
 // One byte more than the longest interval file has, a head of 24 and 256 rows of 21: a longer one is refused and never cut.
@@ -21,9 +23,6 @@ const STATEMENT: usize = 10801;
 
 // Its text: 257 records of at most sixteen fields, each of at most twenty digits and one byte more.
 const TEXT: usize = 86352;
-
-// The most fields that a record of a statement has: those of a head with terms.
-const FIELDS: usize = 16;
 
 // The most digits that a number of 64 bits has.
 const DIGITS: usize = 20;
@@ -52,21 +51,20 @@ fn told(interval: &[u8], statement: &mut [u8], text: &mut [u8]) -> usize
     ensures statement_after { statement.new ≡ buffer_after interval.now [] statement.old }
 {
     let correction: [u8; 0] = [];
-    let answer = settle::settle(interval, &correction, statement);
-    match answer {
-        Answer::Settled(size) => tell_statement(text, &statement[..size]),
-        Answer::Refused(number, place) => tell_refusal(text, number, place),
+    match settle::settle(interval, &correction, statement) {
+        Ok(size) => tell_statement(text, &statement[..size]),
+        Err(refusal) => tell_refusal(text, refusal),
     }
 }
 
 // A refusal's one line: each number has at most twenty digits and one byte more.
-fn tell_refusal(text: &mut [u8], number: usize, place: usize) -> usize
+fn tell_refusal(text: &mut [u8], refusal: Refusal) -> usize
     requires { refusal_most ≤ length text.old }
-    ensures { Placed text.old text.new 0 (refused_text number place) result refusal_most }
+    ensures { Placed text.old text.new 0 (refused_text (fault_number refusal.fault) refusal.place) result refusal_most }
 {
     records::put_bytes(text, 0, b"refused ");
-    let at = tell_number(text, 8, number as u64, b' ');
-    tell_number(text, at, place as u64, b'\n')
+    let at = tell_number(text, 8, refusal.fault.number() as u64, b' ');
+    tell_number(text, at, refusal.place as u64, b'\n')
 }
 
 // A statement's text. The lines are counted by the bytes that are there: no field of them has to be right for this to be safe.
@@ -97,40 +95,25 @@ fn tell_lines(text: &mut [u8], from: usize, statement: &[u8], n: usize) -> usize
     ensures { Placed text.old text.new from (lines_to n statement.now) result (n * line_most) }
 {
     let mut at = from;
-    let mut i = 0;
-    while i < n {
+    for i in 0..n {
         at = tell_record(text, at, statement, HEAD + i * LINE, &LINE_WIDTHS);
-        i += 1;
     }
     at
 }
 
 // The record at a position of a statement, its fields read by their table of widths, as text from a position on.
-fn tell_record(text: &mut [u8], from: usize, statement: &[u8], at: usize, widths: &[u8]) -> usize
-    requires widths_in_bounds { (at + record_size widths.now ≤ length statement.now) × (length widths.now ≤ 16) × (narrow widths.now ≡ true) }
-    requires line_most_in_bounds { from + line_most ≤ length text.old }
-    ensures { Placed text.old text.new from (line_text (record_at widths.now statement.now at)) result line_most }
-{
-    let mut fields = [0u64; FIELDS];
-    let n = widths.len();
-    tell_read(text, from, statement, at, widths, &mut fields[..n])
-}
-
-// The same, with room for the fields lent.
-fn tell_read(
+fn tell_record<const N: usize>(
     text: &mut [u8],
     from: usize,
     statement: &[u8],
     at: usize,
-    widths: &[u8],
-    fields: &mut [u64],
+    widths: &[u8; N],
 ) -> usize
     requires widths_in_bounds { (at + record_size widths.now ≤ length statement.now) × (length widths.now ≤ 16) × (narrow widths.now ≡ true) }
-    requires fields_len { (length fields.old ≡ length widths.now) × (from + line_most ≤ length text.old) }
+    requires line_most_in_bounds { from + line_most ≤ length text.old }
     ensures { Placed text.old text.new from (line_text (record_at widths.now statement.now at)) result line_most }
 {
-    get_record(statement, at, widths, fields);
-    tell_fields(text, from, fields)
+    tell_fields(text, from, &record_of(statement, at, widths))
 }
 
 // The text of a record's fields, from a position on; hands back the position after it.
@@ -140,10 +123,8 @@ fn tell_fields(text: &mut [u8], from: usize, fields: &[u64]) -> usize
 {
     let n = fields.len();
     let mut at = from;
-    let mut i = 0;
-    while i < n {
-        at = tell_number(text, at, fields[i], end_of(n, i));
-        i += 1;
+    for (i, field) in fields.iter().enumerate() {
+        at = tell_number(text, at, *field, end_of(n, i));
     }
     at
 }

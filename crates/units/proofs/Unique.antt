@@ -1,41 +1,35 @@
 -- Two results that one contract allows are equal, for each public function: theorems of the contract itself (`Learnt`).
-use Prim.Native.Nat.{ℕ}
-use mathlib.Core.Path.{ap, sym, ◌∙◌}
-use Rattle.columns.proofs.Unique.{OneResult}
+use Rattle.std.proofs.Common.{ℕ, min, max}
+use mathlib.Core.Path.{◌≡◌, ap, sym, ◌∙◌}
+use Rattle.columns.proofs.Unique.{LeavesOne, OneResult}
+use Rattle.units.specs.declared.Kwh.{Kwh}
+use Rattle.units.specs.declared.Li.{Li}
+use Rattle.units.specs.declared.Fen.{Fen}
 use Rattle.units.proofs.load.Reads as load
 use Rattle.units.proofs.most.Reads as most
-use Rattle.units.proofs.Kwh.smaller.Reads as smaller
-use Rattle.units.proofs.Kwh.larger.Reads as larger
+use Rattle.units.proofs.KwhFromU32.from.Reads as kwh-from
+use Rattle.units.proofs.U32FromKwh.from.Reads as u32-from
+use Rattle.units.proofs.U64FromKwh.from.Reads as u64-from
+use Rattle.units.proofs.LiFromU32.from.Reads as li-from
+use Rattle.units.proofs.KwhAdd.add.Reads as kwh-add
+use Rattle.units.proofs.KwhAddAssign.add_assign.Reads as kwh-add-assign
+use Rattle.units.proofs.KwhSub.sub.Reads as kwh-sub
+use Rattle.units.proofs.LiAdd.add.Reads as li-add
+use Rattle.units.proofs.FenAdd.add.Reads as fen-add
+use Rattle.units.proofs.FenAddAssign.add_assign.Reads as fen-add-assign
+use Rattle.units.proofs.FenSub.sub.Reads as fen-sub
 use Rattle.units.proofs.Kwh.above.Reads as above
 use Rattle.units.proofs.Kwh.when.Reads as when
 use Rattle.units.proofs.Kwh.or.Reads as or
 use Rattle.units.proofs.Kwh.priced.Reads as priced
 use Rattle.units.proofs.Kwh.thermal_cap.Reads as thermal-cap
-use Rattle.units.proofs.Kwh.plus.Reads as kwh-plus
-use Rattle.units.proofs.Kwh.less.Reads as less
-use Rattle.units.proofs.Li.plus.Reads as li-plus
 use Rattle.units.proofs.Li.to_fen.Reads as to-fen
-use Rattle.units.proofs.Kwh.from_column.Reads as kwh-from-column
-use Rattle.units.proofs.Kwh.column.Reads as kwh-column
-use Rattle.units.proofs.Li.from_column.Reads as li-from-column
-use Rattle.units.proofs.Li.column.Reads as li-column
-use Rattle.units.proofs.Kwh.from_wide.Reads as from-wide
-use Rattle.units.proofs.Kwh.wide.Reads as wide
-use Rattle.units.proofs.Fen.smaller.Reads as fen-smaller
-use Rattle.units.proofs.Fen.plus.Reads as fen-plus
-use Rattle.units.proofs.Fen.less.Reads as fen-less
 
 pub load-unique : OneResult load.Learnt
 load-unique κs a x y e f p q = ap (λ (m : ℕ). record { 0 = m }) (p ∙ sym q)
 
 pub most-unique : OneResult most.Learnt
 most-unique κs a x y e f p q = ap (λ (m : ℕ). record { 0 = m }) (p ∙ sym q)
-
-pub smaller-unique : OneResult smaller.Learnt
-smaller-unique κs a x y e f p q = ap (λ (m : ℕ). record { 0 = m }) (p ∙ sym q)
-
-pub larger-unique : OneResult larger.Learnt
-larger-unique κs a x y e f p q = ap (λ (m : ℕ). record { 0 = m }) (p ∙ sym q)
 
 pub above-unique : OneResult above.Learnt
 above-unique κs a x y e f p q = ap (λ (m : ℕ). record { 0 = m }) (p ∙ sym q)
@@ -52,41 +46,54 @@ priced-unique κs a x y e f p q = ap (λ (m : ℕ). record { 0 = m }) (p ∙ sym
 pub thermal-cap-unique : OneResult thermal-cap.Learnt
 thermal-cap-unique κs a x y e f p q = ap (λ (m : ℕ). record { 0 = m }) (p ∙ sym q)
 
-pub kwh-plus-unique : OneResult kwh-plus.Learnt
-kwh-plus-unique κs a x y e f p q = ap (λ (m : ℕ). record { 0 = m }) (p ∙ sym q)
-
-pub less-unique : OneResult less.Learnt
-less-unique κs a x y e f p q = ap (λ (m : ℕ). record { 0 = m }) (p ∙ sym q)
-
-pub li-plus-unique : OneResult li-plus.Learnt
-li-plus-unique κs a x y e f p q = ap (λ (m : ℕ). record { 0 = m }) (p ∙ sym q)
-
 pub to-fen-unique : OneResult to-fen.Learnt
 to-fen-unique κs a x y e f p q = ap (λ (m : ℕ). record { 0 = m }) (p ∙ sym q)
 
-pub kwh-from-column-unique : OneResult kwh-from-column.Learnt
+pub kwh-from-column-unique : OneResult kwh-from.Learnt
 kwh-from-column-unique κs a x y e f p q = ap (λ (m : ℕ). record { 0 = m }) (p ∙ sym q)
 
-pub kwh-column-unique : OneResult kwh-column.Learnt
+pub kwh-column-unique : OneResult u32-from.Learnt
 kwh-column-unique κs a x y e f p q = p ∙ sym q
 
-pub li-from-column-unique : OneResult li-from-column.Learnt
-li-from-column-unique κs a x y e f p q = ap (λ (m : ℕ). record { 0 = m }) (p ∙ sym q)
-
-pub li-column-unique : OneResult li-column.Learnt
-li-column-unique κs a x y e f p q = p ∙ sym q
-
-pub from-wide-unique : OneResult from-wide.Learnt
-from-wide-unique κs a x y e f p q = ap (λ (m : ℕ). record { 0 = m }) (p ∙ sym q)
-
-pub wide-unique : OneResult wide.Learnt
+pub wide-unique : OneResult u64-from.Learnt
 wide-unique κs a x y e f p q = p ∙ sym q
 
-pub fen-smaller-unique : OneResult fen-smaller.Learnt
-fen-smaller-unique κs a x y e f p q = ap (λ (m : ℕ). record { 0 = m }) (p ∙ sym q)
+pub li-from-column-unique : OneResult li-from.Learnt
+li-from-column-unique κs a x y e f p q = ap (λ (m : ℕ). record { 0 = m }) (p ∙ sym q)
 
-pub fen-plus-unique : OneResult fen-plus.Learnt
+pub kwh-plus-unique : OneResult kwh-add.Learnt
+kwh-plus-unique κs a x y e f p q = ap (λ (m : ℕ). record { 0 = m }) (p ∙ sym q)
+
+pub less-unique : OneResult kwh-sub.Learnt
+less-unique κs a x y e f p q = ap (λ (m : ℕ). record { 0 = m }) (p ∙ sym q)
+
+pub li-plus-unique : OneResult li-add.Learnt
+li-plus-unique κs a x y e f p q = ap (λ (m : ℕ). record { 0 = m }) (p ∙ sym q)
+
+pub fen-plus-unique : OneResult fen-add.Learnt
 fen-plus-unique κs a x y e f p q = ap (λ (m : ℕ). record { 0 = m }) (p ∙ sym q)
 
-pub fen-less-unique : OneResult fen-less.Learnt
+pub fen-less-unique : OneResult fen-sub.Learnt
 fen-less-unique κs a x y e f p q = ap (λ (m : ℕ). record { 0 = m }) (p ∙ sym q)
+
+pub kwh-add-assign-unique : LeavesOne kwh-add-assign.Learnt (λ κs x y e f. e.0.now ≡ f.0.now)
+kwh-add-assign-unique κs a x y e f p q = ap (λ (m : ℕ). record { 0 = m }) (p ∙ sym q)
+
+pub fen-add-assign-unique : LeavesOne fen-add-assign.Learnt (λ κs x y e f. e.0.now ≡ f.0.now)
+fen-add-assign-unique κs a x y e f p q = ap (λ (m : ℕ). record { 0 = m }) (p ∙ sym q)
+
+-- What std's `min`, `max` and casts say of a result, an equation with its number, leaves one result too.
+pub smaller-unique : (a b x y : Kwh) → x.0 ≡ min a.0 b.0 → y.0 ≡ min a.0 b.0 → x ≡ y
+smaller-unique a b x y p q = ap (λ (m : ℕ). record { 0 = m }) (p ∙ sym q)
+
+pub larger-unique : (a b x y : Kwh) → x.0 ≡ max a.0 b.0 → y.0 ≡ max a.0 b.0 → x ≡ y
+larger-unique a b x y p q = ap (λ (m : ℕ). record { 0 = m }) (p ∙ sym q)
+
+pub fen-smaller-unique : (a b x y : Fen) → x.0 ≡ min a.0 b.0 → y.0 ≡ min a.0 b.0 → x ≡ y
+fen-smaller-unique a b x y p q = ap (λ (m : ℕ). record { 0 = m }) (p ∙ sym q)
+
+pub li-column-unique : (a : Li) (x y : ℕ) → x ≡ a.0 → y ≡ a.0 → x ≡ y
+li-column-unique a x y p q = p ∙ sym q
+
+pub from-wide-unique : (a : ℕ) (x y : Kwh) → x.0 ≡ a → y.0 ≡ a → x ≡ y
+from-wide-unique a x y p q = ap (λ (m : ℕ). record { 0 = m }) (p ∙ sym q)

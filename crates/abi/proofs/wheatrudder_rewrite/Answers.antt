@@ -1,18 +1,9 @@
--- `abi::wheatrudder_rewrite` meets its contract, for bytes written and for a refusal.
-use Rattle.abi.proofs.Told.{bytes-packs, unwritten-packs, bytes-told, unwritten-told}
-use borrow.Author.Rules.{rules}
+-- `abi::wheatrudder_rewrite` meets its contract.
+use Rattle.abi.proofs.Told.{rewritten-fits, rewritten-told}
 use Rattle.abi.proofs.wheatrudder_rewrite.Goals as goal
 
-ruleset fitting = (bytes-packs, unwritten-packs, rules)
+pub word-requires : goal.word-requires
+word-requires c = rewritten-fits _ _ _ c.rewrite.ensures.value
 
-pub pack-requires : goal.pack-requires
-pack-requires c = search fitting
-
-pub pack-requires-in-Refused : goal.pack-requires-in-Refused
-pack-requires-in-Refused c = search fitting
-
-pub returns-in-Bytes : goal.returns-in-Bytes
-returns-in-Bytes c = record { value = search bytes-told; out_after = search rules }
-
-pub returns-in-Refused : goal.returns-in-Refused
-returns-in-Refused c = record { value = search unwritten-told; out_after = search rules }
+pub returns : goal.returns
+returns c = record { value = rewritten-told _ _ _ c.rewrite.ensures.value _ c.word.ensures; out_after = c.rewrite.ensures.out_after }

@@ -1,18 +1,18 @@
 -- `abi::wheatrudder_row` meets its contract, for a buffer that is too short and for one with room.
-use Rattle.abi.proofs.Told.{part-packs, short-told, short-buffer, copied-told, copied-made}
-use borrow.Author.Rules.{rules}
+use Rattle.abi.proofs.Told.{short-packs, part-packs, short-told, short-buffer, copied-told, copied-made}
 use Rattle.abi.proofs.wheatrudder_row.Goals as goal
 
-ruleset fitting = (part-packs, rules)
-
-pub pack-requires : goal.pack-requires
-pack-requires c = search fitting
+pub word-requires : goal.word-requires
+word-requires c = rw c.from.ensures short-packs
 
 pub returns-then-out-part : goal.returns-then-out-part
-returns-then-out-part c = record { value = search short-told; out_after = search short-buffer }
+returns-then-out-part c = record {
+  value = short-told _ _ _ _ c.counting-part.ensures _ _ c.if-out-part.true (rw c.from.ensures at c.word.ensures);
+  out_after = search short-buffer;
+}
 
-pub pack-requires-2 : goal.pack-requires-2
-pack-requires-2 c = search fitting
+pub word-requires-2 : goal.word-requires-2
+word-requires-2 c = search part-packs
 
 pub returns : goal.returns
 returns c = record { value = search copied-told; out_after = search copied-made }

@@ -1,18 +1,10 @@
--- `abi::wheatrudder_settle` meets its contract, for a statement and for a refusal.
-use Rattle.abi.proofs.Told.{settled-packs, refused-packs, settled-told, refused-told}
-use borrow.Author.Rules.{rules}
+-- `abi::wheatrudder_settle` meets its contract.
+use Rattle.abi.proofs.Told.{settled-packs, settled-told}
 use Rattle.abi.proofs.wheatrudder_settle.Goals as goal
 
-ruleset fitting = (settled-packs, refused-packs, rules)
+pub word-requires : goal.word-requires
+word-requires c = settled-packs _ _ _ _ c.settle.ensures.value
 
-pub pack-requires : goal.pack-requires
-pack-requires c = search fitting
-
-pub pack-requires-in-Refused : goal.pack-requires-in-Refused
-pack-requires-in-Refused c = search fitting
-
-pub returns-in-Settled : goal.returns-in-Settled
-returns-in-Settled c = record { value = search settled-told; statement_after = search rules }
-
-pub returns-in-Refused : goal.returns-in-Refused
-returns-in-Refused c = record { value = search refused-told; statement_after = search rules }
+pub returns : goal.returns
+returns c =
+    record { value = settled-told _ _ _ _ c.settle.ensures.value _ c.word.ensures; statement_after = c.settle.ensures.statement_after }

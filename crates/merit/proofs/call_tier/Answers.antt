@@ -1,13 +1,12 @@
--- `merit::call_tier` meets its contract: a need of 0 calls nobody; where all bands do not pass it they are called in full; else what lower bids
--- took and what the walk begins with are the need.
-use Rattle.merit.proofs.Walking.{ended-unneeded, ended-full, ended-whole}
+-- `merit::call_tier` meets its contract: a need of 0 calls nobody; where all bands do not pass it they are called in full.
+use Rattle.std.proofs.Common.{◌≡◌, ◌≤◌, arith}
+use Rattle.std.proofs.lemmas.Grind.{common_steps}
+use Rattle.merit.specs.Walk.{past}
+use Rattle.merit.proofs.Walking.{ended-unneeded, ended-full}
 use Rattle.merit.proofs.call_tier.Goals as goal
 
-pub returns-then-need-eq0 : goal.returns-then-need-eq0
-returns-then-need-eq0 c = search ended-unneeded
+pub returns-then-eq : goal.returns-then-eq
+returns-then-eq c = let none : c.args.need.0 ≡ 0 = grind (arith, common_steps) in search ended-unneeded
 
-pub returns-then-start : goal.returns-then-start
-returns-then-start c = search ended-full
-
-pub returns : goal.returns
-returns c = search ended-whole
+pub returns-then-le : goal.returns-then-le
+returns-then-le c = let over : past ≤ c.margin-start.result.0 = grind (arith, common_steps) in search ended-full

@@ -1,15 +1,14 @@
--- `records::put_number` meets its contract: the bytes from i on are still owed.
+-- `records::put_number` meets its contract: the bytes from the loop's on are still owed.
 use native.Mathlib.Omega.{arith}
-use lib.ListN.{length-set}
-use Rattle.records.proofs.Fields.{number-none, number_more, number-all}
-use borrow.Author.Rules.{rules}
+use lib.ListN.{length-take, length-drop}
+use Rattle.records.proofs.Fields.{split-none, split-next, split-all}
 use Rattle.records.proofs.put_number.Goals as goal
 
-pub loop-i-init : goal.loop-i-init
-loop-i-init c = (search rules, search rules, search number-none)
+pub loop-byte-init : goal.loop-byte-init
+loop-byte-init c = split-none _ _ _ (simp (length-take, length-drop) (omega arith))
 
-pub loop-i-preserved : goal.loop-i-preserved
-loop-i-preserved c = (omega arith, simp length-set (omega arith), number_more _ _ _ _ _ _ c.loop-i.invariant.2 (omega arith) (omega arith))
+pub loop-byte-preserved : goal.loop-byte-preserved
+loop-byte-preserved c = split-next _ _ _ _ _ c.loop-byte.invariant (omega (arith, c.loop-byte.auto.byte-items))
 
 pub returns : goal.returns
-returns c = search number-all
+returns c = split-all _ _ _ _ _ c.loop-byte.invariant _ _ _ (omega arith) (omega (arith, c.loop-byte.auto.byte-items))

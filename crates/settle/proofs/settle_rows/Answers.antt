@@ -9,7 +9,7 @@ pub size_of-size-requires : goal.size_of-size-requires
 size_of-size-requires c = search few-rows
 
 pub returns-then-statement-size : goal.returns-then-statement-size
-returns-then-statement-size c = record { value = search short-told; statement_after = search short-left }
+returns-then-statement-size c = record { value = rw c.from.ensures (search short-told); statement_after = search short-left }
 
 pub returns : goal.returns
 returns c = record { value = search written-told; statement_after = search written-left }

@@ -6,5 +6,5 @@ use Rattle.share.proofs.at_turn.Goals as goal
 pub returns-then-n-i : goal.returns-then-n-i
 returns-then-n-i c = (search rules, search turned_round)
 
-pub returns : goal.returns
-returns c = (search rules, search turned_on)
+pub returns-else-n-i : goal.returns-else-n-i
+returns-else-n-i c = (search rules, search turned_on)

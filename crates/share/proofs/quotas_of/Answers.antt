@@ -1,18 +1,15 @@
 -- `share::quotas_of` meets its contract: quotas and remainders are filled up to place j of the list.
-use Rattle.share.proofs.Steps.{filled_none, place_in, weight-in, quota-in, leaves-more, filled_next, filled-end, divisible, plain_known}
+use Rattle.share.proofs.Steps.{filled_none, weight-in, quota-in, leaves-more, filled_next, filled-end, divisible}
 use Rattle.share.proofs.quotas_of.Goals as goal
 
 pub loop-j-init : goal.loop-j-init
 loop-j-init c = search filled_none
 
-pub bounds-list-j : goal.bounds-list-j
-bounds-list-j c = search place_in
-
 pub bounds-weights-i : goal.bounds-weights-i
 bounds-weights-i c = search weight-in
 
-pub quotient-d-requires : goal.quotient-d-requires
-quotient-d-requires c = (search divisible, search plain_known)
+pub divide-d-requires : goal.divide-d-requires
+divide-d-requires c = search divisible
 
 pub bounds-quotas-i : goal.bounds-quotas-i
 bounds-quotas-i c = search quota-in

@@ -1,6 +1,5 @@
 -- `statement::front_fields` meets its contract: the fields that it is handed, in order.
-use mathlib.Core.Path.{refl}
 use Rattle.statement.proofs.front_fields.Goals as goal
 
 pub returns : goal.returns
-returns c = refl
+returns c = cc

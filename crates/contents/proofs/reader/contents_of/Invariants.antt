@@ -1,10 +1,6 @@
 -- `contents::reader::contents_of` meets its contract: the rows passed are the file's, zero rows follow.
-use Prim.Native.Nat.{◌-◌}
 use Rattle.contents.proofs.Walk.{Filled}
 use Rattle.contents.proofs.reader.contents_of.Given as goal
 
 abbrev pub invariant-loop-i : goal.invariant-loop-i
 invariant-loop-i l = Filled l.s l.start l.count l.rows l.i
-
-abbrev pub decreases-loop-i : goal.decreases-loop-i
-decreases-loop-i l = l.count - l.i

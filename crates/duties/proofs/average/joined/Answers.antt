@@ -2,8 +2,8 @@
 use Rattle.duties.proofs.Averages.{joined_of, joined-fits}
 use Rattle.duties.proofs.average.joined.Goals as goal
 
-pub plus-energy-requires : goal.plus-energy-requires
-plus-energy-requires c = search joined-fits
+pub add-energy-requires : goal.add-energy-requires
+add-energy-requires c = search joined-fits
 
 pub overflow_add-capacity : goal.overflow_add-capacity
 overflow_add-capacity c = search joined-fits

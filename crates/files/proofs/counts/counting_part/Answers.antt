@@ -23,7 +23,7 @@ pub returns-then-source-eq0 : goal.returns-then-source-eq0
 returns-then-source-eq0 c = search own-source
 
 pub part_at-requires-2 : goal.part_at-requires-2
-part_at-requires-2 c = search their-in
+part_at-requires-2 c = rw c.from-j.ensures (search their-in)
 
 pub returns : goal.returns
-returns c = search their-source
+returns c = let part = rw c.from-j.ensures at c.part_at-2.ensures in search their-source

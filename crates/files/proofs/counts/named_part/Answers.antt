@@ -1,51 +1,38 @@
 -- `files::counts::named_part` meets its contract.
-use Prim.Native.Nat.{◌<◌}
-use Rattle.files.proofs.Accepted.{accepted-few, accepted-long, accepted-theirs}
-use Rattle.files.proofs.Sourced.{theirs-of, few-of, under_none, has-below, has-small, has_in, named-theirs, named-own, named_none, own-found, own_in}
+use Rattle.files.proofs.Accepted.{accepted-long, accepted-theirs}
+use Rattle.files.proofs.Sourced.{theirs-of, under_none, has-below, named-theirs, named-own, named_none, own-found}
 use borrow.Author.Rules.{rules}
 use Rattle.files.proofs.counts.named_part.Goals as goal
 
 pub named_rows-m-requires : goal.named_rows-m-requires
 named_rows-m-requires c = search accepted-theirs
 
+pub invariant_of-theirs : goal.invariant_of-theirs
+invariant_of-theirs c = search theirs-of
+
 pub seek-j-requires : goal.seek-j-requires
-seek-j-requires c = (search theirs-of, search rules, under_none _ _ _ _)
+seek-j-requires c = (search rules, under_none _ _ _ _)
 
-pub is_row-requires : goal.is_row-requires
-is_row-requires c = search theirs-of
+pub part-requires : goal.part-requires
+part-requires c = search has-below
 
-pub overflow_mul-j : goal.overflow_mul-j
-overflow_mul-j c = let l : c.seek-j.result < 256 = search (has-small, few-of) in search rules
-
-pub overflow_add-j : goal.overflow_add-j
-overflow_add-j c = let l : c.seek-j.result < 256 = search (has-small, few-of) in search rules
-
-pub part_at-requires : goal.part_at-requires
-part_at-requires c = search (has_in, theirs-of)
-
-pub returns-then-is_row : goal.returns-then-is_row
-returns-then-is_row c = search named-theirs
+pub returns-then-has : goal.returns-then-has
+returns-then-has c = search named-theirs
 
 pub rows_from-start-requires : goal.rows_from-start-requires
 rows_from-start-requires c = search accepted-long
 
+pub invariant_of-own : goal.invariant_of-own
+invariant_of-own c = search own-found
+
 pub seek-i-requires : goal.seek-i-requires
-seek-i-requires c = (search own-found, search rules, under_none _ _ _ _)
+seek-i-requires c = (search rules, under_none _ _ _ _)
 
-pub is_row-requires-2 : goal.is_row-requires-2
-is_row-requires-2 c = search own-found
+pub part-requires-then-has-2 : goal.part-requires-then-has-2
+part-requires-then-has-2 c = search has-below
 
-pub overflow_mul-i : goal.overflow_mul-i
-overflow_mul-i c = let l : c.seek-i.result < 256 = search (has-small, accepted-few) in search rules
-
-pub overflow_add-start : goal.overflow_add-start
-overflow_add-start c = let l : c.seek-i.result < 256 = search (has-small, accepted-few) in search rules
-
-pub part_at-requires-then-is_row-2 : goal.part_at-requires-then-is_row-2
-part_at-requires-then-is_row-2 c = search (own_in, has-below)
-
-pub returns-then-is_row-2 : goal.returns-then-is_row-2
-returns-then-is_row-2 c = search named-own
+pub returns-then-has-2 : goal.returns-then-has-2
+returns-then-has-2 c = search named-own
 
 pub returns : goal.returns
 returns c = search named_none

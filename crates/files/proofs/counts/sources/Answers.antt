@@ -1,7 +1,7 @@
 -- `files::counts::sources` meets its contract: the first i sources are put, and the rows passed in the correction lie below the next id.
 use Prim.Native.Nat.{◌<◌}
 use Rattle.files.proofs.Accepted.{accepted-long, accepted-theirs}
-use Rattle.files.proofs.Sourced.{sourced-none, sourced-next, sourced-ends, under-sourced, theirs-of, few-of, own-small, own_in}
+use Rattle.files.proofs.Sourced.{sourced-none, sourced-next, sourced-ends, under-sourced, theirs-of, few-of, own-small, own-found}
 use borrow.Author.Rules.{rules}
 use Rattle.files.proofs.counts.sources.Goals as goal
 
@@ -11,23 +11,20 @@ named_rows-m-requires c = search accepted-theirs
 pub rows_from-start-requires : goal.rows_from-start-requires
 rows_from-start-requires c = search accepted-long
 
+pub invariant_of-theirs : goal.invariant_of-theirs
+invariant_of-theirs c = search theirs-of
+
+pub invariant_of-own : goal.invariant_of-own
+invariant_of-own c = search own-found
+
 pub loop-i-init : goal.loop-i-init
 loop-i-init c = search sourced-none
 
-pub overflow_mul-i : goal.overflow_mul-i
-overflow_mul-i c = let l : c.loop-i.i < 256 = search own-small in search rules
-
-pub overflow_add-start : goal.overflow_add-start
-overflow_add-start c = let l : c.loop-i.i < 256 = search own-small in search rules
-
-pub id_at-id-requires : goal.id_at-id-requires
-id_at-id-requires c = search own_in
-
 pub seek-j-requires : goal.seek-j-requires
-seek-j-requires c = (search theirs-of, search rules, search under-sourced)
+seek-j-requires c = (search rules, search under-sourced)
 
 pub source_at-requires : goal.source_at-requires
-source_at-requires c = record { rows = search theirs-of; m_bound = search few-of }
+source_at-requires c = search few-of
 
 pub offset_bounds-out-i : goal.offset_bounds-out-i
 offset_bounds-out-i c = let l : c.loop-i.i < 256 = search own-small in search rules

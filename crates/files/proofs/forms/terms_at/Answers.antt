@@ -6,4 +6,4 @@ use Rattle.files.proofs.forms.terms_at.Goals as goal
 
 pub returns : goal.returns
 unfolding terms_at record_at
-returns c = ap terms_from c.get_record.ensures.0
+returns c = ap terms_from c.record_of.ensures.0

@@ -3,9 +3,9 @@ use Rattle.columns.proofs.Choice.{checks}
 use Rattle.files.specs.Order.{row_checks}
 use Rattle.files.proofs.range.row_checks.Goals as goal
 
-pub returns-then-not-ok : goal.returns-then-not-ok
+pub returns-then-not-row_ok : goal.returns-then-not-row_ok
 unfolding row_checks
-returns-then-not-ok c = search checks depth 12
+returns-then-not-row_ok c = search checks depth 12
 
 pub returns-then-r-last : goal.returns-then-r-last
 unfolding row_checks

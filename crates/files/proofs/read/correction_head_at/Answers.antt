@@ -5,4 +5,4 @@ use Rattle.files.proofs.read.correction_head_at.Goals as goal
 
 pub returns : goal.returns
 unfolding correction_head_at
-returns c = ap correction_head_of c.get_record.ensures.0
+returns c = ap correction_head_of c.record_of.ensures.0

@@ -5,4 +5,4 @@ use Rattle.files.proofs.read.row_at.Goals as goal
 
 pub returns : goal.returns
 unfolding row_at
-returns c = ap row_of c.get_record.ensures.0
+returns c = ap row_of c.record_of.ensures.0

@@ -9,11 +9,11 @@ close_round-shut-requires t c = search round-asked
 pub returns-then-shut-eq0 : goal.returns-then-shut-eq0
 returns-then-shut-eq0 t c = search stopped
 
-pub less-requires : goal.less-requires
-less-requires t c = search (caps-in, rules)
+pub sub-balance-requires : goal.sub-balance-requires
+sub-balance-requires t c = search (caps-in, rules)
 
-pub overflow_sub-weight : goal.overflow_sub-weight
-overflow_sub-weight t c = search (weights-in, rules)
+pub overflow_sub-balance : goal.overflow_sub-balance
+overflow_sub-balance t c = search (weights-in, rules)
 
 -- the test left says that somebody closed, here and below
 pub redistribute-requires : goal.redistribute-requires

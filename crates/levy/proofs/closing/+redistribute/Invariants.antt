@@ -1,4 +1,4 @@
--- Each round leaves less weight among the open payers.
+-- Each round but the last leaves fewer payers open.
 use Rattle.levy.proofs.closing.+redistribute.Given as goal
 
 abbrev pub decreases-redistribute : goal.decreases-redistribute

@@ -1,19 +1,14 @@
 -- `levy::rounds` meets its contract: the walk starts where the definition starts, with nobody closed, and visits are told by where it ends.
-use Rattle.columns.proofs.Table.{front_long}
-use Rattle.levy.proofs.Again.{weights-few, rounds-begin, visits-asked, rounds-end}
+use Rattle.levy.proofs.Again.{rounds-begin, visits-asked, rounds-end}
 use Rattle.levy.proofs.closing.rounds.Goals as goal
-
-pub slice_bounds-total_of-end : goal.slice_bounds-total_of-end
-slice_bounds-total_of-end c = search front_long
-
-pub total_of-weight-requires : goal.total_of-weight-requires
-total_of-weight-requires c = search weights-few
 
 pub redistribute-requires : goal.redistribute-requires
 redistribute-requires c = search rounds-begin
 
 pub count_visits-visits-requires : goal.count_visits-visits-requires
-count_visits-visits-requires c = search visits-asked
+count_visits-visits-requires c = visits-asked _ _ _ _ _ c.requires _ c.total_of.ensures _ _ _ _ c.redistribute.ensures c.redistribute.auto.marks _ c.from.ensures
 
 pub returns : goal.returns
-returns c = search rounds-end
+returns c =
+    rounds-end _ _ _ _ _ c.requires _ c.total_of.ensures _ _ _ _ c.redistribute.ensures c.redistribute.auto.marks _ c.from.ensures _
+    c.count_visits-visits.ensures

@@ -1,11 +1,7 @@
 -- `levy::narrow` meets its contract: the positions passed are copied, each below 2 ^ 32.
-use Prim.Native.Nat.{◌-◌}
 use Rattle.columns.specs.Table.{at}
 use Rattle.levy.proofs.Fill.{Fill}
 use Rattle.levy.proofs.filling.narrow.Given as goal
 
 abbrev pub invariant-loop-i : goal.invariant-loop-i
 invariant-loop-i l = Fill (at l.from) l.initial.to l.to l.i
-
-abbrev pub decreases-loop-i : goal.decreases-loop-i
-decreases-loop-i l = l.n - l.i

@@ -1,40 +1,16 @@
--- `levy::list_payers` meets its contract: of the positions passed those of weight stand in the list.
-use Rattle.columns.proofs.Listed.{listing_none, listing-room, listing-fits, listing-end}
-use Rattle.levy.proofs.Listed.{payers-next}
-use borrow.Author.Rules.{rules}
+-- `levy::list_payers` meets its contract: the test of a weight is that of its position.
+use mathlib.Core.Path.{◌≡◌, sym, ap, ◌∙◌}
+use lib.Dec.{ltb}
+use Rattle.std.proofs.Common.{rules}
+use Rattle.std.proofs.lemmas.Option.{get_or_from_slice_get}
+use Rattle.columns.specs.Table.{at}
+use Rattle.levy.specs.Rounds.{is_payer}
 use Rattle.levy.proofs.listing.list_payers.Goals as goal
 
-ruleset mine = (listing_none, listing-room, listing-end, rules)
-
-pub loop-i-init : goal.loop-i-init
-loop-i-init c = search mine
-
-pub overflow_cast-list : goal.overflow_cast-list
-overflow_cast-list c = search mine
-
-pub bounds-list-m : goal.bounds-list-m
-bounds-list-m c = search mine
-
-pub offset_bounds-weights-i : goal.offset_bounds-weights-i
-offset_bounds-weights-i c = search mine
-
-pub bounds-weights-i : goal.bounds-weights-i
-bounds-weights-i c = search mine
-
-pub one_if-m-requires : goal.one_if-m-requires
-one_if-m-requires c = search mine
-
-pub overflow_add-m : goal.overflow_add-m
-overflow_add-m c = record { fits = search listing-fits }
-
-pub overflow_add-i : goal.overflow_add-i
-overflow_add-i c = search mine
-
-pub loop-i-smaller : goal.loop-i-smaller
-loop-i-smaller c = search mine
-
-pub loop-i-preserved : goal.loop-i-preserved
-loop-i-preserved c = search payers-next
-
 pub returns : goal.returns
-returns c = search mine
+returns c =
+    c.list_where.ensures.listed (is_payer c.args.weights.now)
+    (λ i x b e h.
+    let is : at c.args.weights.now i ≡ x = get_or_from_slice_get c.args.weights.now i x 0 e in
+    let told : b ≡ ltb 0 x = search rules in
+    told ∙ ap (ltb 0) (sym is))

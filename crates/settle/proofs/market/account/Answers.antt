@@ -19,17 +19,17 @@ pub put_cell-requires-in-loop-i : goal.put_cell-requires-in-loop-i
 put_cell-requires-in-loop-i c =
     owed-there _ _ _ _ c.requires _ _ _ _ c.loop-i.invariant c.loop-i-test.true _ _ c.put_cell.ensures
 
-pub plus-total-requires : goal.plus-total-requires
-plus-total-requires c = search total-fits
+pub add_assign-requires : goal.add_assign-requires
+add_assign-requires c = search total-fits
 
-pub plus-penalties-requires : goal.plus-penalties-requires
-plus-penalties-requires c = search penalties-fit
+pub add_assign-requires-in-loop-i : goal.add_assign-requires-in-loop-i
+add_assign-requires-in-loop-i c = search penalties-fit
 
 pub loop-i-preserved : goal.loop-i-preserved
 loop-i-preserved c =
     sofar-more _ _ _ _ c.requires _ _ _ _ c.loop-i.invariant c.loop-i-test.true _ _ c.pay_at-pay.ensures
-    c.owed_at-owed.ensures _ c.put_cell.ensures _ c.put_cell-in-loop-i.ensures _ c.plus-total.ensures
-    _ c.plus-penalties.ensures
+    c.owed_at-owed.ensures _ c.put_cell.ensures _ c.put_cell-in-loop-i.ensures _ c.add_assign.ensures.after
+    _ c.add_assign-in-loop-i.ensures.after
 
 pub shape_of-sheet : goal.shape_of-sheet
 shape_of-sheet c = search sofar-long

@@ -1,10 +1,6 @@
 -- `settle::market::account` meets its contract: the rows passed have both figures.
-use Prim.Native.Nat.{◌-◌}
 use Rattle.settle.proofs.Paying.{Sofar}
 use Rattle.settle.proofs.market.account.Given as goal
 
 abbrev pub invariant-loop-i : goal.invariant-loop-i
 invariant-loop-i l = Sofar l.n l.price1.0 l.price2.0 l.initial.sheet l.sheet l.total.0 l.penalties.0 l.i
-
-abbrev pub decreases-loop-i : goal.decreases-loop-i
-decreases-loop-i l = l.n - l.i

@@ -1,11 +1,6 @@
 -- `settle::pairs::get_pair` meets its contract: the cells of both fields before line i stand in their columns.
-use Prim.Native.Nat.{◌-◌}
-use lib.ListN.{length}
 use Rattle.settle.proofs.LineByLine.{ReadTo}
 use Rattle.settle.proofs.pairs.get_pair.Given as goal
 
 abbrev pub invariant-loop-i : goal.invariant-loop-i
 invariant-loop-i l = ReadTo l.one l.two l.sheet l.initial.first l.initial.second l.first l.second l.i
-
-abbrev pub decreases-loop-i : goal.decreases-loop-i
-decreases-loop-i l = length l.initial.first - l.i

@@ -1,10 +1,12 @@
 -- `settle::payers::share_out` meets its contract: it only lends columns, and where there is nothing to share it leaves all as it is.
+use Rattle.std.proofs.Common.{◌≡◌, arith}
+use Rattle.std.proofs.lemmas.Grind.{common_steps}
 use Rattle.settle.proofs.Levying.{none-shared, front-shareable, share-front, share-there}
 use borrow.Author.Rules.{rules}
 use Rattle.settle.proofs.payers.share_out.Goals as goal
 
-pub returns-then-what-eq0 : goal.returns-then-what-eq0
-returns-then-what-eq0 c = search none-shared
+pub returns-then-eq : goal.returns-then-eq
+returns-then-eq c = let none : c.args.what.amount.0 ≡ 0 = grind (arith, common_steps) in search none-shared
 
 pub slice_bounds-share_in-end : goal.slice_bounds-share_in-end
 slice_bounds-share_in-end c = search front-shareable

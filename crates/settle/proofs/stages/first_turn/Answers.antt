@@ -9,4 +9,4 @@ returns-then-n-eq0 c = simp (eq-eqb _ _ c.if-n-eq0.true)
 
 pub returns : goal.returns
 unfolding first_turn
-returns c = simp (ne_eqb _ _ c.if-n-eq0.false)
+returns c = simp (ne_eqb _ _ c.if-n-eq0.false, c.from.ensures)

@@ -3,10 +3,10 @@ use Rattle.units.proofs.Chosen.{excess, excess-32, excess-64}
 use Rattle.units.proofs.Kwh.above.Goals as goal
 
 pub overflow_mul-result : goal.overflow_mul-result
-overflow_mul-result c = search excess-64
+overflow_mul-result c = rw (c.from.ensures, c.from-2.ensures) (search excess-64)
 
 pub overflow_cast-result : goal.overflow_cast-result
-overflow_cast-result c = search excess-32
+overflow_cast-result c = rw (c.from.ensures, c.from-2.ensures) (search excess-32)
 
 pub returns : goal.returns
-returns c = search excess
+returns c = rw (c.from.ensures, c.from-2.ensures) (search excess)
