@@ -6,8 +6,8 @@
 --     lists-next           one position more, listed if it passes
 --     lists-quiet          one position more, where nothing is stored and nobody passes
 --     Listing              the invariant of the loop that makes the list: of the positions below i those that pass are listed
---     listing_none, listing-room, listing-fits, listing-next, listing-end     before the first position, room for one more, its count fits,
---                          one position more, after the last one
+--     listing_none, listing-room, listing-fits, listing-next, listing-end, listing-written     before the first position, room for one more,
+--                          its count fits, one position more, after the last one: the list, and all that the array holds
 --     Found, found_in, found     which position stands at place j
 --     found_at             a position that passes stands at its place
 --     sum-listed           a sum over the list is the sum over the positions that pass
@@ -33,7 +33,7 @@ use Rattle.columns.proofs.Sum.{lt-or-le, sum-next, sum_same, count_next, count-l
 use Rattle.columns.proofs.Mask.{where_next}
 use Rattle.columns.proofs.Rank.{test-or, ltb-same}
 use Rattle.columns.proofs.Table.{table_is}
-use Rattle.columns.specs.Lists.{Lists}
+use Rattle.columns.specs.Lists.{Lists, listing}
 
 pub one-is : (t : Bool) → (bool_byte t ≡ bit t) × (bool_byte t ≤ 1)
 one-is true = (refl, omega arith)
@@ -77,26 +77,36 @@ module _ (p : ℕ → Bool) (list : List ℕ) (k i : ℕ) (lists : Lists i p lis
             (λ on. rw (← lists.many) (get_or-set_same list k i 0 (omega (arith, lists.long, lists-room l))));
       }
 
-pub record Listing (n : ℕ) (p : ℕ → Bool) (list : List ℕ) (m i : ℕ) : Type 0 where
+pub record Listing (n : ℕ) (p : ℕ → Bool) (start list : List ℕ) (m i : ℕ) : Type 0 where
   pub within : i ≤ n
   pub lists : Lists i p list m
+  pub written : list ≡ listing p start i
 
-module _ (n : ℕ) (p : ℕ → Bool) (list : List ℕ) where
-  pub listing_none : length list ≡ 256 → Listing n p list 0 0
-  listing_none long = record { within = omega arith; lists = lists-none p list long }
+module _ (n : ℕ) (p : ℕ → Bool) (start list : List ℕ) where
+  pub listing_none : list ≡ start → length list ≡ 256 → Listing n p start list 0 0
+  unfolding listing
+  listing_none same long = record { within = omega arith; lists = lists-none p list long; written = same }
 
-  module _ (m i : ℕ) (made : Listing n p list m i) where
+  module _ (m i : ℕ) (made : Listing n p start list m i) where
     pub listing-room : n ≤ 256 → i < n → m < 256
     listing-room few l = lists-room p list m i made.lists (omega arith)
 
     pub listing-fits : n ≤ 256 → i < n → (b : ℕ) → b ≤ 1 → m + b < 2 ^ 64
     listing-fits few l b le = omega (arith, listing-room few l)
 
-    pub listing-next : n ≤ 256 → i < n → (b : ℕ) → b ≡ bit (p i) → Listing n p (set list m i) (m + b) (i + 1)
-    listing-next few l b b-is = record { within = omega arith; lists = lists-next p list m i made.lists (omega arith) b b-is }
+    written-next : set list m i ≡ listing p start (i + 1)
+    unfolding listing
+    written-next = rw (add-one, ← made.lists.many, ← made.written) refl
+
+    pub listing-next : n ≤ 256 → i < n → (b : ℕ) → b ≡ bit (p i) → Listing n p start (set list m i) (m + b) (i + 1)
+    listing-next few l b b-is =
+        record { within = omega arith; lists = lists-next p list m i made.lists (omega arith) b b-is; written = written-next }
 
     pub listing-end : n ≤ i → Lists n p list m
     listing-end q = subst (λ (k : ℕ). Lists k p list m) (omega (arith, made.within)) made.lists
+
+    pub listing-written : n ≤ i → list ≡ listing p start n
+    listing-written q = made.written ∙ ap (listing p start) (omega (arith, made.within))
 
 -- ---- what stands in it
 

@@ -37,7 +37,11 @@ pub fn rewrite(s: &[u8], out: &mut [u8]) -> Result<usize, Refusal>
     ensures value { told result ≡ rewritten_of s.now (length out.old) }
     ensures out_after { out.new ≡ rewritten_buffer s.now out.old }
 {
-    let n = interval_verdict(s)?;
+    // A match in the place of `?`, so that a refusal's place stands in the text: an edit is planted there (must-fail/refused-without-place).
+    let n = match interval_verdict(s) {
+        Ok(n) => n,
+        Err(refusal) => return Err(refusal),
+    };
     let form = form_of(s);
     let needed = start_of(form.stated) + n * ROW;
     if out.len() < needed {

@@ -20,7 +20,7 @@ fn end_line() {
 
 fn show_bytes(bytes: &[u8]) {
     for byte in bytes {
-        show(u64::from(*byte));
+        show(records::wide(*byte));
     }
     end_line();
 }

@@ -52,5 +52,5 @@ pub fn average_at(ruling: Average, capacity: u16) -> Kwh
     requires { Low ruling }
     ensures { result.0 ≡ average_at ruling capacity }
 {
-    Kwh::from((u64::from(capacity) * u64::from(ruling.energy) / u64::from(ruling.capacity)) as u32)
+    Kwh::from_wide(u64::from(capacity) * u64::from(ruling.energy) / u64::from(ruling.capacity))
 }

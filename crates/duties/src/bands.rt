@@ -10,7 +10,7 @@ use units::{Kwh, load};
 pub fn width1(limit: Kwh, row: Row) -> Kwh
     ensures { result.0 ≡ width1 limit.0 row }
 {
-    let width = limit.above(row.minimum.max(load(row.capacity, FOOT)));
+    let width = limit.above(row.minimum.larger(load(row.capacity, FOOT)));
     width.when(row.offered == 1)
 }
 

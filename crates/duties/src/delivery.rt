@@ -10,14 +10,14 @@ use units::{Kwh, load};
 pub fn energy_in1(base: Kwh, capacity: u16, metered: Kwh) -> Kwh
     ensures { result.0 ≡ energy_in1 base.0 capacity metered.0 }
 {
-    base.above(metered.max(load(capacity, FOOT)))
+    base.above(metered.larger(load(capacity, FOOT)))
 }
 
 // From 40 percent, or a base below it, down to the meter.
 pub fn energy_in2(base: Kwh, capacity: u16, metered: Kwh) -> Kwh
     ensures { result.0 ≡ energy_in2 base.0 capacity metered.0 }
 {
-    base.min(load(capacity, FOOT)).above(metered)
+    base.smaller(load(capacity, FOOT)).above(metered)
 }
 
 // Only a thermal row that ran as usual is paid for what it delivered.

@@ -44,7 +44,7 @@ fn show_energy(x: Kwh) {
 }
 
 fn show_test(b: bool) {
-    show(u64::from(b));
+    show(columns::one_if(b) as u64);
 }
 
 fn end_line() {

@@ -32,6 +32,11 @@ use Rattle.files.proofs.counts.counting_row.Reads as counting-row
 use Rattle.files.proofs.checks.row_count.Reads as row_count
 use Rattle.files.proofs.checks.correction_count.Reads as correction-count
 use Rattle.files.proofs.runs.Run.seek.Reads as seek
+use Rattle.files.proofs.runs.Run.id.Reads as run-id
+use Rattle.files.proofs.runs.Run.row.Reads as run-row
+use Rattle.files.proofs.runs.Run.part.Reads as run-part
+use Rattle.files.proofs.runs.Run.has.Reads as run-has
+use Rattle.files.proofs.counts.part_at.Reads as part-at
 use Rattle.files.proofs.faults.Fault.number.Reads as number
 use Rattle.files.proofs.faults.RefusalFromFault.from.Reads as refusal-from
 
@@ -109,6 +114,21 @@ row-count-unique κs a x y e f p q = p.0 ∙ sym q.0
 
 pub correction-count-unique : OneResult correction-count.Learnt
 correction-count-unique κs a x y e f p q = p.0 ∙ sym q.0
+
+pub part-at-unique : LeavesOne part-at.Learnt (λ κs x y e f. x.now ≡ y.now)
+part-at-unique κs a x y e f p q = p ∙ sym q
+
+pub run-id-unique : OneResult run-id.Learnt
+run-id-unique κs a x y e f p q = p ∙ sym q
+
+pub run-row-unique : OneResult run-row.Learnt
+run-row-unique κs a x y e f p q = p ∙ sym q
+
+pub run-part-unique : LeavesOne run-part.Learnt (λ κs x y e f. x.now ≡ y.now)
+run-part-unique κs a x y e f p q = p ∙ sym q
+
+pub run-has-unique : OneResult run-has.Learnt
+run-has-unique κs a x y e f p q = p ∙ sym q
 
 -- no row that is sought comes after another
 not-later : (s : List ℕ) (start size n id r q : ℕ) → Sought s start size n id r → Sought s start size n id q → r ≤ q

@@ -6,6 +6,7 @@ ghost use Rattle.levy.specs.Asked.{standing_now, Levyable, Round, Shut, Ready, E
 use crate::listing::{counted, list_payers};
 use crate::visiting::count_visits;
 use crate::{Closed, Rest};
+use columns::{one_if, position};
 use units::Fen;
 
 // Whom the rounds go over: the weight and the cap of each position.
@@ -53,7 +54,7 @@ fn close_round(
     let mut kept = 0;
     for j in 0..m {
         let i = list[j];
-        let at = usize::from(i);
+        let at = position(i);
         let weight = payers.weights[at];
         let cap = payers.caps[at];
         let t = balance.closes(weight, cap);
@@ -61,7 +62,7 @@ fn close_round(
         closed_weights += counted(t, weight);
         marks[at] = columns::counted(t, round);
         list[kept] = i;
-        kept += usize::from(!t);
+        kept += one_if(!t);
     }
     Closed {
         caps: Fen(closed_caps),

@@ -5,13 +5,14 @@ ghost use Rattle.share.specs.Share.{shares};
 ghost use Rattle.levy.specs.Asked.{Small, Room, Covered, Apportionable};
 
 use crate::Left;
+use columns::wide;
 use units::Fen;
 
 // Penalties fill a shortfall before anybody is cut; what is not needed goes back.
 pub fn cover(penalties: Fen, shortfall: Fen) -> Left
     ensures { Covered penalties.0 shortfall.0 result }
 {
-    let used = penalties.min(shortfall);
+    let used = penalties.smaller(shortfall);
     Left {
         cut: shortfall - used,
         returned: penalties - used,
@@ -24,7 +25,7 @@ fn widen(from: &[u32], to: &mut [u64])
     ensures { (to.new ≡ from.now) × Small to.new }
 {
     for (i, place) in to.iter_mut().enumerate() {
-        *place = u64::from(from[i]);
+        *place = wide(from[i]);
     }
 }
 

@@ -4,11 +4,13 @@ ghost use Rattle.std.specs.Prelude.{◌≡◌, cond, ◌^◌, ◌≤◌, ◌<◌
 ghost use Rattle.columns.specs.Lists.{Lists};
 ghost use Rattle.levy.specs.Rounds.{is_payer};
 
+use columns::wide;
+
 // A figure that counts if the test passed, with room to add up.
 pub fn counted(t: bool, x: u32) -> u64
     ensures { (result ≡ cond t x 0) × (result < 2 ^ 32) }
 {
-    u64::from(columns::counted(t, x))
+    wide(columns::counted(t, x))
 }
 
 // The list before the first round: whoever has weight. The result is how many they are.

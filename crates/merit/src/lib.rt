@@ -82,10 +82,10 @@ impl<'a> Offers<'a> {
         requires { bid.0 ≤ past }
         ensures { result.0 ≡ below self.entry.widths.now self.entry.bids.now bid.0 }
     {
-        let k = bid.0 as u32;
+        let k = bid.column();
         let mut sum = Kwh(0);
         for (width, bid) in self.widths.iter().zip(self.bids) {
-            sum += Kwh(counted(*bid < k, *width));
+            sum += Kwh::from(counted(*bid < k, *width));
         }
         sum
     }
@@ -116,11 +116,11 @@ impl<'a> Offers<'a> {
         ensures { (called.new ≡ cheap_in self.entry.widths.now self.entry.bids.now bid.0)
             × (result.0 ≡ below self.entry.widths.now self.entry.bids.now bid.0) }
     {
-        let k = bid.0 as u32;
+        let k = bid.column();
         let mut sum = Kwh(0);
         for (i, call) in called.iter_mut().enumerate() {
-            let width = Kwh(counted(self.bids[i] < k, self.widths[i]));
-            *call = width.0;
+            let width = Kwh::from(counted(self.bids[i] < k, self.widths[i]));
+            *call = width.into();
             sum += width;
         }
         sum
@@ -131,11 +131,11 @@ impl<'a> Offers<'a> {
         requires { (bid.0 < past) × (length room.old ≡ length self.widths.now) }
         ensures { result.widths.now ≡ group_in self.entry.widths.now self.entry.bids.now bid.0 }
     {
-        let k = bid.0 as u32;
+        let k = bid.column();
         let mut sum = Kwh(0);
         let mut bands = 0;
         for (i, wide) in room.iter_mut().enumerate() {
-            let width = Kwh(counted(self.bids[i] == k, self.widths[i]));
+            let width = Kwh::from(counted(self.bids[i] == k, self.widths[i]));
             *wide = width.into();
             sum += width;
             bands += u32::from(Kwh(0) < width);
@@ -198,8 +198,8 @@ impl<'a> Offers<'a> {
         'walk: while bid < PAST {
             self.parts_in(bid, left, first, group, parts);
             for (i, part) in parts.iter().enumerate() {
-                let part = Kwh::from(*part as u32);
-                called[i] += part.0;
+                let part = Kwh::from_wide(*part);
+                called[i] = (Kwh::from(called[i]) + part).into();
                 left = left - part;
                 if left == Kwh(0) {
                     break 'walk;

@@ -1,8 +1,9 @@
 // Worked figures of the merit order, run from code and printed.
 #![tactic(auto)]
 
-ghost use Rattle.std.specs.Prelude.{◌≤◌};
+ghost use Rattle.std.specs.Prelude.{◌≡◌, ◌≤◌};
 
+use columns::wide;
 use units::{Kwh, Li};
 
 // Two numbers on one line.
@@ -30,11 +31,8 @@ fn show_tier(need: Kwh, a: Band, b: Band) -> Kwh {
     let energies = [a.energy, b.energy];
     let mut called = [0u32, 0];
     let beyond = merit::call_tier(need, 0, &widths, &bids, &mut called);
-    show(u64::from(called[0]), u64::from(called[1]));
-    show(
-        u64::from(beyond.0),
-        merit::price(&bids, &called, &energies).0,
-    );
+    show(wide(called[0]), wide(called[1]));
+    show(wide(beyond.0), merit::price(&bids, &called, &energies).0);
     beyond
 }
 
@@ -47,6 +45,7 @@ const NOTHING: Band = Band {
 
 fn offer(width: u32, bid: u32, energy: u32) -> Band
     requires { (width ≤ 250000) × (bid ≤ 65535) }
+    ensures { (result.width ≡ width) × (result.bid ≡ bid) }
 {
     Band { width, bid, energy }
 }

@@ -3,6 +3,7 @@ ghost use Rattle.std.specs.Prelude.{◌≡◌, ◌+◌, ◌≤◌, ◌<◌, ◌^
 ghost use Rattle.records.specs.Sheet.{cell_at, cell, column_of, with_cell, with_column, Lined};
 
 use crate::{Field, number_at, put_number};
+use columns::wide;
 
 // The number in a field's cell of record i.
 pub fn cell(s: &[u8], f: Field, i: usize) -> u64
@@ -36,6 +37,6 @@ pub fn put_column(s: &mut [u8], f: Field, column: &[u32])
     ensures { s.new ≡ with_column f column.now s.old }
 {
     for (i, x) in column.iter().enumerate() {
-        put_cell(s, f, i, u64::from(*x));
+        put_cell(s, f, i, wide(*x));
     }
 }

@@ -21,6 +21,13 @@ pub struct Field {
     pub width: usize,
 }
 
+// A byte as a number to reckon with.
+pub fn wide(x: u8) -> u64
+    ensures { (result ≡ x) × (result < 256) }
+{
+    u64::from(x)
+}
+
 // The number in so many bytes from a position on, lowest byte first; taken from the top byte down. Widths 4 and 2 are read at once:
 // where a width is known only at run time, the compiler would read a number of any width in a loop over its bytes.
 pub fn number_at(s: &[u8], at: usize, width: usize) -> u64
@@ -35,7 +42,7 @@ pub fn number_at(s: &[u8], at: usize, width: usize) -> u64
     }
     let mut v: u64 = 0;
     for i in (0..width).rev() {
-        v = v * 256 + u64::from(s[at + i]);
+        v = v * 256 + wide(s[at + i]);
     }
     v
 }
@@ -97,7 +104,9 @@ pub fn get_record(s: &[u8], at: usize, widths: &[u8], fields: &mut [u64])
     }
 }
 
-// The same, where the table's length is known: its fields, one for each width.
+// The same, where the table's length is known: its fields, one for each width. Inlined, so that the widths are known where it is called: of a
+// call the compiler would make a loop over them.
+#[inline(always)]
 pub fn record_of<const N: usize>(s: &[u8], at: usize, widths: &[u8; N]) -> [u64; N]
     requires { (at + record_size widths.now ≤ length s.now) × (narrow widths.now ≡ true) }
     ensures { (result ≡ record_at widths.now s.now at) × Fits widths.now result }

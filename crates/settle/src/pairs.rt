@@ -3,6 +3,7 @@ ghost use Rattle.std.specs.Prelude.{◌≡◌, length};
 ghost use Rattle.records.specs.Sheet.{column_of, with_column, Lined};
 ghost use Rattle.settle.specs.Work.{Ruled, SameLines};
 
+use columns::wide;
 use records::{Field, cell, put_cell};
 
 // Reads two fields into columns of one length, line by line.
@@ -26,7 +27,7 @@ pub fn put_pair(sheet: &mut [u8], one: Field, two: Field, first: &[u32], second:
     ensures { sheet.new ≡ with_column two second.now (with_column one first.now sheet.old) }
 {
     for (i, (x, y)) in first.iter().zip(second).enumerate() {
-        put_cell(sheet, one, i, u64::from(*x));
-        put_cell(sheet, two, i, u64::from(*y));
+        put_cell(sheet, one, i, wide(*x));
+        put_cell(sheet, two, i, wide(*y));
     }
 }

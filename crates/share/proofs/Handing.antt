@@ -69,7 +69,7 @@ module _ (a : ℕ) (ws qs₀ rs₀ list : List ℕ) (W : ℕ) (c : Quotable ws q
             → weighs ws i && ltb (place rs start (entry ws i)) (left a ws) ≡ ltb (rank a ws first i) (left a ws)
         each (inl on) =
             rw (on, rests-long)
-            (served-listed a ws list (length rs₀) first some c.listed (inside (omega arith)) rs rests-long rest_at (entry ws i) i
+            (served-listed a ws list (length rs₀) first some c.listed.many c.listed.places (inside (omega arith)) rs rests-long rest_at (entry ws i) i
             (found_at (length ws) (weighs ws) i l on))
         each (inr off) =
             rw off (sym (le-ltb (rank a ws first i) (left a ws) (rest-none a ws some first i (rest-off a ws i off))))
@@ -81,7 +81,7 @@ module _ (a : ℕ) (ws qs₀ rs₀ list : List ℕ) (W : ℕ) (c : Quotable ws q
               record {
                 short = omega (arith, rests-long, c.listed.many, count-le (length ws) (weighs ws), c.short);
                 under = rest_under;
-                enough = omega (arith, rests-long, q.leaves, left-listed a ws list (length rs₀) first some c.listed);
+                enough = omega (arith, rests-long, q.leaves, left-listed a ws list (length rs₀) first some c.listed.many c.listed.places);
               };
           short = c.short;
           room = ap length q.quotas ∙ table-length (length ws) (quota a ws);

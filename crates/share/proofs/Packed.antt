@@ -17,12 +17,12 @@ use lib.Dec.{ltb}
 use lib.ListN.{length}
 use borrow.Author.Tests.{lt-ltb, le-ltb, ltb-false, ne_eqb}
 use Rattle.columns.specs.Sum.{bit, sum_to, count_to, sum_where, whole}
-use Rattle.columns.specs.Table.{at}
+use Rattle.columns.specs.Table.{at, Below}
 use Rattle.columns.proofs.Sum.{lt-or-le, sum_same, sum-shorter, count-le, count-sub, count-before}
 use Rattle.columns.proofs.Rank.{test-or}
 use Rattle.columns.proofs.Listed.{Found, found_in, sum-listed, front-count}
 use Rattle.share.specs.Share.{quota, rest, turn, before, rank, left}
-use Rattle.share.specs.Steps.{weighs, Listed, listed_rest, start_in, goes_before, place}
+use Rattle.share.specs.Steps.{weighs, entry, Listed, listed_rest, start_in, goes_before, place}
 use Rattle.share.proofs.Order.{turn-late, turn-front}
 use Rattle.share.proofs.Rests.{left-some, rest-none}
 
@@ -96,25 +96,30 @@ module _ (n : ℕ) (p : ℕ → Bool) (first m s : ℕ) (inside : first ≤ n) (
 pub found_listed : (ws list : List ℕ) (m j : ℕ) → Listed ws list m → j < m → Found (length ws) (weighs ws) j (at list j)
 found_listed ws list m j listed l = found_in (length ws) (weighs ws) list j listed.places (omega (arith, listed.many))
 
+-- what follows is asked of the m positions of weight alone, each at its place, wherever they are listed: in the front of an array, or in a
+-- slice of them (`Listed`)
+
 -- a sum of what only positions of weight add to, taken over the list
-pub over-list : (ws list : List ℕ) (m : ℕ) → Listed ws list m
+pub over-list : (ws list : List ℕ) (m : ℕ) → m ≡ count_to (length ws) (weighs ws)
+    → Below (length ws) (λ i. weighs ws i ≡ true → at list (entry ws i) ≡ i)
     → (g : ℕ → ℕ) → ((i : ℕ) → weighs ws i ≡ false → g i ≡ 0) → sum_to m (λ j. g (at list j)) ≡ sum_to (length ws) g
 unfolding sum_where
-over-list ws list m listed g quiet =
-    rw listed.many
-    (sum-listed (length ws) (weighs ws) list g listed.places
+over-list ws list m many places g quiet =
+    rw many
+    (sum-listed (length ws) (weighs ws) list g places
     ∙ sum_same (length ws) (λ i. cond (weighs ws i) (g i) 0) g (λ i l. each i (test-or (weighs ws i))))
   where
     each : (i : ℕ) → (weighs ws i ≡ true) ⊎ (weighs ws i ≡ false) → cond (weighs ws i) (g i) 0 ≡ g i
     each i (inl on) = rw on
     each i (inr off) = rw off (sym (quiet i off))
 
-module _ (a : ℕ) (ws list : List ℕ) (m first : ℕ) (some : 0 < whole ws) (listed : Listed ws list m) where
+module _ (a : ℕ) (ws list : List ℕ) (m first : ℕ) (some : 0 < whole ws) (many : m ≡ count_to (length ws) (weighs ws))
+    (places : Below (length ws) (λ i. weighs ws i ≡ true → at list (entry ws i) ≡ i)) where
   -- as many remainders are above 0 in the list as in the column
   rests-listed : count_to m (λ j. ltb 0 (listed_rest a ws list j)) ≡ count_to (length ws) (λ i. ltb 0 (rest a ws i))
   unfolding count_to listed_rest
   rests-listed =
-      over-list ws list m listed (λ i. bit (ltb 0 (rest a ws i))) (λ i off. ap bit (le-ltb 0 (rest a ws i) (omega (arith, rest-off a ws i off))))
+      over-list ws list m many places (λ i. bit (ltb 0 (rest a ws i))) (λ i off. ap bit (le-ltb 0 (rest a ws i) (omega (arith, rest-off a ws i off))))
 
   pub left-listed : left a ws ≤ m
   left-listed = omega (arith, left-some a ws some, rests-listed, count-le m (λ j. ltb 0 (listed_rest a ws list j)))
@@ -122,8 +127,8 @@ module _ (a : ℕ) (ws list : List ℕ) (m first : ℕ) (some : 0 < whole ws) (l
   pub start_is : first ≤ length ws → start_in list m first ≡ count_to first (weighs ws)
   unfolding start_in count_to
   start_is inside =
-      rw listed.many
-      (sum-listed (length ws) (weighs ws) list (λ i. bit (ltb i first)) listed.places ∙ front-count (length ws) (weighs ws) first inside)
+      rw many
+      (sum-listed (length ws) (weighs ws) list (λ i. bit (ltb i first)) places ∙ front-count (length ws) (weighs ws) first inside)
 
   module _ (inside : first < length ws) (rs : List ℕ) (long : length rs ≡ m) (is : (j : ℕ) → j < m → at rs j ≡ listed_rest a ws list j)
       (j i : ℕ) (here : Found (length ws) (weighs ws) j i) where
@@ -131,11 +136,11 @@ module _ (a : ℕ) (ws list : List ℕ) (m first : ℕ) (some : 0 < whole ws) (l
     start = start_in list m first
 
     place_here : j < m
-    place_here = omega (arith, listed.many, here.place, count-before (weighs ws) i (length ws) here.inside here.passes)
+    place_here = omega (arith, many, here.place, count-before (weighs ws) i (length ws) here.inside here.passes)
 
     rest-here : at rs j ≡ rest a ws i
     unfolding listed_rest
-    rest-here = is j place_here ∙ ap (rest a ws) (ap (at list) (sym here.place) ∙ listed.places i here.inside here.passes)
+    rest-here = is j place_here ∙ ap (rest a ws) (ap (at list) (sym here.place) ∙ places i here.inside here.passes)
 
     -- what stands at place k goes before j as its position goes before i
     goes : (k : ℕ) → k < m → goes_before (at rs k) (turn m start k) (at rs j) (turn m start j) ≡ before a ws first (at list k) i
@@ -144,8 +149,8 @@ module _ (a : ℕ) (ws list : List ℕ) (m first : ℕ) (some : 0 < whole ws) (l
         rw (
           is k q,
           rest-here,
-          ← turn-order (length ws) (weighs ws) first m start (omega arith) listed.many (start_is (omega arith)) k (at list k) j i
-              (found_listed ws list m k listed q) here,
+          ← turn-order (length ws) (weighs ws) first m start (omega arith) many (start_is (omega arith)) k (at list k) j i
+              (found_in (length ws) (weighs ws) list k places (omega (arith, many))) here,
         )
 
     place-rank : 0 < rest a ws i → place rs start j ≡ rank a ws first i
@@ -154,7 +159,7 @@ module _ (a : ℕ) (ws list : List ℕ) (m first : ℕ) (some : 0 < whole ws) (l
         rw long
         (sum_same m (λ k. bit (goes_before (at rs k) (turn m start k) (at rs j) (turn m start j))) (λ k. bit (before a ws first (at list k) i))
         (λ k q. ap bit (goes k q))
-        ∙ over-list ws list m listed (λ y. bit (before a ws first y i)) (λ y off. ap bit (behind y (rest-off a ws y off))))
+        ∙ over-list ws list m many places (λ y. bit (before a ws first y i)) (λ y off. ap bit (behind y (rest-off a ws y off))))
       where
         behind : (y : ℕ) → rest a ws y ≡ 0 → before a ws first y i ≡ false
         behind y e = rw (e, le-ltb (rest a ws i) 0 (omega arith), ne_eqb 0 (rest a ws i) (omega arith))

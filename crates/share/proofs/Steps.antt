@@ -36,7 +36,7 @@ module _ (a : ℕ) (ws qs₀ rs₀ list : List ℕ) (W : ℕ) (c : Quotable ws q
   -- over the whole list the quotas are those of the column
   quotas-all : sum_to (length rs₀) (listed_quota a ws list) ≡ sum_to (length ws) (quota a ws)
   unfolding listed_quota
-  quotas-all = over-list ws list (length rs₀) c.listed (quota a ws) (λ i off. quota-off a ws i off)
+  quotas-all = over-list ws list (length rs₀) c.listed.many c.listed.places (quota a ws) (λ i off. quota-off a ws i off)
 
   pub filled_none : Filled a ws list (length rs₀) qs₀ qs₀ rs₀ a 0
   filled_none =

@@ -7,6 +7,7 @@ ghost use Rattle.share.specs.Share.{turn, shares};
 ghost use Rattle.share.specs.Split.{Splittable};
 ghost use Rattle.share.specs.Steps.{Divided, Carries, Digits, Divisible, Listed, Quotable, Quoted, Serving, Served, Turning, Handable, Liftable, reach, goes_before, start_in, marked, raised, lifted};
 
+use columns::position;
 use std::cmp::Ordering;
 
 // A product divided by the sum of the weights: the quota, and the remainder.
@@ -105,7 +106,7 @@ fn quotas_of(
 {
     let mut left = amount;
     for (j, place) in list.iter().enumerate() {
-        let i = usize::from(*place);
+        let i = position(*place);
         let d = divide(amount, weights[i], sum);
         quotas[i] = d.quota;
         rests[j] = d.rest;
@@ -165,7 +166,7 @@ fn start_of(list: &[u8], first: usize) -> usize
     ensures { (result ≡ start_in list.now (length list.now) first) × (result ≤ length list.now) }
 {
     list.iter()
-        .filter(|place| usize::from(**place) < first)
+        .filter(|place| position(**place) < first)
         .count()
 }
 
@@ -208,7 +209,7 @@ fn serve_above(weights: &[u64], rests: &[u64], low: u64, out: &mut [u64], list: 
         (lifted weights.now out.old rests.now low) }
 {
     for (rest, place) in rests.iter().zip(list) {
-        let i = usize::from(*place);
+        let i = position(*place);
         out[i] += u64::from(low < *rest);
     }
 }

@@ -1,10 +1,7 @@
 -- Two results that one contract allows are equal, for each public function: theorems of the contract itself (`Learnt`).
-use Rattle.std.proofs.Common.{ℕ, min, max}
+use Prim.Native.Nat.{ℕ}
 use mathlib.Core.Path.{◌≡◌, ap, sym, ◌∙◌}
 use Rattle.columns.proofs.Unique.{LeavesOne, OneResult}
-use Rattle.units.specs.declared.Kwh.{Kwh}
-use Rattle.units.specs.declared.Li.{Li}
-use Rattle.units.specs.declared.Fen.{Fen}
 use Rattle.units.proofs.load.Reads as load
 use Rattle.units.proofs.most.Reads as most
 use Rattle.units.proofs.KwhFromU32.from.Reads as kwh-from
@@ -18,12 +15,17 @@ use Rattle.units.proofs.LiAdd.add.Reads as li-add
 use Rattle.units.proofs.FenAdd.add.Reads as fen-add
 use Rattle.units.proofs.FenAddAssign.add_assign.Reads as fen-add-assign
 use Rattle.units.proofs.FenSub.sub.Reads as fen-sub
+use Rattle.units.proofs.Kwh.from_wide.Reads as from-wide
+use Rattle.units.proofs.Kwh.smaller.Reads as smaller
+use Rattle.units.proofs.Kwh.larger.Reads as larger
 use Rattle.units.proofs.Kwh.above.Reads as above
 use Rattle.units.proofs.Kwh.when.Reads as when
 use Rattle.units.proofs.Kwh.or.Reads as or
 use Rattle.units.proofs.Kwh.priced.Reads as priced
 use Rattle.units.proofs.Kwh.thermal_cap.Reads as thermal-cap
+use Rattle.units.proofs.Li.column.Reads as li-column
 use Rattle.units.proofs.Li.to_fen.Reads as to-fen
+use Rattle.units.proofs.Fen.smaller.Reads as fen-smaller
 
 pub load-unique : OneResult load.Learnt
 load-unique κs a x y e f p q = ap (λ (m : ℕ). record { 0 = m }) (p ∙ sym q)
@@ -82,18 +84,17 @@ kwh-add-assign-unique κs a x y e f p q = ap (λ (m : ℕ). record { 0 = m }) (p
 pub fen-add-assign-unique : LeavesOne fen-add-assign.Learnt (λ κs x y e f. e.0.now ≡ f.0.now)
 fen-add-assign-unique κs a x y e f p q = ap (λ (m : ℕ). record { 0 = m }) (p ∙ sym q)
 
--- What std's `min`, `max` and casts say of a result, an equation with its number, leaves one result too.
-pub smaller-unique : (a b x y : Kwh) → x.0 ≡ min a.0 b.0 → y.0 ≡ min a.0 b.0 → x ≡ y
-smaller-unique a b x y p q = ap (λ (m : ℕ). record { 0 = m }) (p ∙ sym q)
+pub smaller-unique : OneResult smaller.Learnt
+smaller-unique κs a x y e f p q = ap (λ (m : ℕ). record { 0 = m }) (p ∙ sym q)
 
-pub larger-unique : (a b x y : Kwh) → x.0 ≡ max a.0 b.0 → y.0 ≡ max a.0 b.0 → x ≡ y
-larger-unique a b x y p q = ap (λ (m : ℕ). record { 0 = m }) (p ∙ sym q)
+pub larger-unique : OneResult larger.Learnt
+larger-unique κs a x y e f p q = ap (λ (m : ℕ). record { 0 = m }) (p ∙ sym q)
 
-pub fen-smaller-unique : (a b x y : Fen) → x.0 ≡ min a.0 b.0 → y.0 ≡ min a.0 b.0 → x ≡ y
-fen-smaller-unique a b x y p q = ap (λ (m : ℕ). record { 0 = m }) (p ∙ sym q)
+pub fen-smaller-unique : OneResult fen-smaller.Learnt
+fen-smaller-unique κs a x y e f p q = ap (λ (m : ℕ). record { 0 = m }) (p ∙ sym q)
 
-pub li-column-unique : (a : Li) (x y : ℕ) → x ≡ a.0 → y ≡ a.0 → x ≡ y
-li-column-unique a x y p q = p ∙ sym q
+pub li-column-unique : OneResult li-column.Learnt
+li-column-unique κs a x y e f p q = p ∙ sym q
 
-pub from-wide-unique : (a : ℕ) (x y : Kwh) → x.0 ≡ a → y.0 ≡ a → x ≡ y
-from-wide-unique a x y p q = ap (λ (m : ℕ). record { 0 = m }) (p ∙ sym q)
+pub from-wide-unique : OneResult from-wide.Learnt
+from-wide-unique κs a x y e f p q = ap (λ (m : ℕ). record { 0 = m }) (p ∙ sym q)

@@ -2,7 +2,7 @@
 // 1,000 li = 10,000 hao. Bids and tariffs are per kWh. A figure changes its measure by one of these functions only.
 #![tactic(auto)]
 
-ghost use Rattle.std.specs.Prelude.{◌≡◌, cond, ◌+◌, ◌-◌, ◌*◌, ◌/◌, ◌^◌, ◌<◌, ◌≤◌};
+ghost use Rattle.std.specs.Prelude.{◌≡◌, cond, ◌+◌, ◌-◌, ◌*◌, ◌/◌, ◌^◌, ◌<◌, ◌≤◌, min, max};
 ghost use Rattle.units.specs.Measure.{to_fen, priced, thermal_cap};
 ghost use Rattle.units.specs.Load.{load, most};
 
@@ -75,7 +75,7 @@ impl AddAssign for Kwh {
     ghost add_assign_gives = { λ a b sum. sum.0 ≡ a.0 + b.0 };
 
     fn add_assign(&mut self, energy: Kwh) {
-        self.0 += energy.0;
+        *self = *self + energy;
     }
 }
 
@@ -124,7 +124,7 @@ impl AddAssign for Fen {
     ghost add_assign_gives = { λ a b sum. sum.0 ≡ a.0 + b.0 };
 
     fn add_assign(&mut self, money: Fen) {
-        self.0 += money.0;
+        *self = *self + money;
     }
 }
 
@@ -142,6 +142,28 @@ impl Sub for Fen {
 }
 
 impl Kwh {
+    // Out of the sharing rule's columns.
+    pub fn from_wide(x: u64) -> Kwh
+        requires { x < 2 ^ 32 }
+        ensures { result.0 ≡ x }
+    {
+        Kwh(x as u32)
+    }
+
+    // The smaller of two energies.
+    pub fn smaller(self, other: Kwh) -> Kwh
+        ensures { result.0 ≡ min self.0 other.0 }
+    {
+        self.min(other)
+    }
+
+    // The larger of two energies.
+    pub fn larger(self, other: Kwh) -> Kwh
+        ensures { result.0 ≡ max self.0 other.0 }
+    {
+        self.max(other)
+    }
+
     // What this energy has above another, 0 if it has nothing above it. The quotient is 1 or 0 for that: of a comparison, as in
     // `saturating_sub`, the compiler makes a branch.
     pub fn above(self, other: Kwh) -> Kwh
@@ -182,12 +204,29 @@ impl Kwh {
 }
 
 impl Li {
+    // Into a column of bids or prices.
+    pub fn column(self) -> u32
+        requires { self.0 < 2 ^ 32 }
+        ensures { result ≡ self.0 }
+    {
+        self.0 as u32
+    }
+
     // Half a fen goes upward.
     pub fn to_fen(self) -> Fen
         requires { self.0 + 5 < 2 ^ 64 }
         ensures { result.0 ≡ to_fen self.0 }
     {
         Fen((self.0 + 5) / 10)
+    }
+}
+
+impl Fen {
+    // The smaller of two sums of money.
+    pub fn smaller(self, other: Fen) -> Fen
+        ensures { result.0 ≡ min self.0 other.0 }
+    {
+        Fen(self.0.min(other.0))
     }
 }
 

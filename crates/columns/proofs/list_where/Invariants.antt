@@ -9,4 +9,4 @@ use Rattle.columns.proofs.list_where.Given as goal
 
 abbrev pub invariant-loop-i : goal.invariant-loop-i
 invariant-loop-i g l =
-    (l.m ≤ l.i) × ((test : ℕ → Bool) → Tells l.column (FnReturnsAt g.F.Fn l.passes) test → Listing (length l.column) test l.list l.m l.i)
+    (l.m ≤ l.i) × ((test : ℕ → Bool) → Tells l.column (FnReturnsAt g.F.Fn l.passes) test → Listing (length l.column) test l.initial.list l.list l.m l.i)

@@ -21,7 +21,7 @@ pub overflow_add-v : goal.overflow_add-v
 overflow_add-v c = let l : c.loop-i.v < 2 ^ 56 = search read-room in search rules
 
 pub loop-i-preserved : goal.loop-i-preserved
-loop-i-preserved c = read_next _ _ _ _ _ _ c.loop-i.invariant c.loop-i-test.true c.from-in-loop-i.ensures (search rules)
+loop-i-preserved c = read_next _ _ _ _ _ _ c.loop-i.invariant c.loop-i-test.true c.wide.ensures.0 (search rules)
 
 pub returns : goal.returns
 returns c = read_all _ _ _ _ _ c.loop-i.invariant c.loop-i-test.false

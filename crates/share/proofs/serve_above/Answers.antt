@@ -13,26 +13,26 @@ pub bounds-out-i : goal.bounds-out-i
 bounds-out-i c =
     let t = zip_turn c.args.rests.now c.args.list.now c.loop-rest.yielded c.into_iter-rest-iterator.result c.loop-rest.rest-iterator c.next.new.self _ (cc) (cc) c.loop-rest.yielded_by
     (c.in-Some.rest, c.in-Some.place) c.in-Some.is c.next.ensures.steps in
-    lifted-in _ _ _ _ _ c.requires _ _ c.loop-rest.invariant t.0 _ (c.from-i.ensures ∙ t.3 0)
+    lifted-in _ _ _ _ _ c.requires _ _ c.loop-rest.invariant t.0 _ (c.position-i.ensures.0 ∙ t.3 0)
 
 pub overflow_add-out : goal.overflow_add-out
 overflow_add-out c =
     let t = zip_turn c.args.rests.now c.args.list.now c.loop-rest.yielded c.into_iter-rest-iterator.result c.loop-rest.rest-iterator c.next.new.self _ (cc) (cc) c.loop-rest.yielded_by
     (c.in-Some.rest, c.in-Some.place) c.in-Some.is c.next.ensures.steps in
-    record { fits = lifted-fits _ _ _ _ _ c.requires _ _ c.loop-rest.invariant t.0 _ (c.from-i.ensures ∙ t.3 0) _ _ (t.2 0) c.from.ensures }
+    record { fits = lifted-fits _ _ _ _ _ c.requires _ _ c.loop-rest.invariant t.0 _ (c.position-i.ensures.0 ∙ t.3 0) _ _ (t.2 0) c.from.ensures }
 
 pub bounds-out-i-in-loop-rest : goal.bounds-out-i-in-loop-rest
 bounds-out-i-in-loop-rest c =
     let t = zip_turn c.args.rests.now c.args.list.now c.loop-rest.yielded c.into_iter-rest-iterator.result c.loop-rest.rest-iterator c.next.new.self _ (cc) (cc) c.loop-rest.yielded_by
     (c.in-Some.rest, c.in-Some.place) c.in-Some.is c.next.ensures.steps in
-    lifted-in _ _ _ _ _ c.requires _ _ c.loop-rest.invariant t.0 _ (c.from-i.ensures ∙ t.3 0)
+    lifted-in _ _ _ _ _ c.requires _ _ c.loop-rest.invariant t.0 _ (c.position-i.ensures.0 ∙ t.3 0)
 
 pub loop-rest-preserved : goal.loop-rest-preserved
 loop-rest-preserved c =
     let t = zip_turn c.args.rests.now c.args.list.now c.loop-rest.yielded c.into_iter-rest-iterator.result c.loop-rest.rest-iterator c.next.new.self _ (cc) (cc)
     c.loop-rest.yielded_by (c.in-Some.rest, c.in-Some.place) c.in-Some.is c.next.ensures.steps in
     rw (length_push c.loop-rest.yielded (c.in-Some.rest, c.in-Some.place))
-    (lifted-next _ _ _ _ _ c.requires _ _ c.loop-rest.invariant t.0 _ (c.from-i.ensures ∙ t.3 0) _ _ (t.2 0) c.from.ensures)
+    (lifted-next _ _ _ _ _ c.requires _ _ c.loop-rest.invariant t.0 _ (c.position-i.ensures.0 ∙ t.3 0) _ _ (t.2 0) c.from.ensures)
 
 pub returns : goal.returns
 returns c =

@@ -1,7 +1,6 @@
 -- `levy::close_round` meets its contract: the open payers passed are closed if the round closes them, the others listed, and both
 -- sums are theirs.
 use Rattle.std.proofs.Common.{ℕ, ◌+◌, cond, ap, ◌∙◌}
-use Rattle.columns.proofs.Listed.{one-is}
 use Rattle.levy.proofs.Turn.{pass-none, pass-next, pass-end, products, caps-fit, weights-fit, place_in, kept_in, kept-fits}
 use Rattle.levy.proofs.closing.close_round.Goals as goal
 
@@ -12,7 +11,7 @@ pub bounds-list-j : goal.bounds-list-j
 bounds-list-j c = search place_in
 
 pub closes-t-requires : goal.closes-t-requires
-closes-t-requires c = products _ _ _ _ _ _ _ _ c.requires _ _ _ _ _ _ c.loop-j.invariant c.loop-j-test.true _ c.from-at.ensures
+closes-t-requires c = products _ _ _ _ _ _ _ _ c.requires _ _ _ _ _ _ c.loop-j.invariant c.loop-j-test.true _ c.position-at.ensures.0
 
 pub overflow_add-closed_caps : goal.overflow_add-closed_caps
 overflow_add-closed_caps c = record { fits = search caps-fit }
@@ -25,12 +24,12 @@ bounds-list-kept c = search kept_in
 
 pub overflow_add-kept : goal.overflow_add-kept
 overflow_add-kept c =
-    record { fits = kept-fits _ _ _ _ _ _ _ _ c.requires _ _ _ _ _ _ c.loop-j.invariant c.loop-j-test.true _ c.from-at.ensures _ (rw c.from-kept.ensures (one-is _).1) }
+    record { fits = kept-fits _ _ _ _ _ _ _ _ c.requires _ _ _ _ _ _ c.loop-j.invariant c.loop-j-test.true _ c.position-at.ensures.0 _ c.one_if-kept.ensures.1 }
 
 pub loop-j-preserved : goal.loop-j-preserved
-loop-j-preserved c = pass-next _ _ _ _ _ _ _ _ c.requires _ _ _ _ _ _ c.loop-j.invariant c.loop-j-test.true _ c.from-at.ensures _ c.closes-t.ensures
+loop-j-preserved c = pass-next _ _ _ _ _ _ _ _ c.requires _ _ _ _ _ _ c.loop-j.invariant c.loop-j-test.true _ c.position-at.ensures.0 _ c.closes-t.ensures
     _ c.counted-closed_caps.ensures.0 _ c.counted-closed_weights.ensures.0
-    _ (c.counted.ensures ∙ ap (λ (r : ℕ). cond c.closes-t.result (r + 1) 0) c.from-round.ensures) _ (c.from-kept.ensures ∙ (one-is _).0)
+    _ (c.counted.ensures ∙ ap (λ (r : ℕ). cond c.closes-t.result (r + 1) 0) c.from-round.ensures) _ c.one_if-kept.ensures.0
 
 pub returns : goal.returns
 returns c = search pass-end

@@ -32,7 +32,7 @@ loop-i-preserved c =
     let asked = c.requires in
     rw length-append
     (written_next _ _ _ _ _ _ _ c.loop-i.invariant asked.lined.0 here.0 _ _ one asked.lined.1 asked.second_len.1
-    (c.from.ensures ∙ here.2) _ (c.from-in-loop-i.ensures ∙ here.3) _ two)
+    (c.wide.ensures.0 ∙ here.2) _ (c.wide-in-loop-i.ensures.0 ∙ here.3) _ two)
 
 pub returns : goal.returns
 returns c =
